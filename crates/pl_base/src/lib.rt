@@ -2,21 +2,33 @@
 #![tactic(auto)]
 
 mod boxed;
+mod digest;
 mod exact_copy;
+mod expanded;
 mod list;
 mod memory;
+mod moment;
 mod node;
 mod origin;
+mod outcome;
 mod place;
+mod resource;
+mod row;
 mod text;
 mod value;
 
 pub use boxed::Boxed;
+pub use digest::Digest;
 pub use exact_copy::ExactCopy;
+pub use expanded::{Argument, Expanded, Refusal, Repository};
 pub use list::{Bytes, List};
 pub use memory::Memory;
+pub use moment::{LAST_MOMENT, Moment};
 pub use node::{Node, NodeBody, NodePair};
 pub use origin::{Crossing, Origin};
+pub use outcome::{Behaviour, Outcome};
 pub use place::{FileKey, Place};
+pub use resource::{Kind, ResourceKey};
+pub use row::{Change, Row};
 pub use text::Text;
 pub use value::{MarkedNode, MarkedPair, Value};
