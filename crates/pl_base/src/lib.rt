@@ -2,33 +2,47 @@
 #![tactic(auto)]
 
 mod boxed;
+mod clock;
 mod digest;
 mod exact_copy;
 mod expanded;
+mod failed;
+mod in_memory;
+mod link;
 mod list;
 mod memory;
 mod moment;
 mod node;
 mod origin;
 mod outcome;
+mod paired;
 mod place;
 mod resource;
 mod row;
+mod sink;
+mod source;
 mod text;
 mod value;
 
 pub use boxed::Boxed;
+pub use clock::Clock;
 pub use digest::Digest;
 pub use exact_copy::ExactCopy;
 pub use expanded::{Argument, Expanded, Refusal, Repository};
+pub use failed::Failed;
+pub use in_memory::{MemClock, MemSink, MemSource};
+pub use link::Link;
 pub use list::{Bytes, List};
 pub use memory::Memory;
 pub use moment::{LAST_MOMENT, Moment};
 pub use node::{Node, NodeBody, NodePair};
 pub use origin::{Crossing, Origin};
 pub use outcome::{Behaviour, Outcome};
+pub use paired::Paired;
 pub use place::{FileKey, Place};
 pub use resource::{Kind, ResourceKey};
 pub use row::{Change, Row};
+pub use sink::Sink;
+pub use source::Source;
 pub use text::Text;
 pub use value::{MarkedNode, MarkedPair, Value};

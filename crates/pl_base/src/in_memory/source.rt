@@ -1,0 +1,80 @@
+ghost use Rattle.std.specs.Prelude.{◌≡◌, ◌<◌, ◌≤◌, [], Some, drop, take, length};
+
+use crate::failed::Failed;
+use crate::list::{Bytes, List};
+use crate::source::Source;
+
+/// Bytes in memory that are read in pieces of a given size at most.
+#[derive(Debug, Drop)]
+pub struct MemSource {
+    bytes: Bytes,
+    at: usize,
+    piece: usize,
+    failing: List<u64>,
+    calls: u64,
+    ended: bool,
+    faults: u64,
+    ghost within: { at ≤ length bytes },
+    ghost some: { 0 < piece },
+}
+
+impl MemSource {
+    /// These bytes, of which a read gives at most `piece` (0 counts as 1). The calls of `read` whose
+    /// numbers are listed, counted from 1, fail.
+    pub fn new(bytes: Bytes, piece: usize, failing: List<u64>) -> MemSource
+        ensures bytes { result.bytes ≡ bytes }
+        ensures start { result.at ≡ 0 }
+        ensures quiet { result.faults ≡ 0 }
+    {
+        MemSource {
+            bytes,
+            at: 0,
+            piece: piece.max(1),
+            failing,
+            calls: 0,
+            ended: false,
+            faults: 0,
+        }
+    }
+}
+
+impl Source for MemSource {
+    ghost left = { λ source. Some (drop source.at source.bytes) };
+
+    ghost ended = { λ source. source.ended };
+
+    ghost faults = { λ source. source.faults };
+
+    fn read(&mut self, into: &mut [u8]) -> Result<usize, Failed> {
+        self.calls = self.calls.saturating_add(1);
+        if self.failing.as_slice().contains(&self.calls) {
+            self.faults = self.faults.saturating_add(1);
+            return Err(Failed);
+        }
+        let rest = self.bytes.as_slice().split_at(self.at).1;
+        let count = copy_front(rest, into, self.piece);
+        if count == 0 && !into.is_empty() {
+            self.ended = true;
+        }
+        self.at += count;
+        Ok(count)
+    }
+
+    fn faults(&self) -> u64 {
+        self.faults
+    }
+}
+
+// Copies the front of `from` into the front of `into`, `most` bytes at most, and says how many.
+fn copy_front(from: &[u8], into: &mut [u8], most: usize) -> usize
+    requires { 0 < most }
+    ensures within { result ≤ length into.old }
+    ensures there { result ≤ length from.now }
+    ensures copied { take result into.new ≡ take result from.now }
+    ensures end { 0 < length into.old → result ≡ 0 → from.now ≡ [] }
+{
+    let count = from.len().min(into.len()).min(most);
+    let (front, _) = into.split_at_mut(count);
+    front.copy_from_slice(from.split_at(count).0);
+    count
+}
