@@ -1,0 +1,13 @@
+pub mod Ascending
+pub mod Found
+pub mod Keys
+pub mod Members
+pub mod Missing
+pub mod Neighbors
+pub mod Places
+pub mod Reach
+pub mod Releasing
+pub mod Remaining
+pub mod LeastOrder
+pub mod Turns
+pub mod Walks

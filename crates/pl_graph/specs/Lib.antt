@@ -1,0 +1,4 @@
+pub mod Adjacency
+pub mod Graph
+pub mod Placing
+pub mod Walking

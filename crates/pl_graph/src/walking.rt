@@ -1,0 +1,120 @@
+ghost use Rattle.std.specs.Prelude.{◌≡◌, ◌<◌, ◌≤◌, ℕ, Contains, IfOk, length, slice_index};
+ghost use Rattle.pl_graph.specs.Graph.{AreEdges, IsCanonicalCycle, IsLeast, IsTurned, IsWalk, Remains};
+ghost use Rattle.pl_graph.specs.Walking.{AreLeast, ShowsRemaining};
+
+use pl_base::{List, Memory};
+use std::alloc::Global;
+
+/// A walk that comes back to its node at the place `start`.
+#[derive(Drop)]
+struct Walk {
+    nodes: Vec<u32>,
+    start: usize,
+}
+
+/// The cycle to which the walk from the first remaining node leads, turned to begin with its least node.
+pub fn canonical_cycle(
+    alloc: Global,
+    n: u32,
+    edges: &[(u32, u32)],
+    missing: &[usize],
+    first: u32,
+) -> Result<List<u32>, Memory>
+    requires edges { AreEdges n edges.now }
+    requires len { length missing.now ≡ n }
+    requires shows { ShowsRemaining n edges.now missing.now }
+    requires first { IsLeast (Remains n edges.now) first }
+    ensures { IfOk result (λ cycle. IsCanonicalCycle n edges.now cycle) }
+{
+    let walk = walk_from(alloc, n, edges, missing, first)?;
+    let (_, around) = walk.nodes.as_slice().split_at(walk.start);
+    let cycle = turned(alloc, around)?;
+    Ok(List::from_vec(cycle))
+}
+
+/// The walk from the first remaining node along least remaining dependencies, until a node repeats.
+fn walk_from(
+    alloc: Global,
+    n: u32,
+    edges: &[(u32, u32)],
+    missing: &[usize],
+    first: u32,
+) -> Result<Walk, Memory>
+    requires edges { AreEdges n edges.now }
+    requires len { length missing.now ≡ n }
+    requires shows { ShowsRemaining n edges.now missing.now }
+    requires first { IsLeast (Remains n edges.now) first }
+    ensures { IfOk result (λ walk. IsWalk n edges.now walk.nodes.items walk.start) }
+{
+    let next = least_dependencies(alloc, n, edges, missing)?;
+    let mut seen = vec![in alloc; false; n as usize]?;
+    let mut nodes = Vec::new(alloc);
+    let mut node = first;
+    while !seen[node as usize] {
+        seen[node as usize] = true;
+        nodes.push(node)?;
+        node = next[node as usize];
+    }
+    let start = place_of(&nodes, node);
+    Ok(Walk { nodes, start })
+}
+
+/// For each node its least dependency that misses one itself, or `n` where there is none.
+fn least_dependencies(
+    alloc: Global,
+    n: u32,
+    edges: &[(u32, u32)],
+    missing: &[usize],
+) -> Result<Vec<u32>, Memory>
+    requires edges { AreEdges n edges.now }
+    requires len { length missing.now ≡ n }
+    ensures { IfOk result (λ least. AreLeast n edges.now missing.now least.items) }
+{
+    let mut least = vec![in alloc; n; n as usize]?;
+    for edge in edges {
+        if missing[edge.1 as usize] > 0 {
+            let smaller = least[edge.0 as usize].min(edge.1);
+            least[edge.0 as usize] = smaller;
+        }
+    }
+    Ok(least)
+}
+
+/// The first place of a node that is among the nodes.
+fn place_of(nodes: &[u32], node: u32) -> usize
+    requires { Contains nodes.now node }
+    ensures within { result < length nodes.now }
+    ensures is { slice_index nodes.now result ≡ node }
+{
+    let mut place = 0;
+    while nodes[place] != node {
+        place += 1;
+    }
+    place
+}
+
+/// The nodes turned round, to begin with the least of them.
+fn turned(alloc: Global, nodes: &[u32]) -> Result<Vec<u32>, Memory>
+    requires { 0 < length nodes.now }
+    ensures { IfOk result (λ turned. IsTurned nodes.now turned.items) }
+{
+    let (front, back) = nodes.split_at(place_of_least(nodes));
+    let mut cycle = Vec::from_slice(alloc, back)?;
+    cycle.extend_from_slice(front)?;
+    Ok(cycle)
+}
+
+/// The place of the least node.
+fn place_of_least(nodes: &[u32]) -> usize
+    requires { 0 < length nodes.now }
+    ensures within { result < length nodes.now }
+    ensures least { (k : ℕ) → k < length nodes.now → slice_index nodes.now result ≤ slice_index nodes.now k }
+{
+    let mut least = 0;
+    for place in 1..nodes.len() {
+        if nodes[place] < nodes[least] {
+            least = place;
+        }
+    }
+    least
+}
