@@ -1,0 +1,4 @@
+pub mod Plan
+pub mod Prepared
+pub mod Replies
+pub mod State
