@@ -1,0 +1,4 @@
+pub mod Data
+pub mod Message
+pub mod Parts
+pub mod Written

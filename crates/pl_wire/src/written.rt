@@ -1,0 +1,117 @@
+ghost use Rattle.std.specs.Prelude.{◌≡◌, ◌++◌, codes, string_bytes, IfOk};
+ghost use Rattle.pl_core.specs.Replies.{refusal};
+ghost use Rattle.pl_wire.specs.Message.{crlf};
+ghost use Rattle.pl_wire.specs.Written.{kind_line, length_line, phrase, status_line, with_headers, written};
+
+use crate::json::json_text;
+use crate::message::HttpFault;
+use pl_base::{Bytes, List, Memory};
+use pl_core::{Body, Reply};
+use std::alloc::Global;
+
+/// The reply where memory is wanting: 507, `memory`.
+pub const MEMORY_REPLY: &[u8] =
+    b"HTTP/1.1 507 Insufficient Storage\r\nContent-Type: application/json\r\nContent-Length: 17\r\n\r\n{\"rule\":\"memory\"}";
+
+/// The reply where memory is wanting, as it is sent: 507, `memory`. It takes no memory.
+pub fn memory_reply() -> &'static [u8]
+    ensures { result.now ≡ written (refusal 507 (codes "memory")) }
+{
+    MEMORY_REPLY
+}
+
+/// The reason phrase of a status (RFC 9110, section 15).
+fn phrase(status: u16) -> &'static str
+    ensures { result.now ≡ phrase status }
+{
+    match status {
+        200 => "OK",
+        201 => "Created",
+        204 => "No Content",
+        400 => "Bad Request",
+        401 => "Unauthorized",
+        403 => "Forbidden",
+        404 => "Not Found",
+        405 => "Method Not Allowed",
+        409 => "Conflict",
+        411 => "Length Required",
+        413 => "Payload Too Large",
+        422 => "Unprocessable Entity",
+        431 => "Request Header Fields Too Large",
+        503 => "Service Unavailable",
+        507 => "Insufficient Storage",
+        _ => "",
+    }
+}
+
+/// The status line, with its line end.
+fn status_text(alloc: Global, status: u16) -> Result<String, Memory>
+    ensures { IfOk result (λ text. string_bytes text ≡ status_line status) }
+{
+    let reason = phrase(status);
+    Ok(format!(in alloc; "HTTP/1.1 {status} {reason}\r\n")?)
+}
+
+/// The line of the content's type.
+fn kind_text(alloc: Global, kind: &str) -> Result<String, Memory>
+    ensures { IfOk result (λ text. string_bytes text ≡ kind_line kind.now) }
+{
+    Ok(format!(in alloc; "Content-Type: {kind}\r\n")?)
+}
+
+/// The line of the content's length.
+fn length_text(alloc: Global, len: usize) -> Result<String, Memory>
+    ensures { IfOk result (λ text. string_bytes text ≡ length_line len) }
+{
+    Ok(format!(in alloc; "Content-Length: {len}\r\n")?)
+}
+
+/// A status line, the content's type and length, an empty line and the content.
+fn with_content(alloc: Global, status: u16, kind: &str, content: &[u8]) -> Result<Bytes, Memory>
+    ensures { IfOk result (λ bytes. bytes ≡ status_line status ++ with_headers kind.now content.now) }
+{
+    let mut head = status_text(alloc, status)?;
+    let kind = kind_text(alloc, kind)?;
+    head.push_str(kind.as_str())?;
+    let len = length_text(alloc, content.len())?;
+    head.push_str(len.as_str())?;
+    head.push_str("\r\n")?;
+    let mut bytes = head.into_bytes();
+    bytes.extend_from_slice(content)?;
+    Ok(List::from_vec(bytes))
+}
+
+/// A status line and an empty line.
+fn without_content(alloc: Global, status: u16) -> Result<Bytes, Memory>
+    ensures { IfOk result (λ bytes. bytes ≡ status_line status ++ crlf) }
+{
+    let mut head = status_text(alloc, status)?;
+    head.push_str("\r\n")?;
+    Ok(List::from_vec(head.into_bytes()))
+}
+
+/// A reply as it is sent (RFC 9112, section 4): the status line, the content's type and length, an
+/// empty line and the content. JSON is compact, with the names of an object in byte order. An empty
+/// body, as at 204, has the status line and an empty line alone.
+#[tactic(auto, unfolding(crate::specs::Written::written))]
+pub fn reply_bytes(alloc: Global, reply: &Reply) -> Result<Bytes, Memory>
+    ensures { IfOk result (λ bytes. bytes ≡ written reply.now) }
+{
+    match &reply.body {
+        Body::Empty => without_content(alloc, reply.status),
+        Body::Json(json) => {
+            let text = json_text(alloc, json)?;
+            with_content(alloc, reply.status, "application/json", &text)
+        }
+        Body::Raw(bytes) => with_content(alloc, reply.status, "text/plain", bytes.as_slice()),
+    }
+}
+
+/// The reply to bytes that are no message, after which the link ends: 400 `head.bad`.
+pub fn fault_reply(alloc: Global, fault: HttpFault) -> Result<Reply, Memory>
+    ensures { IfOk result (λ reply. reply ≡ refusal 400 (codes "head.bad")) }
+{
+    match fault {
+        HttpFault::HeadBad => Reply::refusal(alloc, 400, "head.bad"),
+    }
+}
