@@ -1,0 +1,39 @@
+//! The program `pipectl`: a template compiler and run service for Azure Pipelines' YAML.
+#![tactic(auto)]
+
+mod alone;
+mod buffer;
+mod outfit;
+mod real;
+mod replay;
+mod run;
+mod served;
+mod status;
+mod words;
+
+use crate::real::Process;
+use crate::run::run;
+use crate::status::Status;
+use std::process::ExitCode;
+use std::{env, io};
+
+fn main(rt: HostRuntime) -> ExitCode {
+    let mut words = Vec::new(rt.alloc());
+    match env::args(&rt) {
+        Ok(args) => {
+            for word in args.skip(1) {
+                if words.push(word).is_err() {
+                    return ExitCode::from(Status::Memory.code());
+                }
+            }
+        }
+        // A word that is no text is no word of a command.
+        Err(fault) if fault.kind() != io::ErrorKind::OutOfMemory => words.clear(),
+        Err(_) => return ExitCode::from(Status::Memory.code()),
+    }
+    let mut process = Process::new(rt, rt.stdin(), rt.stdout());
+    ExitCode::from(run(rt.alloc(), &words, &mut process).code())
+}
+
+#[cfg(test)]
+mod tests;

@@ -1,0 +1,72 @@
+//! The top call.
+
+ghost use Rattle.std.specs.Prelude.{◌≡◌, ◌↔◌, None, IsTrue, map, string_bytes};
+ghost use Rattle.pipectl.specs.Outfit.{told};
+ghost use Rattle.pipectl.specs.Run.{Replays, ShowsUsage, Runs, ReadsCounted, WritesCounted};
+ghost use Rattle.pipectl.specs.Statuses.{status_of};
+ghost use Rattle.pipectl.specs.Words.{command_of};
+
+use crate::alone::Alone;
+use crate::outfit::Outfit;
+use crate::replay::{replay_link, write_all};
+use crate::served::Served;
+use crate::status::Status;
+use crate::words::{Command, parse};
+use pl_base::Digest;
+use std::alloc::Global;
+
+/// What is written where the words are no command.
+const USAGE: &[u8] = b"usage: pipectl replay, serve, compile or rehearse\n";
+
+/// Runs the command that the words are.
+///
+/// `replay --admin HEX` answers the messages of the source on the sink, as one session of a service
+/// whose admin's token has the SHA-256 digest HEX: 0 where the source was read to its end between
+/// messages, 9 where it ended inside a message or isn't messages, 10 where 67,108,864 bytes were
+/// taken, 1 and 3 where a read or a write failed, 6 where memory was wanting. Other words are a
+/// usage line and 2.
+pub fn run<O: Outfit>(alloc: Global, words: &[String], outfit: &mut O) -> Status
+    ensures usage { (result ≡ Status.Usage) ↔ (command_of (map (λ word. string_bytes word) words.now) ≡ None) }
+    ensures runs { Runs (command_of (map (λ word. string_bytes word) words.now)) (O.view outfit.old).coming (told O.In.left O.In.ended O.In.faults O.Out.held O.Out.faults (O.view outfit.old).ends) (told O.In.left O.In.ended O.In.faults O.Out.held O.Out.faults (O.view outfit.new).ends) result }
+    ensures read_to_its_end { result ≡ Status.Finished → IsTrue (O.In.ended (O.view outfit.new).ends.source) }
+    ensures reads_counted { ReadsCounted result (O.In.faults (O.view outfit.old).ends.source) (O.In.faults (O.view outfit.new).ends.source) }
+    ensures writes_counted { WritesCounted result (O.Out.faults (O.view outfit.old).ends.sink) (O.Out.faults (O.view outfit.new).ends.sink) }
+{
+    match parse(words) {
+        Some(Command::Replay { admin }) => replay(alloc, admin, outfit),
+        None => usage(outfit),
+    }
+}
+
+// Answers the messages of the source on the sink.
+fn replay<O: Outfit>(alloc: Global, admin: Digest, outfit: &mut O) -> Status
+    ensures { Replays admin (O.view outfit.old).coming (told O.In.left O.In.ended O.In.faults O.Out.held O.Out.faults (O.view outfit.old).ends) (told O.In.left O.In.ended O.In.faults O.Out.held O.Out.faults (O.view outfit.new).ends) result }
+{
+    let mut clock = outfit.clock();
+    let mut desk = Alone::open(admin);
+    let served = replay_link(alloc, &mut desk, outfit.ends(), &mut clock);
+    status(served)
+}
+
+// Writes the usage line, or its beginning where a write fails.
+fn usage<O: Outfit>(outfit: &mut O) -> Status
+    ensures usage { result ≡ Status.Usage }
+    ensures shows { ShowsUsage (told O.In.left O.In.ended O.In.faults O.Out.held O.Out.faults (O.view outfit.old).ends) (told O.In.left O.In.ended O.In.faults O.Out.held O.Out.faults (O.view outfit.new).ends) }
+{
+    let _ = write_all(outfit.ends(), USAGE);
+    Status::Usage
+}
+
+// The status of a replay, by how its link was served until.
+fn status(served: Served) -> Status
+    ensures { result ≡ status_of served }
+{
+    match served {
+        Served::Ended => Status::Finished,
+        Served::Cut { .. } | Served::Bad(_) => Status::NotWhole,
+        Served::Spent => Status::Spent,
+        Served::ReadFault => Status::ReadFault,
+        Served::WriteFault => Status::WriteFault,
+        Served::Memory => Status::Memory,
+    }
+}

@@ -1,0 +1,38 @@
+/// How the program ended.
+#[derive(Clone, Copy, Debug, PartialEq, Eq)]
+pub enum Status {
+    /// The input was read to its end, which came between messages, and all replies were written.
+    Finished,
+    /// A read of the source failed.
+    ReadFault,
+    /// The words are no command.
+    Usage,
+    /// A write to the sink failed.
+    WriteFault,
+    /// Memory was wanting.
+    Memory,
+    /// The input ended inside a message, or bytes came that are no message.
+    NotWhole,
+    /// 67,108,864 bytes were taken from the source.
+    Spent,
+}
+
+impl Status {
+    ghost use Rattle.std.specs.Prelude.{◌≡◌};
+    ghost use Rattle.pipectl.specs.Statuses.{code_of};
+
+    /// The exit status of the process.
+    pub fn code(self) -> u8
+        ensures { result ≡ code_of self }
+    {
+        match self {
+            Status::Finished => 0,
+            Status::ReadFault => 1,
+            Status::Usage => 2,
+            Status::WriteFault => 3,
+            Status::Memory => 6,
+            Status::NotWhole => 9,
+            Status::Spent => 10,
+        }
+    }
+}

@@ -1,0 +1,268 @@
+//! Whole runs over an outside in memory. The expected bytes are written by hand.
+
+ghost use Rattle.std.specs.Prelude.{Some, min, ◌+◌, refl};
+
+use crate::outfit::Outfit;
+use crate::run::run;
+use crate::status::Status;
+use pl_base::{Bytes, List, MemClock, MemSink, MemSource, Moment, Paired};
+use std::alloc::Global;
+use std::test::Fail;
+
+/// The SHA-256 digest of `abc`.
+const ADMIN: &str = "ba7816bf8f01cfea414140de5dae2223b00361a396177a9cb410ff61f20015ad";
+
+const TEXT: &[u8] =
+    b"POST /texts HTTP/1.1\r\nAuthorization: Bearer abc\r\nContent-Length: 25\r\n\r\nsteps:\n- script: echo hi\n";
+
+const DRAW: &[u8] =
+    b"POST /draw HTTP/1.1\r\nAuthorization: Bearer abc\r\nContent-Length: 0\r\n\r\n";
+
+const OTHER_TEXT: &[u8] =
+    b"POST /texts HTTP/1.1\r\nAuthorization: Bearer abc\r\nContent-Length: 2\r\n\r\na:";
+
+const STRANGER: &[u8] =
+    b"POST /draw HTTP/1.1\r\nAuthorization: Bearer xyz\r\nContent-Length: 0\r\n\r\n";
+
+const RUN_1: &[u8] =
+    b"HTTP/1.1 201 Created\r\nContent-Type: application/json\r\nContent-Length: 9\r\n\r\n{\"run\":1}";
+
+const RUN_2: &[u8] =
+    b"HTTP/1.1 201 Created\r\nContent-Type: application/json\r\nContent-Length: 9\r\n\r\n{\"run\":2}";
+
+const JOB: &[u8] =
+    b"HTTP/1.1 200 OK\r\nContent-Type: application/json\r\nContent-Length: 334\r\n\r\n{\"groups\":[],\"job\":\"Job\",\"run\":1,\"stage\":\"__default\",\"steps\":[{\"form\":\"script\",\"key\":{\"col\":3,\"crossings\":[],\"line\":2,\"path\":\"/text.yml\",\"ref\":\"refs/heads/text\",\"repo\":\"text\"},\"origin\":{\"col\":3,\"crossings\":[],\"line\":2,\"path\":\"/text.yml\",\"ref\":\"refs/heads/text\",\"repo\":\"text\"},\"step\":{\"script\":\"echo hi\"}}],\"timeout\":60,\"variables\":[]}";
+
+const NO_JOB: &[u8] = b"HTTP/1.1 204 No Content\r\n\r\n";
+
+const LATER: &[u8] =
+    b"HTTP/1.1 422 Unprocessable Entity\r\nContent-Type: application/json\r\nContent-Length: 21\r\n\r\n{\"rule\":\"text.later\"}";
+
+const UNKNOWN: &[u8] =
+    b"HTTP/1.1 401 Unauthorized\r\nContent-Type: application/json\r\nContent-Length: 24\r\n\r\n{\"rule\":\"token.unknown\"}";
+
+const BAD: &[u8] =
+    b"HTTP/1.1 400 Bad Request\r\nContent-Type: application/json\r\nContent-Length: 19\r\n\r\n{\"rule\":\"head.bad\"}";
+
+const USAGE: &[u8] = b"usage: pipectl replay, serve, compile or rehearse\n";
+
+/// An outside in memory.
+#[derive(Drop)]
+struct InMemory {
+    ends: Paired<MemSource, MemSink>,
+    first: Moment,
+}
+
+impl Outfit for InMemory {
+    type In = MemSource;
+
+    type Out = MemSink;
+
+    type Time = MemClock;
+
+    ghost view = { λ outfit. record { ends = outfit.ends; coming = Some (λ call. min (min outfit.first 4102444799 + call) 4102444799) } };
+
+    ghost with_ends = { λ outfit ends. record outfit { ends = ends } };
+
+    ghost ends_alone = { λ outfit ends. refl };
+
+    fn ends(&mut self) -> &mut Paired<MemSource, MemSink> {
+        &mut self.ends
+    }
+
+    fn clock(&mut self) -> MemClock {
+        MemClock::new(self.first)
+    }
+}
+
+/// How an outside behaves: the most bytes of a read and of a write, and the calls that fail.
+#[derive(Clone, Copy)]
+struct Outside<'a> {
+    read: usize,
+    write: usize,
+    failing_reads: &'a [u64],
+    failing_writes: &'a [u64],
+}
+
+const PLAIN: Outside<'static> = Outside {
+    read: 1_000_000,
+    write: 1_000_000,
+    failing_reads: &[],
+    failing_writes: &[],
+};
+
+/// Runs the program over an input, and gives its status and what it wrote.
+fn ran(
+    alloc: Global,
+    words: &[&str],
+    input: &[u8],
+    outside: Outside,
+) -> Result<(Status, Vec<u8>), Fail> {
+    let mut all = Vec::new(alloc);
+    for word in words {
+        all.push(String::from_str(alloc, word)?)?;
+    }
+    let source = MemSource::new(
+        Bytes::from_slice(alloc, input)?,
+        outside.read,
+        List::from_slice(alloc, outside.failing_reads)?,
+    );
+    let failing = List::from_slice(alloc, outside.failing_writes)?;
+    let sink = MemSink::new(alloc, 100_000, outside.write, failing)?;
+    let mut outfit = InMemory {
+        ends: Paired { source, sink },
+        first: 1_704_067_200,
+    };
+    let status = run(alloc, &all, &mut outfit);
+    Ok((status, outfit.ends.sink.bytes().to_vec(alloc)?))
+}
+
+/// Runs `replay` over an input.
+fn replayed(alloc: Global, input: &[u8], outside: Outside) -> Result<(Status, Vec<u8>), Fail> {
+    ran(alloc, &["replay", "--admin", ADMIN], input, outside)
+}
+
+/// Pieces one behind the other.
+fn joined(alloc: Global, pieces: &[&[u8]]) -> Result<Vec<u8>, Fail> {
+    let mut all = Vec::new(alloc);
+    for piece in pieces {
+        all.extend_from_slice(piece)?;
+    }
+    Ok(all)
+}
+
+#[test]
+fn words_that_are_no_command_get_the_usage_line(rt: HostRuntime) -> Result<(), Fail> {
+    let empty = "e3b0c44298fc1c149afbf4c8996fb92427ae41e4649b934ca495991b7852b855";
+    let upper = "BA7816BF8F01CFEA414140DE5DAE2223B00361A396177A9CB410FF61F20015AD";
+    let lists: [&[&str]; 8] = [
+        &[],
+        &["replay"],
+        &["replay", "--admin", "abc"],
+        &["replay", "--admin", empty],
+        &["replay", "--admin", upper],
+        &["replay", "--admin", ADMIN, "--help"],
+        &["--admin", ADMIN, "replay"],
+        &["serve", "--admin", ADMIN],
+    ];
+    for words in lists {
+        let (status, written) = ran(rt.alloc(), words, TEXT, PLAIN)?;
+        assert_eq!(rt; (status, status.code()), (Status::Usage, 2), "at {words:?}");
+        assert_eq!(rt; written.as_slice(), USAGE, "at {words:?}");
+    }
+    Ok(())
+}
+
+#[test]
+fn replies_do_not_depend_on_the_pieces(rt: HostRuntime) -> Result<(), Fail> {
+    let alloc = rt.alloc();
+    let input = joined(alloc, &[DRAW, STRANGER, OTHER_TEXT, TEXT, DRAW, TEXT, DRAW])?;
+    let wanted = joined(alloc, &[NO_JOB, UNKNOWN, LATER, RUN_1, JOB, RUN_2, JOB])?;
+    for (read, write) in [(1, 1_000), (2, 7), (3, 1), (7, 1_000), (1_000_000, 1)] {
+        let outside = Outside {
+            read,
+            write,
+            ..PLAIN
+        };
+        let (status, written) = replayed(alloc, &input, outside)?;
+        assert_eq!(rt; status, Status::Finished, "in pieces of {read}");
+        assert_eq!(rt; written, wanted, "in pieces of {read}");
+    }
+    let (status, written) = replayed(alloc, &[], PLAIN)?;
+    assert_eq!(rt; (status, status.code()), (Status::Finished, 0));
+    assert_eq!(rt; written.len(), 0);
+    let words = joined(alloc, &[b"--admin=", ADMIN.as_bytes()])?;
+    let option = std::str::from_utf8(&words).ok().ok_or("text")?;
+    let (status, written) = ran(alloc, &["replay", option], TEXT, PLAIN)?;
+    assert_eq!(rt; status, Status::Finished);
+    assert_eq!(rt; written.as_slice(), RUN_1);
+    Ok(())
+}
+
+#[test]
+fn a_message_that_is_cut_has_no_reply(rt: HostRuntime) -> Result<(), Fail> {
+    let alloc = rt.alloc();
+    for length in 1..TEXT.len() {
+        let (status, written) = replayed(alloc, TEXT.split_at(length).0, PLAIN)?;
+        assert_eq!(rt;
+            (status, status.code()),
+            (Status::NotWhole, 9),
+            "after {length} bytes"
+        );
+        assert_eq!(rt; written.len(), 0, "after {length} bytes");
+    }
+    let (status, written) = replayed(alloc, TEXT, PLAIN)?;
+    assert_eq!(rt; status, Status::Finished);
+    assert_eq!(rt; written.as_slice(), RUN_1);
+    Ok(())
+}
+
+#[test]
+fn a_byte_that_fits_no_message_is_answered_last(rt: HostRuntime) -> Result<(), Fail> {
+    let alloc = rt.alloc();
+    let wrong: [&[u8]; 4] = [b"GET\n", b"\r\n", b"POST /runs", b"POST /draw HTTP/1.1\nA"];
+    for bytes in wrong {
+        let input = joined(alloc, &[TEXT, bytes, TEXT])?;
+        let (status, written) = replayed(alloc, &input, PLAIN)?;
+        assert_eq!(rt;
+            (status, status.code()),
+            (Status::NotWhole, 9),
+            "at {bytes:?}"
+        );
+        assert_eq!(rt; written, joined(alloc, &[RUN_1, BAD])?, "at {bytes:?}");
+    }
+    Ok(())
+}
+
+#[test]
+fn a_fault_ends_the_run_with_its_status(rt: HostRuntime) -> Result<(), Fail> {
+    let alloc = rt.alloc();
+    let input = joined(alloc, &[TEXT, DRAW])?;
+    let wanted = joined(alloc, &[RUN_1, JOB])?;
+    for call in 1..6 {
+        let outside = Outside {
+            read: 50,
+            failing_reads: &[call],
+            ..PLAIN
+        };
+        let (status, written) = replayed(alloc, &input, outside)?;
+        let bytes = [0, 0, 84, 84, wanted.len()][(call - 1) as usize];
+        assert_eq!(rt;
+            (status, status.code()),
+            (Status::ReadFault, 1),
+            "at read {call}"
+        );
+        assert_eq!(rt;
+            written.as_slice(),
+            wanted.split_at(bytes.min(wanted.len())).0,
+            "at read {call}"
+        );
+    }
+    for call in 1..6 {
+        let outside = Outside {
+            write: 100,
+            failing_writes: &[call],
+            ..PLAIN
+        };
+        let (status, written) = replayed(alloc, &input, outside)?;
+        let bytes = [0, 84, 184, 284, 384][(call - 1) as usize];
+        assert_eq!(rt;
+            (status, status.code()),
+            (Status::WriteFault, 3),
+            "at write {call}"
+        );
+        assert_eq!(rt;
+            written.as_slice(),
+            wanted.split_at(bytes.min(wanted.len())).0,
+            "at write {call}"
+        );
+    }
+    let outside = Outside {
+        failing_writes: &[1],
+        ..PLAIN
+    };
+    let (status, written) = ran(alloc, &[], TEXT, outside)?;
+    assert_eq!(rt; status, Status::Usage);
+    assert_eq!(rt; written.len(), 0);
+    Ok(())
+}
