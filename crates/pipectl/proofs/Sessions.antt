@@ -8,7 +8,7 @@ use Rattle.pl_wire.specs.declared.message.HttpFault.{HttpFault}
 use Rattle.pipectl.specs.declared.served.Served.TheVariants as served
 use Rattle.pipectl.specs.Session.{Session, taken_limit, Turn, Spelled, Acts, Act, Tells, sent, replies, joined, IsCut, Point, Advances, Breaks, Begins, bad_reply}
 
-append-nil : (xs : List ℕ) → xs ++ [] ≡ xs
+pub append-nil : (xs : List ℕ) → xs ++ [] ≡ xs
 append-nil [] = refl
 append-nil (x ∷ xs) = ap (λ ys. x ∷ ys) (append-nil xs)
 

@@ -37,7 +37,7 @@ pub record Replays (admin : Digest) (coming : Option (ℕ → ℕ)) (old new : T
   pub state : State
   pub ending_is : ending ≡ status_of served
   pub session : Session (point old.left old.held coming (opened admin)) (point new.left new.held later state) served
-  pub ended : EndsTold served new.ended
+  pub ended : EndsTold served new.ended new.left
   pub read_faults : CountsReads served old.read_faults new.read_faults
   pub write_faults : CountsWrites served old.write_faults new.write_faults
 

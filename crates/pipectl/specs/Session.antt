@@ -1,5 +1,5 @@
 -- A session: the messages of the bytes that were read, their answers, and the bytes that were written.
-use Rattle.std.specs.Prelude.{◌≡◌, ◌<◌, ◌⊎◌, ℕ, Bool, IsTrue, List, [], ◌∷◌, ◌++◌, length, Option, Result, Ok, Err, codes}
+use Rattle.std.specs.Prelude.{◌≡◌, ◌<◌, ◌⊎◌, ℕ, Bool, IsTrue, List, [], ◌∷◌, ◌++◌, length, take, Option, Result, Ok, Err, codes}
 use Rattle.std.specs.Option.{IfSome}
 use Rattle.pl_base.specs.Counts.{one_more}
 use Rattle.pl_base.specs.Streams.{with_front, with_end, after_next}
@@ -180,12 +180,34 @@ ReadsPiece (Ok count) left later buffer more = (bytes : List ℕ) × (length byt
 ReadsPiece (Err unread.ReadFault) left later buffer more = (later ≡ left) × (more ≡ buffer)
 ReadsPiece (Err unread.Memory) left later buffer more = (bytes : List ℕ) × (left ≡ with_front bytes later)
 
--- where the link was read to its end, it told so
-abbrev pub EndsTold : Served → Bool → Type 0
-EndsTold served.Ended told = IsTrue told
-EndsTold (served.Cut len) told = IsTrue told
-EndsTold other told = Unit {0}
+-- a link that was read to its end told so, and where it tells what is left, nothing is
+abbrev pub IsAtEnd : Bool → Option (List ℕ) → Type 0
+IsAtEnd told left = IsTrue told × IfSome left (λ rest. rest ≡ [])
+
+-- where no more bytes came, the link was read to its end
+abbrev pub EndsTold : Served → Bool → Option (List ℕ) → Type 0
+EndsTold served.Ended told left = IsAtEnd told left
+EndsTold (served.Cut len) told left = IsAtEnd told left
+EndsTold other told left = Unit {0}
 
 -- a session from one point to another
 abbrev pub Session : Point → Point → Served → Type 0
 Session old new served = (read : List ℕ) × Ends old read new served
+
+abbrev pub messages_of : List Turn → List Message
+messages_of [] = []
+messages_of (turn ∷ turns) = turn.message ∷ messages_of turns
+
+-- no message stands at the front of the bytes
+abbrev pub NoneFirst : List ℕ → Type 0
+NoneFirst bytes = (len : ℕ) (message : Message) → IsMessage (take len bytes) message → ⊥
+
+-- A stream has one list of messages and one rest, however it comes in pieces.
+abbrev pub OneStream : Type 0
+OneStream = (bytes rest other : List ℕ) (turns others : List Turn)
+    → Spelled bytes turns rest → Spelled bytes others other → NoneFirst rest → NoneFirst other
+    → (messages_of turns ≡ messages_of others) × (rest ≡ other)
+
+-- where a message is begun or nothing can be one, none stands at the front
+abbrev pub RestsAreOpen : Type 0
+RestsAreOpen = ((rest : List ℕ) → IsPartial rest → NoneFirst rest) × ((rest : List ℕ) → IsBad rest → NoneFirst rest)

@@ -3,6 +3,7 @@
 
 mod alone;
 mod buffer;
+mod laws;
 mod outfit;
 mod real;
 mod replay;

@@ -1,10 +1,10 @@
 //! One link, served alone.
 
-ghost use Rattle.std.specs.Prelude.{◌≡◌, ◌<◌, ◌≤◌, ◌++◌, [], ℕ, List, length, take, OnOk, OnErr, IfOk, IfErr, IsTrue, MatchOption};
+ghost use Rattle.std.specs.Prelude.{◌≡◌, ◌<◌, ◌≤◌, ◌++◌, [], ℕ, List, length, take, OnOk, OnErr, IfOk, IfErr, MatchOption};
 ghost use Rattle.pl_base.specs.Counts.{one_more};
 ghost use Rattle.pl_base.specs.Streams.{with_end, with_front};
 ghost use Rattle.pl_wire.specs.Message.{IsMessage, IsPartial, IsBad};
-ghost use Rattle.pipectl.specs.Session.{point, sent, bad_reply, Begins, Advances, Breaks, Session, CountsBroken, CountsReads, CountsUnread, CountsWrites, EndsTold, ReadsPiece};
+ghost use Rattle.pipectl.specs.Session.{point, sent, bad_reply, Begins, Advances, Breaks, Session, CountsBroken, CountsReads, CountsUnread, CountsWrites, EndsTold, IsAtEnd, ReadsPiece};
 
 use crate::alone::{Alone, Answer};
 use crate::buffer::Buffer;
@@ -99,7 +99,7 @@ fn answer_all<L: Link, C: Clock>(
 fn read_on<L: Link>(link: &mut L, buffer: &mut Buffer, piece: &mut [u8]) -> Result<usize, Unread>
     ensures reads { ReadsPiece result (L.left link.old) (L.left link.new) buffer.old buffer.new }
     ensures within { IfOk result (λ count. count ≤ length piece.old) }
-    ensures end { 0 < length piece.old → IfOk result (λ count. count ≡ 0 → IsTrue (L.ended link.new)) }
+    ensures end { 0 < length piece.old → IfOk result (λ count. count ≡ 0 → IsAtEnd (L.ended link.new) (L.left link.new)) }
     ensures counts { CountsUnread result (L.read_faults link.old) (L.read_faults link.new) }
     ensures held { L.held link.new ≡ L.held link.old }
     ensures write_faults { L.write_faults link.new ≡ L.write_faults link.old }
@@ -142,7 +142,7 @@ pub fn replay_link<L: Link, C: Clock>(
     clock: &mut C,
 ) -> Served
     ensures session { Session (point (L.left link.old) (L.held link.old) (C.coming clock.old) desk.old.core) (point (L.left link.new) (L.held link.new) (C.coming clock.new) desk.new.core) result }
-    ensures ended { EndsTold result (L.ended link.new) }
+    ensures ended { EndsTold result (L.ended link.new) (L.left link.new) }
     ensures read_faults { CountsReads result (L.read_faults link.old) (L.read_faults link.new) }
     ensures write_faults { CountsWrites result (L.write_faults link.old) (L.write_faults link.new) }
 {

@@ -1,8 +1,9 @@
 //! The top call.
 
-ghost use Rattle.std.specs.Prelude.{◌≡◌, ◌↔◌, None, IsTrue, map, string_bytes};
+ghost use Rattle.std.specs.Prelude.{◌≡◌, ◌↔◌, None, map, string_bytes};
 ghost use Rattle.pipectl.specs.Outfit.{told};
 ghost use Rattle.pipectl.specs.Run.{Replays, ShowsUsage, Runs, ReadsCounted, WritesCounted};
+ghost use Rattle.pipectl.specs.Session.{IsAtEnd};
 ghost use Rattle.pipectl.specs.Statuses.{status_of};
 ghost use Rattle.pipectl.specs.Words.{command_of};
 
@@ -28,7 +29,7 @@ const USAGE: &[u8] = b"usage: pipectl replay, serve, compile or rehearse\n";
 pub fn run<O: Outfit>(alloc: Global, words: &[String], outfit: &mut O) -> Status
     ensures usage { (result ≡ Status.Usage) ↔ (command_of (map (λ word. string_bytes word) words.now) ≡ None) }
     ensures runs { Runs (command_of (map (λ word. string_bytes word) words.now)) (O.view outfit.old).coming (told O.In.left O.In.ended O.In.faults O.Out.held O.Out.faults (O.view outfit.old).ends) (told O.In.left O.In.ended O.In.faults O.Out.held O.Out.faults (O.view outfit.new).ends) result }
-    ensures read_to_its_end { result ≡ Status.Finished → IsTrue (O.In.ended (O.view outfit.new).ends.source) }
+    ensures read_to_its_end { result ≡ Status.Finished → IsAtEnd (O.In.ended (O.view outfit.new).ends.source) (O.In.left (O.view outfit.new).ends.source) }
     ensures reads_counted { ReadsCounted result (O.In.faults (O.view outfit.old).ends.source) (O.In.faults (O.view outfit.new).ends.source) }
     ensures writes_counted { WritesCounted result (O.Out.faults (O.view outfit.old).ends.sink) (O.Out.faults (O.view outfit.new).ends.sink) }
 {

@@ -13,7 +13,7 @@ use Rattle.pipectl.proofs.run.replay.Goals as goal
 replays_by : (admin : Digest) (coming clocked later : Option (ℕ → ℕ)) (desk state : State) (old new : Told) (served : Served) (ending : Status)
     → clocked ≡ coming → desk ≡ opened admin → ending ≡ status_of served
     → Session (point old.left old.held clocked desk) (point new.left new.held later state) served
-    → EndsTold served new.ended → CountsReads served old.read_faults new.read_faults → CountsWrites served old.write_faults new.write_faults
+    → EndsTold served new.ended new.left → CountsReads served old.read_faults new.read_faults → CountsWrites served old.write_faults new.write_faults
     → Replays admin coming old new ending
 replays_by admin coming clocked later desk state old new served ending clocked_is desk_is ending_is session ended reads writes = record {
   served = served;
