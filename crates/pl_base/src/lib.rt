@@ -7,6 +7,8 @@ mod digest;
 mod exact_copy;
 mod expanded;
 mod failed;
+mod file_set;
+mod folding;
 mod in_memory;
 mod link;
 mod list;
@@ -21,6 +23,8 @@ mod resource;
 mod row;
 mod sink;
 mod source;
+#[cfg(test)]
+mod tests;
 mod text;
 mod value;
 
@@ -30,6 +34,8 @@ pub use digest::Digest;
 pub use exact_copy::ExactCopy;
 pub use expanded::{Argument, Expanded, Refusal, Repository};
 pub use failed::Failed;
+pub use file_set::FileSet;
+pub use folding::equals_ignoring_case;
 pub use in_memory::{MemClock, MemSink, MemSource};
 pub use link::Link;
 pub use list::{Bytes, List};

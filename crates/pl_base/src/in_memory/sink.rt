@@ -1,4 +1,5 @@
-ghost use Rattle.std.specs.Prelude.{◌≡◌, Some, [], IfOk};
+ghost use Rattle.std.specs.Prelude.{◌≡◌, Some, [], IfOk, max};
+ghost use Rattle.std.specs.Vec.{vec_capacity};
 
 use crate::failed::Failed;
 use crate::list::List;
@@ -29,6 +30,10 @@ impl MemSink {
     ) -> Result<MemSink, Memory>
         ensures empty { IfOk result (λ sink. sink.bytes.items ≡ []) }
         ensures quiet { IfOk result (λ sink. sink.faults ≡ 0) }
+        ensures room { IfOk result (λ sink. vec_capacity sink.bytes ≡ room) }
+        ensures piece { IfOk result (λ sink. sink.piece ≡ max piece 1) }
+        ensures failing { IfOk result (λ sink. sink.failing ≡ failing) }
+        ensures calls { IfOk result (λ sink. sink.calls ≡ 0) }
     {
         Ok(MemSink {
             bytes: Vec::with_capacity(alloc, room)?,

@@ -1,4 +1,4 @@
-ghost use Rattle.std.specs.Prelude.{◌≡◌, ◌<◌, ◌≤◌, [], Some, drop, take, length};
+ghost use Rattle.std.specs.Prelude.{◌≡◌, ◌<◌, ◌≤◌, [], Some, drop, take, length, max, false};
 
 use crate::failed::Failed;
 use crate::list::{Bytes, List};
@@ -25,6 +25,10 @@ impl MemSource {
         ensures bytes { result.bytes ≡ bytes }
         ensures start { result.at ≡ 0 }
         ensures quiet { result.faults ≡ 0 }
+        ensures running { result.ended ≡ false }
+        ensures piece { result.piece ≡ max piece 1 }
+        ensures failing { result.failing ≡ failing }
+        ensures calls { result.calls ≡ 0 }
     {
         MemSource {
             bytes,

@@ -1,0 +1,441 @@
+use crate::{
+    Argument, Boxed, Bytes, Clock, Crossing, ExactCopy, Failed, FileKey, FileSet,
+    Link, List, MarkedNode, MarkedPair, MemClock, MemSink, MemSource, Memory, Node, NodeBody,
+    NodePair, Origin, Paired, Place, Refusal, Repository, Sink, Source, Text, Value,
+    equals_ignoring_case,
+};
+use std::alloc::Global;
+use std::cmp::Ordering;
+use std::fmt::Debug;
+use std::test::Fail;
+
+fn key(alloc: Global, repo: &str, git_ref: &str, path: &str) -> Result<FileKey, Memory> {
+    Ok(FileKey {
+        repo: Text::from_str(alloc, repo)?,
+        git_ref: Text::from_str(alloc, git_ref)?,
+        path: Text::from_str(alloc, path)?,
+    })
+}
+
+fn place(alloc: Global, line: u32, col: u32) -> Result<Place, Memory> {
+    Ok(Place {
+        file: key(alloc, "app", "refs/heads/main", "/a.yml")?,
+        line,
+        col,
+    })
+}
+
+// An origin with each kind of crossing.
+fn origin(alloc: Global, line: u32) -> Result<Origin, Memory> {
+    let called = key(alloc, "shared", "refs/tags/v1", "/steps.yml")?;
+    let mut crossings = List::new(alloc);
+    crossings.push(Crossing::Extends(key(alloc, "app", "main", "/top.yml")?))?;
+    crossings.push(Crossing::Include(called, place(alloc, line, 3)?))?;
+    let name = Text::from_str(alloc, "size")?;
+    crossings.push(Crossing::Argument(name, place(alloc, line, 9)?))?;
+    crossings.push(Crossing::Made)?;
+    Ok(Origin {
+        source: place(alloc, line, 1)?,
+        crossings,
+    })
+}
+
+fn scalar(alloc: Global, text: &str, line: u32) -> Result<Node, Memory> {
+    Ok(Node {
+        place: place(alloc, line, 1)?,
+        body: NodeBody::Scalar(Text::from_str(alloc, text)?),
+    })
+}
+
+fn node_pair(alloc: Global, text: &str, item: Node) -> Result<NodePair, Memory> {
+    Ok(NodePair {
+        key: Text::from_str(alloc, text)?,
+        key_place: place(alloc, 7, 8)?,
+        item,
+    })
+}
+
+// A mapping of a scalar and of a sequence of two scalars.
+fn node_tree(alloc: Global) -> Result<Node, Memory> {
+    let mut items = List::new(alloc);
+    items.push(scalar(alloc, "one", 3)?)?;
+    items.push(scalar(alloc, "", 4)?)?;
+    let sequence = Node {
+        place: place(alloc, 2, 5)?,
+        body: NodeBody::Seq(items),
+    };
+    let mut pairs = List::new(alloc);
+    pairs.push(node_pair(alloc, "name", scalar(alloc, "two", 1)?)?)?;
+    pairs.push(node_pair(alloc, "steps", sequence)?)?;
+    Ok(Node {
+        place: place(alloc, 1, 1)?,
+        body: NodeBody::Map(pairs),
+    })
+}
+
+fn marked(alloc: Global, value: Value, line: u32) -> Result<MarkedNode, Memory> {
+    Ok(MarkedNode {
+        origin: origin(alloc, line)?,
+        value,
+    })
+}
+
+// An object with a property for each kind of value.
+fn marked_tree(alloc: Global) -> Result<MarkedNode, Memory> {
+    let mut items = List::new(alloc);
+    items.push(marked(alloc, Value::Null, 1)?)?;
+    items.push(marked(alloc, Value::Bool(true), 2)?)?;
+    items.push(marked(alloc, Value::Number(-7), 3)?)?;
+    let segments = List::from_slice(alloc, &[1, 2, 3])?;
+    items.push(marked(alloc, Value::Version(segments), 4)?)?;
+    let text = Text::from_str(alloc, "text")?;
+    items.push(marked(alloc, Value::Str(text), 5)?)?;
+    let mut pairs = List::new(alloc);
+    pairs.push(MarkedPair {
+        key: Text::from_str(alloc, "all")?,
+        key_origin: origin(alloc, 6)?,
+        item: marked(alloc, Value::Array(items), 7)?,
+    })?;
+    marked(alloc, Value::Object(pairs), 8)
+}
+
+fn argument(alloc: Global) -> Result<Argument, Memory> {
+    Ok(Argument {
+        name: Text::from_str(alloc, "size")?,
+        text: Text::from_str(alloc, "large")?,
+    })
+}
+
+fn repository(alloc: Global) -> Result<Repository, Memory> {
+    Ok(Repository {
+        alias: Text::from_str(alloc, "lib")?,
+        name: Text::from_str(alloc, "shared")?,
+        git_ref: Text::from_str(alloc, "refs/heads/main")?,
+    })
+}
+
+fn refusal(alloc: Global) -> Result<Refusal, Memory> {
+    let mut detail = List::new(alloc);
+    detail.push(Text::from_str(alloc, "E1")?)?;
+    Ok(Refusal {
+        code: Text::from_str(alloc, "X12")?,
+        place: place(alloc, 4, 2)?,
+        detail,
+    })
+}
+
+fn is_printed_alike<T: ExactCopy + Debug>(alloc: Global, value: &T) -> Result<bool, Memory> {
+    let copy = value.copy(alloc)?;
+    let (first, second) = (
+        format!(in alloc; "{value:?}")?,
+        format!(in alloc; "{copy:?}")?,
+    );
+    Ok(first.as_str() == second.as_str())
+}
+
+fn is_copied<T: ExactCopy + PartialEq>(alloc: Global, value: &T) -> Result<bool, Memory> {
+    Ok(value.copy(alloc)? == *value)
+}
+
+// What the calls of `read` answer, in turn, for pieces of four bytes.
+fn readings<S: Source>(alloc: Global, source: &mut S, calls: u32) -> Result<Text, Memory> {
+    let mut all = Text::new(alloc);
+    for _ in 0..calls {
+        let mut into = [0u8; 4];
+        let part = match source.read(&mut into) {
+            Ok(count) => format!(in alloc; "{:?}", &into[..count])?,
+            Err(Failed) => format!(in alloc; "failed")?,
+        };
+        all.push_str(part.as_str())?;
+    }
+    Ok(all)
+}
+
+// What calls of `write` answer, in turn, each with these bytes.
+fn writings<S: Sink>(
+    alloc: Global,
+    sink: &mut S,
+    bytes: &[u8],
+    calls: u32,
+) -> Result<Text, Memory> {
+    let mut all = Text::new(alloc);
+    for _ in 0..calls {
+        let part = match sink.write(bytes) {
+            Ok(count) => format!(in alloc; "{count} ")?,
+            Err(Failed) => format!(in alloc; "failed ")?,
+        };
+        all.push_str(part.as_str())?;
+    }
+    Ok(all)
+}
+
+// A call of `read` and one of `write`, and the counts of faults behind them.
+fn exchange<L: Link>(alloc: Global, link: &mut L) -> Result<Text, Memory> {
+    let mut into = [0u8; 4];
+    let read = link.read(&mut into);
+    let written = link.write(b"xyz");
+    let faults = (link.read_faults(), link.write_faults());
+    let shown = format!(in alloc; "{read:?} {into:?} {written:?} {faults:?}")?;
+    Text::from_str(alloc, shown.as_str())
+}
+
+#[test]
+fn texts_hold_their_characters(rt: HostRuntime) -> Result<(), Fail> {
+    let alloc = rt.alloc();
+    let mut text = Text::new(alloc);
+    assert!(rt; text.is_empty());
+    text.push_str("Grüße")?;
+    text.push_str(", 世界")?;
+    assert_eq!(rt; text.as_str(), "Grüße, 世界");
+    assert_eq!(rt; text.len(), 15);
+    assert!(rt; !text.is_empty());
+    assert_eq!(rt;
+        Text::from_str(alloc, "ü")?.as_bytes(),
+        [0xC3u8, 0xBC].as_slice()
+    );
+    assert_eq!(rt; format!(in alloc; "{Memory}")?.as_str(), "out of memory");
+    Ok(())
+}
+
+#[test]
+fn texts_are_ordered_by_their_bytes(rt: HostRuntime) -> Result<(), Fail> {
+    let alloc = rt.alloc();
+    let rows = [
+        ("", "", Ordering::Equal),
+        ("", "a", Ordering::Less),
+        ("a", "b", Ordering::Less),
+        ("a", "aa", Ordering::Less),
+        ("ab", "aa", Ordering::Greater),
+        ("Z", "a", Ordering::Less),
+        ("z", "ä", Ordering::Less),
+        ("abc", "abc", Ordering::Equal),
+    ];
+    for (left, right, order) in rows {
+        let (first, second) = (Text::from_str(alloc, left)?, Text::from_str(alloc, right)?);
+        assert_eq!(rt; first.cmp(&second), order, "{left} and {right}");
+        assert_eq!(rt; second.cmp(&first), order.reverse(), "{right} and {left}");
+        assert_eq!(rt;
+            first == second,
+            order == Ordering::Equal,
+            "{left} and {right}"
+        );
+    }
+    Ok(())
+}
+
+#[test]
+fn texts_are_compared_without_their_case(rt: HostRuntime) -> Result<(), Fail> {
+    let alloc = rt.alloc();
+    let rows = [
+        ("", "", true),
+        ("Steps", "sTEPS", true),
+        ("azAZ", "AZaz", true),
+        ("a", "b", false),
+        ("a", "aa", false),
+        // the neighbours of the letters keep their bytes
+        ("@[", "`{", false),
+        // only ASCII's letters have a case here
+        ("ä", "Ä", false),
+        ("\u{212A}", "k", false),
+    ];
+    for (left, right, equal) in rows {
+        let (first, second) = (Text::from_str(alloc, left)?, Text::from_str(alloc, right)?);
+        assert_eq!(rt;
+            equals_ignoring_case(&first, &second),
+            equal,
+            "{left} and {right}"
+        );
+        assert_eq!(rt;
+            equals_ignoring_case(&second, &first),
+            equal,
+            "{right} and {left}"
+        );
+    }
+    Ok(())
+}
+
+#[test]
+fn lists_grow_and_shrink_at_their_end(rt: HostRuntime) -> Result<(), Fail> {
+    let alloc = rt.alloc();
+    let mut list = List::new(alloc);
+    assert!(rt; list.is_empty());
+    list.push(1u32)?;
+    list.push(2)?;
+    assert_eq!(rt; list.as_slice(), [1u32, 2].as_slice());
+    assert_eq!(rt; list.pop(), Some(2));
+    assert_eq!(rt;
+        List::from_vec(list.into_vec()).as_slice(),
+        [1u32].as_slice()
+    );
+    Ok(())
+}
+
+#[test]
+fn lists_are_read_and_set_by_place(rt: HostRuntime) -> Result<(), Fail> {
+    let alloc = rt.alloc();
+    let mut list = List::from_slice(alloc, &[1u32, 2, 3])?;
+    assert_eq!(rt; list.len(), 3);
+    list.set(1, 5);
+    assert_eq!(rt; list.get(1), Some(&5));
+    assert_eq!(rt; list.get(3), None);
+    assert!(rt; list.copy(alloc)? == list);
+    Ok(())
+}
+
+#[test]
+fn copies_are_printed_alike(rt: HostRuntime) -> Result<(), Fail> {
+    let alloc = rt.alloc();
+    assert!(rt; is_printed_alike(alloc, &node_tree(alloc)?)?);
+    assert!(rt; is_printed_alike(alloc, &marked_tree(alloc)?)?);
+    assert!(rt; is_printed_alike(alloc, &refusal(alloc)?)?);
+    Ok(())
+}
+
+#[test]
+fn copies_are_equal(rt: HostRuntime) -> Result<(), Fail> {
+    let alloc = rt.alloc();
+    assert!(rt; is_copied(alloc, &origin(alloc, 3)?)?);
+    assert!(rt; is_copied(alloc, &argument(alloc)?)?);
+    assert!(rt; is_copied(alloc, &repository(alloc)?)?);
+    assert!(rt; is_copied(alloc, &refusal(alloc)?)?);
+    Ok(())
+}
+
+#[test]
+fn boxes_and_options_are_copied(rt: HostRuntime) -> Result<(), Fail> {
+    let alloc = rt.alloc();
+    let boxed = Boxed::new(alloc, Text::from_str(alloc, "inside")?)?;
+    assert_eq!(rt; boxed.get().as_str(), "inside");
+    assert_eq!(rt; boxed.copy(alloc)?.into_inner().as_str(), "inside");
+    assert_eq!(rt; Some(9u32).copy(alloc)?, Some(9));
+    assert_eq!(rt; None::<u32>.copy(alloc)?, None);
+    Ok(())
+}
+
+#[test]
+fn files_are_found_by_their_keys(rt: HostRuntime) -> Result<(), Fail> {
+    let alloc = rt.alloc();
+    let mut files = FileSet::new(alloc);
+    let rows: [(&str, &str, &str, &[u8]); 5] = [
+        ("app", "main", "/a.yml", b"first"),
+        ("lib", "main", "/a.yml", b"other repository"),
+        ("app", "dev", "/a.yml", b"other ref"),
+        ("app", "main", "/b.yml", b"other path"),
+        ("app", "main", "/a.yml", b"replaced"),
+    ];
+    for (repo, git_ref, path, text) in rows {
+        files.put(
+            key(alloc, repo, git_ref, path)?,
+            Bytes::from_slice(alloc, text)?,
+        )?;
+    }
+    for (repo, git_ref, path, text) in rows {
+        let wanted: &[u8] = if text == b"first".as_slice() {
+            b"replaced"
+        } else {
+            text
+        };
+        let found = files
+            .get(&key(alloc, repo, git_ref, path)?)
+            .map(|text| text.as_slice());
+        assert_eq!(rt; found, Some(wanted), "{repo} {git_ref} {path}");
+    }
+    for (repo, git_ref, path) in [
+        ("ap", "main", "/a.yml"),
+        ("app", "main/a", ".yml"),
+        ("", "", ""),
+    ] {
+        let found = files
+            .get(&key(alloc, repo, git_ref, path)?)
+            .map(|text| text.as_slice());
+        assert_eq!(rt; found, None, "{repo} {git_ref} {path}");
+    }
+    Ok(())
+}
+
+#[test]
+fn sources_give_their_bytes_in_pieces(rt: HostRuntime) -> Result<(), Fail> {
+    let alloc = rt.alloc();
+    let rows: [(usize, &[u64], &str, u64); 6] = [
+        (1, &[], "[1][2][3][4][5][][]", 0),
+        (0, &[], "[1][2][3][4][5][][]", 0),
+        (2, &[], "[1, 2][3, 4][5][][][][]", 0),
+        (5, &[], "[1, 2, 3, 4][5][][][][][]", 0),
+        (5, &[1, 3], "failed[1, 2, 3, 4]failed[5][][][]", 2),
+        (2, &[7], "[1, 2][3, 4][5][][][]failed", 1),
+    ];
+    for (piece, failing, answers, faults) in rows {
+        let bytes = Bytes::from_slice(alloc, b"\x01\x02\x03\x04\x05")?;
+        let mut source = MemSource::new(bytes, piece, List::from_slice(alloc, failing)?);
+        assert_eq!(rt;
+            readings(alloc, &mut source, 7)?.as_str(),
+            answers,
+            "{piece} {failing:?}"
+        );
+        assert_eq!(rt; source.faults(), faults, "{piece} {failing:?}");
+    }
+    Ok(())
+}
+
+#[test]
+fn sinks_take_what_they_have_room_for(rt: HostRuntime) -> Result<(), Fail> {
+    let alloc = rt.alloc();
+    let rows: [(usize, usize, &[u64], &str, &[u8], u64); 6] = [
+        (3, 9, &[], "2 1 failed ", b"aba", 1),
+        (3, 1, &[], "1 1 1 ", b"aaa", 0),
+        (3, 0, &[], "1 1 1 ", b"aaa", 0),
+        (9, 9, &[], "2 2 2 ", b"ababab", 0),
+        (9, 9, &[2], "2 failed 2 ", b"abab", 1),
+        (0, 9, &[], "failed failed failed ", b"", 3),
+    ];
+    for (room, piece, failing, answers, held, faults) in rows {
+        let mut sink = MemSink::new(alloc, room, piece, List::from_slice(alloc, failing)?)?;
+        assert_eq!(rt;
+            writings(alloc, &mut sink, b"ab", 3)?.as_str(),
+            answers,
+            "{room} {piece}"
+        );
+        assert_eq!(rt; sink.bytes(), held, "{room} {piece}");
+        assert_eq!(rt; sink.faults(), faults, "{room} {piece}");
+    }
+    let mut full = MemSink::new(alloc, 0, 1, List::new(alloc))?;
+    assert_eq!(rt; writings(alloc, &mut full, b"", 1)?.as_str(), "0 ");
+    Ok(())
+}
+
+#[test]
+fn clocks_stop_at_the_last_moment(rt: HostRuntime) -> Result<(), Fail> {
+    let rows = [
+        (0, [0, 1, 2]),
+        (4_102_444_798, [4_102_444_798, 4_102_444_799, 4_102_444_799]),
+        (4_102_444_799, [4_102_444_799, 4_102_444_799, 4_102_444_799]),
+        (u64::MAX, [4_102_444_799, 4_102_444_799, 4_102_444_799]),
+    ];
+    for (first, moments) in rows {
+        let mut clock = MemClock::new(first);
+        for moment in moments {
+            assert_eq!(rt; clock.now(), moment, "from {first}");
+        }
+    }
+    Ok(())
+}
+
+#[test]
+fn a_source_and_a_sink_are_a_link(rt: HostRuntime) -> Result<(), Fail> {
+    let alloc = rt.alloc();
+    let bytes = Bytes::from_slice(alloc, b"\x01\x02\x03")?;
+    let mut link = Paired {
+        source: MemSource::new(bytes, 2, List::from_slice(alloc, &[2])?),
+        sink: MemSink::new(alloc, 4, 9, List::new(alloc))?,
+    };
+    for answer in [
+        "Ok(2) [1, 2, 0, 0] Ok(3) (0, 0)",
+        "Err(Failed) [0, 0, 0, 0] Ok(1) (1, 0)",
+        "Ok(1) [3, 0, 0, 0] Err(Failed) (1, 1)",
+        "Ok(0) [0, 0, 0, 0] Err(Failed) (1, 2)",
+    ] {
+        assert_eq!(rt; exchange(alloc, &mut link)?.as_str(), answer);
+    }
+    assert_eq!(rt; link.sink.bytes(), b"xyzx".as_slice());
+    Ok(())
+}

@@ -1,0 +1,9 @@
+pub mod Again
+pub mod Bytes
+pub mod Depths
+pub mod Folding
+pub mod Leaves
+pub mod Quotes
+pub mod Reading
+pub mod Sound
+pub mod Spelled
