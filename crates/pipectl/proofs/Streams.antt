@@ -39,7 +39,7 @@ pub partial_open : OneReading → (rest : List ℕ) → IsPartial rest → NoneF
 partial_open one rest partial len message is =
     let more = partial.0 in
     let all : take len rest ++ (drop len rest ++ more) ≡ (rest ++ more) ++ [] =
-      sym (append_assoc (take len rest) (drop len rest) more) ∙ (ap (λ b. b ++ more) (take-append-drop len rest) ∙ sym (append-nil (rest ++ more))) in
+    sym (append_assoc (take len rest) (drop len rest) more) ∙ (ap (λ b. b ++ more) (take-append-drop len rest) ∙ sym (append-nil (rest ++ more))) in
     let same = one (take len rest) (rest ++ more) (drop len rest ++ more) [] message partial.1 is partial.3 all in
     not-longer len rest (subst (λ b. length rest < length b) (sym same.0) (longer rest more partial.2))
 

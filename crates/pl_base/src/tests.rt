@@ -1,8 +1,7 @@
 use crate::{
-    Argument, Boxed, Bytes, Clock, Crossing, ExactCopy, Failed, FileKey, FileSet,
-    Link, List, MarkedNode, MarkedPair, MemClock, MemSink, MemSource, Memory, Node, NodeBody,
-    NodePair, Origin, Paired, Place, Refusal, Repository, Sink, Source, Text, Value,
-    equals_ignoring_case,
+    Argument, Boxed, Bytes, Clock, Crossing, ExactCopy, Failed, FileKey, FileSet, Link, List,
+    MarkedNode, MarkedPair, MemClock, MemSink, MemSource, Memory, Node, NodeBody, NodePair, Origin,
+    Paired, Place, Refusal, Repository, Sink, Source, Text, Value, equals_ignoring_case,
 };
 use std::alloc::Global;
 use std::cmp::Ordering;
