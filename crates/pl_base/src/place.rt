@@ -1,4 +1,5 @@
 ghost use Rattle.std.specs.Prelude.{◌≡◌, IfOk};
+ghost use Rattle.pl_base.specs.Places.{place_at};
 
 use crate::exact_copy::ExactCopy;
 use crate::memory::Memory;
@@ -20,6 +21,16 @@ pub struct Place {
     pub file: FileKey,
     pub line: u32,
     pub col: u32,
+}
+
+impl Place {
+    /// A place in a file, of which it keeps a copy.
+    pub fn at(alloc: Global, file: &FileKey, line: u32, col: u32) -> Result<Place, Memory>
+        ensures { IfOk result (λ place. place ≡ place_at file.now line col) }
+    {
+        let file = file.copy(alloc)?;
+        Ok(Place { file, line, col })
+    }
 }
 
 impl ExactCopy for FileKey {

@@ -17,11 +17,8 @@ fn key(alloc: Global, repo: &str, git_ref: &str, path: &str) -> Result<FileKey, 
 }
 
 fn place(alloc: Global, line: u32, col: u32) -> Result<Place, Memory> {
-    Ok(Place {
-        file: key(alloc, "app", "refs/heads/main", "/a.yml")?,
-        line,
-        col,
-    })
+    let file = key(alloc, "app", "refs/heads/main", "/a.yml")?;
+    Place::at(alloc, &file, line, col)
 }
 
 // An origin with each kind of crossing.
@@ -192,6 +189,8 @@ fn texts_hold_their_characters(rt: HostRuntime) -> Result<(), Fail> {
         Text::from_str(alloc, "ü")?.as_bytes(),
         [0xC3u8, 0xBC].as_slice()
     );
+    let digits = 12u32.to_string(alloc)?;
+    assert_eq!(rt; Text::from_string(digits).as_str(), "12");
     assert_eq!(rt; format!(in alloc; "{Memory}")?.as_str(), "out of memory");
     Ok(())
 }

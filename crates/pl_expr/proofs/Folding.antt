@@ -11,7 +11,8 @@ use Rattle.std.proofs.lemmas.Bool.{cases_lt, ne_eqb}
 use Rattle.std.proofs.lemmas.Bool.Decides.{nat_tests}
 use Rattle.std.specs.Option.{option_map, option_map_or}
 use Rattle.pl_base.specs.declared.value.Value.{Value, Null, Bool as Truth, Number, Version, Str}
-use Rattle.pl_expr.specs.Conversions.{folded, equals, order_of, is_null, bool_of, number_of_value, version_of, text_of}
+use Rattle.pl_base.specs.Folding.{folded}
+use Rattle.pl_expr.specs.Conversions.{equals, order_of, is_null, bool_of, number_of_value, version_of, text_of}
 
 pub slice_cmp_folded_drop : (left right : List ℕ) (i : ℕ) → i < length left → i < length right → slice_cmp nat_cmp (folded (drop i left)) (folded (drop i right)) ≡ ordering_then (nat_cmp (to_ascii_uppercase (get_or left i 0)) (to_ascii_uppercase (get_or right i 0))) (slice_cmp nat_cmp (folded (drop (i + 1) left)) (folded (drop (i + 1) right)))
 slice_cmp_folded_drop left right i in_left in_right =

@@ -18,7 +18,7 @@ use Rattle.pl_expr.specs.declared.expr.Mode.{Mode}
 use Rattle.pl_expr.specs.declared.fault.ExprCode.TheVariants.{Fraction, BadChar, BadCount, TooDeep, Trailing}
 use Rattle.pl_expr.specs.declared.scan.Front.{Front}
 use Rattle.pl_expr.specs.declared.scan.Front.TheVariants as front
-use Rattle.pl_expr.specs.Conversions.{folded}
+use Rattle.pl_base.specs.Folding.{folded}
 use Rattle.pl_expr.specs.Numerals.{is_blank, skip, digits_of, number_of, signed, goes_on, more_runs, runs_of, behind_runs, is_segment, segments_of}
 use Rattle.pl_expr.specs.Trees.{depth_of, deepest}
 use Rattle.pl_expr.specs.Functions.{name_of, most_of, stands_in, takes, may_follow, named, names, all_functions}

@@ -3,11 +3,11 @@ use Rattle.std.specs.Prelude.{ℕ, Bool, true, false, List, [], map, Option, Som
 use Rattle.std.specs.Option.{option_map, option_map_or}
 use Rattle.std.specs.Ordering.{nat_cmp, int_cmp, bool_cmp, int_eq}
 use Rattle.std.specs.Cmp.Lexicographic.{slice_cmp, pointwise}
-use Rattle.std.specs.Char.{to_ascii_uppercase}
 use Rattle.std.specs.Fmt.{decimal, signed_decimal}
 use Rattle.std.specs.List.{join_with_byte}
 use Rattle.std.specs.declared.cmp.Ordering.{Ordering}
 use Rattle.std.specs.declared.cmp.Ordering.TheVariants.{Equal}
+use Rattle.pl_base.specs.Folding.{folded}
 use Rattle.pl_base.specs.declared.value.Value.{Value, Null, Bool as Truth, Number, Version, Str}
 use Rattle.pl_expr.specs.Numerals.{number_in, version_in}
 
@@ -53,10 +53,6 @@ abbrev pub is_null : Value → Bool
 is_null Null = true
 is_null (Str []) = true
 is_null value = false
-
--- a text in upper case, in ASCII alone
-abbrev pub folded : List ℕ → List ℕ
-folded text = map to_ascii_uppercase text
 
 -- The order of the left value and of the right one, which is converted to the left one's type: False before
 -- True, versions by segments with a missing one first, texts by their folded bytes, which is the order of

@@ -5,7 +5,7 @@ use Rattle.pl_expr.specs.declared.expr.Function.{Function}
 use Rattle.pl_expr.specs.declared.expr.Function.TheVariants.{Not, Length, Lower, Upper, Trim, Xor, Eq, Ne, Lt, Le, Gt, Ge, Contains, StartsWith, EndsWith, ContainsValue, Join, Split, Replace, Iif, And, Or, Coalesce, In, NotIn, Format, Always, Canceled, Failed, Succeeded, SucceededOrFailed}
 use Rattle.pl_expr.specs.declared.expr.Mode.{Mode}
 use Rattle.pl_expr.specs.declared.expr.Mode.TheVariants.{Condition}
-use Rattle.pl_expr.specs.Conversions.{folded}
+use Rattle.pl_base.specs.Folding.{folded}
 
 abbrev pub name_of : Function → List ℕ
 name_of Not = codes "not"

@@ -22,7 +22,7 @@ use Rattle.pl_expr.specs.declared.fault.ExprCode.{ExprCode}
 use Rattle.pl_expr.specs.declared.fault.ExprCode.TheVariants.{BadChar, UnclosedString, UnknownFunction, BadCount, Trailing, TooDeep, Fraction, NumberRange}
 use Rattle.pl_expr.specs.declared.scan.Front.{Front}
 use Rattle.pl_expr.specs.declared.scan.Front.TheVariants as front
-use Rattle.pl_expr.specs.Conversions.{folded}
+use Rattle.pl_base.specs.Folding.{folded}
 use Rattle.pl_expr.specs.Numerals.{is_blank, skip, digits_of, number_of, signed, goes_on, runs_of, behind_runs, segments_of}
 use Rattle.pl_expr.specs.Functions.{most_of, may_follow, takes, named}
 use Rattle.pl_expr.specs.Trees.{depth_of}

@@ -4,7 +4,8 @@ ghost use Rattle.std.specs.Cmp.Lexicographic.{slice_cmp, pointwise};
 ghost use Rattle.std.specs.Fmt.{signed_decimal};
 ghost use Rattle.std.specs.List.{join_with_byte};
 ghost use Rattle.pl_base.specs.declared.value.Value.{Version};
-ghost use Rattle.pl_expr.specs.Conversions.{bool_of, number_of_value, text_of, cast_text, version_of, is_null, folded, order_of, equals};
+ghost use Rattle.pl_expr.specs.Conversions.{bool_of, number_of_value, text_of, cast_text, version_of, is_null, order_of, equals};
+ghost use Rattle.pl_base.specs.Folding.{folded};
 
 use crate::numerals::{read_number, read_version};
 use pl_base::{ExactCopy, List, Memory, Text, Value};

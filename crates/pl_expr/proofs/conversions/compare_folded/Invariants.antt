@@ -1,7 +1,7 @@
 use Rattle.std.proofs.Common.{◌≡◌, ◌≤◌, length, drop}
 use Rattle.std.specs.Ordering.{nat_cmp}
 use Rattle.std.specs.Cmp.Lexicographic.{slice_cmp}
-use Rattle.pl_expr.specs.Conversions.{folded}
+use Rattle.pl_base.specs.Folding.{folded}
 use Rattle.pl_expr.proofs.conversions.compare_folded.Given as goal
 
 abbrev pub invariant-loop-index : goal.invariant-loop-index
