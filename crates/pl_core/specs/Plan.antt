@@ -10,7 +10,7 @@ use Rattle.pl_base.specs.declared.node.NodeBody.{NodeBody, out-NodeBody}
 use Rattle.pl_base.specs.declared.node.NodeBody.TheOpen.{NodeBody-F, Scalar, Seq, Map}
 use Rattle.pl_base.specs.declared.node.NodePair.{NodePair}
 use Rattle.pl_base.specs.declared.value.Value.TheVariants.{Str, Object}
-use Rattle.pl_yaml.specs.StepList.{step_list}
+use Rattle.pl_step_list.specs.StepList.{step_list}
 use Rattle.pl_core.specs.declared.plan.PlanStep.{PlanStep}
 use Rattle.pl_core.specs.declared.plan.FirstPlan.{FirstPlan}
 use Rattle.pl_core.specs.declared.plan.TextLater.{TextLater}

@@ -9,7 +9,7 @@ use pl_base::{
     ExactCopy, FileKey, List, MarkedNode, MarkedPair, Memory, Node, NodeBody, NodePair, Origin,
     Place, Text, Value,
 };
-use pl_yaml::YamlFault;
+use pl_step_list::step_list;
 use std::alloc::Global;
 
 /// A step of a job: the key that says what it does, and its whole mapping, which the agent gets.
@@ -34,14 +34,11 @@ pub fn first_plan(alloc: Global, text: &[u8]) -> Result<Result<FirstPlan, TextLa
     ensures { IfOk result (λ planned. PlansText text.now planned) }
 {
     let file = text_file(alloc)?;
-    match pl_yaml::read(alloc, text, &file) {
-        Ok(node) => match plan_in(alloc, &node.body)? {
-            Some(plan) => Ok(Ok(plan)),
-            None => Ok(Err(TextLater)),
-        },
-        Err(YamlFault::Refused(..)) => Ok(Err(TextLater)),
-        Err(YamlFault::Memory) => Err(Memory),
-    }
+    let planned = match step_list(alloc, text, &file)? {
+        Some(node) => plan_in(alloc, &node.body)?,
+        None => None,
+    };
+    Ok(planned.ok_or(TextLater))
 }
 
 /// The file as which a queued text is read.

@@ -1,4 +1,7 @@
-use crate::{Body, Call, Core, FirstPlan, Json, JsonMember, Reply, Request, TextLater, first_plan};
+use crate::{
+    Body, Call, Core, FirstPlan, Json, JsonMember, Prepared, Queued, Reply, Request, TextLater,
+    first_plan,
+};
 use pl_base::{Bytes, Digest, List, Memory};
 use std::alloc::Global;
 use std::test::Fail;
@@ -110,6 +113,40 @@ fn queues_texts_and_gives_the_first_ones_job(rt: HostRuntime) -> Result<(), Fail
         "201 {\"run\":2}"
     );
     assert_eq!(rt; draw(alloc, &mut core, ADMIN)?.as_str(), job);
+    Ok(())
+}
+
+// A service in which all runs but the last one that can be were queued, none of them with a plan.
+fn before_the_last_run() -> Core {
+    let mut core = Core::open(ADMIN);
+    let reply = Reply {
+        status: 201,
+        body: Body::Empty,
+    };
+    let queued = Some(Queued {
+        run: 999_999_999_999_999_998,
+        plan: None,
+    });
+    core.install(Prepared { reply, queued });
+    core
+}
+
+#[test]
+fn refuses_a_run_behind_the_last_number(rt: HostRuntime) -> Result<(), Fail> {
+    let alloc = rt.alloc();
+    let mut core = before_the_last_run();
+    let hi = b"steps:\n- script: echo hi\n";
+    let full = "409 {\"rule\":\"journal.full\"}";
+    let rows: [(Digest, &[u8], &str); 5] = [
+        (ADMIN, hi, "201 {\"run\":999999999999999999}"),
+        (ADMIN, hi, full),
+        (ADMIN, b"jobs:\n", "422 {\"rule\":\"text.later\"}"),
+        (STRANGER, hi, "401 {\"rule\":\"token.unknown\"}"),
+        (ADMIN, hi, full),
+    ];
+    for (caller, text, want) in rows {
+        assert_eq!(rt; queue(alloc, &mut core, caller, text)?.as_str(), want);
+    }
     Ok(())
 }
 
