@@ -156,18 +156,32 @@ fn words_that_are_no_command_get_the_usage_line(rt: HostRuntime) -> Result<(), F
 #[test]
 fn replies_do_not_depend_on_the_pieces(rt: HostRuntime) -> Result<(), Fail> {
     let alloc = rt.alloc();
-    let input = joined(alloc, &[DRAW, STRANGER, OTHER_TEXT, TEXT, DRAW, TEXT, DRAW])?;
-    let wanted = joined(alloc, &[NO_JOB, UNKNOWN, LATER, RUN_1, JOB, RUN_2, JOB])?;
-    for (read, write) in [(1, 1_000), (2, 7), (3, 1), (7, 1_000), (1_000_000, 1)] {
-        let outside = Outside {
-            read,
-            write,
-            ..PLAIN
-        };
-        let (status, written) = replayed(alloc, &input, outside)?;
-        assert_eq!(rt; status, Status::Finished, "in pieces of {read}");
-        assert_eq!(rt; written, wanted, "in pieces of {read}");
+    let whole = joined(alloc, &[DRAW, STRANGER, OTHER_TEXT, TEXT, DRAW, TEXT, DRAW])?;
+    let replies = joined(alloc, &[NO_JOB, UNKNOWN, LATER, RUN_1, JOB, RUN_2, JOB])?;
+    let with_bad = joined(alloc, &[&whole, b"GET / HTTP/1.1\r\n\r\n", TEXT])?;
+    let with_bad_reply = joined(alloc, &[&replies, BAD])?;
+    let streams: [(&[u8], &[u8], Status); 2] = [
+        (&whole, &replies, Status::Finished),
+        (&with_bad, &with_bad_reply, Status::NotWhole),
+    ];
+    for (input, wanted, ending) in streams {
+        for (read, write) in [(1, 1_000), (2, 7), (3, 1), (7, 1_000), (1_000_000, 1)] {
+            let outside = Outside {
+                read,
+                write,
+                ..PLAIN
+            };
+            let (status, written) = replayed(alloc, input, outside)?;
+            assert_eq!(rt; status, ending, "in pieces of {read}");
+            assert_eq!(rt; written.as_slice(), wanted, "in pieces of {read}");
+        }
     }
+    Ok(())
+}
+
+#[test]
+fn no_bytes_have_no_reply(rt: HostRuntime) -> Result<(), Fail> {
+    let alloc = rt.alloc();
     let (status, written) = replayed(alloc, &[], PLAIN)?;
     assert_eq!(rt; (status, status.code()), (Status::Finished, 0));
     assert_eq!(rt; written.len(), 0);
@@ -214,54 +228,90 @@ fn a_byte_that_fits_no_message_is_answered_last(rt: HostRuntime) -> Result<(), F
     Ok(())
 }
 
-#[test]
-fn a_fault_ends_the_run_with_its_status(rt: HostRuntime) -> Result<(), Fail> {
-    let alloc = rt.alloc();
+/// Runs `replay` over a text and a draw, whose replies have 84 and 406 bytes, and says whether the
+/// status is this one and so many of the replies' bytes were written.
+fn ends_after(
+    alloc: Global,
+    outside: Outside,
+    ending: (Status, u8),
+    bytes: usize,
+) -> Result<bool, Fail> {
     let input = joined(alloc, &[TEXT, DRAW])?;
-    let wanted = joined(alloc, &[RUN_1, JOB])?;
-    for call in 1..6 {
+    let replies = joined(alloc, &[RUN_1, JOB])?;
+    let (status, written) = replayed(alloc, &input, outside)?;
+    let wanted = replies
+        .get(..bytes)
+        .ok_or("more bytes than the replies have")?;
+    Ok((status, status.code()) == ending && written.as_slice() == wanted)
+}
+
+#[test]
+fn a_failed_read_ends_the_run(rt: HostRuntime) -> Result<(), Fail> {
+    let failed = (Status::ReadFault, 1);
+    // Four reads of 50 bytes at most take the 165 bytes, and the fifth tells the end.
+    let rows = [
+        (1, failed, 0),
+        (2, failed, 0),
+        (3, failed, 84),
+        (4, failed, 84),
+        (5, failed, 490),
+        (6, (Status::Finished, 0), 490),
+    ];
+    for (call, ending, bytes) in rows {
         let outside = Outside {
             read: 50,
             failing_reads: &[call],
             ..PLAIN
         };
-        let (status, written) = replayed(alloc, &input, outside)?;
-        let bytes = [0, 0, 84, 84, wanted.len()][(call - 1) as usize];
-        assert_eq!(rt;
-            (status, status.code()),
-            (Status::ReadFault, 1),
-            "at read {call}"
-        );
-        assert_eq!(rt;
-            written.as_slice(),
-            wanted.split_at(bytes.min(wanted.len())).0,
-            "at read {call}"
-        );
+        let as_told = ends_after(rt.alloc(), outside, ending, bytes)?;
+        assert!(rt; as_told, "at read {call}");
     }
-    for call in 1..6 {
+    Ok(())
+}
+
+#[test]
+fn a_failed_write_ends_the_run(rt: HostRuntime) -> Result<(), Fail> {
+    let failed = (Status::WriteFault, 3);
+    // One write of at most 100 bytes for the first reply, five for the second.
+    let rows = [
+        (1, failed, 0),
+        (2, failed, 84),
+        (3, failed, 184),
+        (4, failed, 284),
+        (5, failed, 384),
+        (6, failed, 484),
+        (7, (Status::Finished, 0), 490),
+    ];
+    for (call, ending, bytes) in rows {
         let outside = Outside {
             write: 100,
             failing_writes: &[call],
             ..PLAIN
         };
-        let (status, written) = replayed(alloc, &input, outside)?;
-        let bytes = [0, 84, 184, 284, 384][(call - 1) as usize];
-        assert_eq!(rt;
-            (status, status.code()),
-            (Status::WriteFault, 3),
-            "at write {call}"
-        );
-        assert_eq!(rt;
-            written.as_slice(),
-            wanted.split_at(bytes.min(wanted.len())).0,
-            "at write {call}"
-        );
+        let as_told = ends_after(rt.alloc(), outside, ending, bytes)?;
+        assert!(rt; as_told, "at write {call}");
+    }
+    Ok(())
+}
+
+#[test]
+fn a_sink_may_take_one_byte_at_a_time(rt: HostRuntime) -> Result<(), Fail> {
+    let failed = (Status::WriteFault, 3);
+    for bytes in 0..490 {
+        let call = bytes as u64 + 1;
+        let outside = Outside {
+            write: 1,
+            failing_writes: &[call],
+            ..PLAIN
+        };
+        let as_told = ends_after(rt.alloc(), outside, failed, bytes)?;
+        assert!(rt; as_told, "at write {call}");
     }
     let outside = Outside {
         failing_writes: &[1],
         ..PLAIN
     };
-    let (status, written) = ran(alloc, &[], TEXT, outside)?;
+    let (status, written) = ran(rt.alloc(), &[], TEXT, outside)?;
     assert_eq!(rt; status, Status::Usage);
     assert_eq!(rt; written.len(), 0);
     Ok(())

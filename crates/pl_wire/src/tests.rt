@@ -1,6 +1,4 @@
-use crate::{
-    HttpFault, MEMORY_REPLY, Message, Next, fault_reply, memory_reply, next_request, reply_bytes,
-};
+use crate::{HttpFault, Message, Next, fault_reply, memory_reply, next_request, reply_bytes};
 use pl_base::{Digest, List};
 use pl_core::{Body, Json, JsonMember, Reply, Request};
 use std::alloc::Global;
@@ -237,9 +235,11 @@ fn writes_other_replies(rt: HostRuntime) -> Result<(), Fail> {
         "HTTP/1.1 200 OK\r\nContent-Type: text/plain\r\nContent-Length: 5\r\n\r\na: 1\n",
     )?;
     assert!(rt; sent);
-    let memory = reply_bytes(alloc, &Reply::refusal(alloc, 507, "memory")?)?;
-    assert_eq!(rt; memory.as_slice(), MEMORY_REPLY);
-    assert_eq!(rt; memory_reply(), MEMORY_REPLY);
+    let want =
+        "HTTP/1.1 507 Insufficient Storage\r\nContent-Type: application/json\r\nContent-Length: 17\r\n\r\n{\"rule\":\"memory\"}";
+    let sent = is_sent(alloc, &Reply::refusal(alloc, 507, "memory")?, want)?;
+    assert!(rt; sent);
+    assert_eq!(rt; memory_reply(), want.as_bytes());
     Ok(())
 }
 
