@@ -1,0 +1,5 @@
+pub mod Bound
+pub mod Matching
+pub mod Changing
+pub mod Pieces
+pub mod Formatting
