@@ -1,4 +1,1 @@
-pub mod LineLemmas
-pub mod ScriptLemmas
-pub mod SpellingLemmas
-pub mod StepLemmas
+pub mod Laws

@@ -1,3 +1,9 @@
-pub mod Reads
-pub mod Spelling
-pub mod StepList
+pub mod BlockScalars
+pub mod Content
+pub mod Heads
+pub mod Inline
+pub mod Keys
+pub mod Nodes
+pub mod Plain
+pub mod Reading
+pub mod Spells

@@ -2,25 +2,8 @@ ghost use Rattle.std.specs.Prelude.{◌≡◌};
 ghost use Rattle.pl_yaml.specs.declared.fault.YamlFault.TheVariants.{Memory};
 
 use pl_base::Place;
+use pl_line::YamlCode;
 use std::alloc::{AllocError, AllocFailed};
-
-/// Why a text isn't in the profile of YAML 1.2.2 that this project reads.
-#[derive(Clone, Copy, Debug, PartialEq, Eq)]
-pub enum YamlCode {
-    NotUtf8,
-    TabIndent,
-    Anchor,
-    Tag,
-    ComplexKey,
-    Documents,
-    BadIndent,
-    Unclosed,
-    BadEscape,
-    DuplicateKey,
-    TooDeep,
-    TooLarge,
-    NoEntry,
-}
 
 /// A text that isn't read: the fault and its place, or want of memory.
 #[derive(Debug, Drop, PartialEq, Eq)]

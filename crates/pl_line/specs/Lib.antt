@@ -1,0 +1,7 @@
+pub mod Flow
+pub mod Left
+pub mod Quoted
+pub mod Reading
+pub mod Rows
+pub mod Scanning
+pub mod Trees

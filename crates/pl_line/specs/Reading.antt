@@ -1,0 +1,28 @@
+-- Reading from left to right: a value, or the first fault.
+use Rattle.std.specs.Prelude.{◌≡◌, ℕ, ◌+◌, Result, Ok, Err}
+use Rattle.pl_line.specs.declared.code.YamlCode.{YamlCode}
+use Rattle.pl_line.specs.declared.line_fault.Fault.{Fault}
+use Rattle.pl_line.specs.declared.line_fault.ReadFault.{ReadFault}
+use Rattle.pl_line.specs.declared.line_fault.ReadFault.TheVariants as faults
+use Rattle.pl_line.specs.Rows.{Row}
+
+infixl 10 ◌>>=◌
+abbrev pub ◌>>=◌ : {A B : Type 0} → Result A Fault → (A → Result B Fault) → Result B Fault
+(Ok x) >>= f = f x
+(Err fault) >>= f = Err fault
+
+-- what a function answered, seen by a view, is what reading gives, unless memory ran out
+abbrev pub Fails : {Y : Type 0} → ReadFault → Result Y Fault → Type 0
+Fails faults.Memory read = Unit {0}
+Fails (faults.Refused fault) read = read ≡ Err fault
+
+abbrev pub Gives : {X Y : Type 0} → (X → Y) → Result X ReadFault → Result Y Fault → Type 0
+Gives view (Ok x) read = read ≡ Ok (view x)
+Gives view (Err e) read = Fails e read
+
+-- a fault at a row's column, and at its end
+abbrev pub fault_at : YamlCode → Row → Fault
+fault_at code row = record { code = code; line = row.number; column = row.column }
+
+abbrev pub fault_behind : YamlCode → ℕ → Row → Fault
+fault_behind code n row = record { code = code; line = row.number; column = row.column + n }

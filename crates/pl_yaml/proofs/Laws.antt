@@ -1,0 +1,6 @@
+pub mod BlockScalars
+pub mod Bytes
+pub mod Content
+pub mod Many
+pub mod Plain
+pub mod Texts

@@ -1,0 +1,139 @@
+-- One after the other, as a loop values them.
+use Rattle.std.proofs.Common.{◌≡◌, ℕ, zero, suc, ◌+◌, ◌-◌, ◌<◌, List, [], ◌∷◌, ◌++◌, Option, Some, None, Result, Ok, Err, refl, sym, ap, ◌∙◌, arith}
+use Rattle.pl_base.specs.declared.place.FileKey.{FileKey}
+use Rattle.pl_base.specs.declared.node.Node.{Node}
+use Rattle.pl_base.specs.declared.node.NodeBody.TheVariants.{Seq, Map}
+use Rattle.pl_base.specs.declared.node.NodePair.{NodePair}
+use Rattle.pl_line.specs.declared.code.YamlCode.TheVariants as codes_of
+use Rattle.pl_line.specs.declared.line_fault.Fault.{Fault}
+use Rattle.pl_line.specs.declared.line_fault.ReadFault.{ReadFault}
+use Rattle.pl_line.specs.declared.line_fault.ReadFault.TheVariants as faults
+use Rattle.pl_line.specs.Rows.{Row, size}
+use Rattle.pl_yaml.specs.Reading.{Read, many, many_step}
+use Rattle.pl_line.specs.Reading.{◌>>=◌, Fails, fault_at}
+use Rattle.pl_line.specs.Trees.{node_at}
+use Rattle.pl_yaml.specs.Keys.{FoundKey, next_key}
+use Rattle.pl_yaml.specs.Nodes.{Values, values_at, inner, node, next_item, item, items, sequence, sequence_of, pair, pairs, mapping, mapping_of}
+
+-- in a collection one less may open
+pub inner_some : (file : FileKey) (depth : ℕ) → (depth ≡ 0 → ⊥) → inner file depth ≡ Some (values_at file (depth - 1))
+unfolding inner node
+inner_some file zero more = absurd (more refl)
+inner_some file (suc depth) more = let e : suc depth - 1 ≡ depth = omega arith in rw e refl
+
+pub inner_none : (file : FileKey) (depth : ℕ) → depth ≡ 0 → inner file depth ≡ None
+unfolding inner
+inner_none file depth shut = ap (inner file) shut
+
+pub sequence_shuts : (file : FileKey) (depth parent : ℕ) (row : Row) (rows : List Row) (e : ReadFault) → depth ≡ 0 → e ≡ faults.Refused (fault_at codes_of.TooDeep row)
+    → Fails e (sequence file (inner file depth) parent row rows)
+unfolding sequence
+sequence_shuts file depth parent row rows e shut is = rw is (ap (λ i. sequence file i parent row rows) (inner_none file depth shut))
+
+pub mapping_shuts : (file : FileKey) (depth : ℕ) (row : Row) (rows : List Row) (e : ReadFault) → depth ≡ 0 → e ≡ faults.Refused (fault_at codes_of.TooDeep row)
+    → Fails e (mapping file (inner file depth) row rows)
+unfolding mapping
+mapping_shuts file depth row rows e shut is = rw is (ap (λ i. mapping file i row rows) (inner_none file depth shut))
+
+pub sequence_opens : (file : FileKey) (depth parent : ℕ) (row : Row) (rows : List Row) → (depth ≡ 0 → ⊥)
+    → sequence file (inner file depth) parent row rows ≡ sequence_of file (values_at file (depth - 1)) parent row rows
+unfolding sequence
+sequence_opens file depth parent row rows more = ap (λ i. sequence file i parent row rows) (inner_some file depth more)
+
+pub mapping_opens : (file : FileKey) (depth : ℕ) (row : Row) (rows : List Row) → (depth ≡ 0 → ⊥)
+    → mapping file (inner file depth) row rows ≡ mapping_of file (values_at file (depth - 1)) row rows
+unfolding mapping
+mapping_opens file depth row rows more = ap (λ i. mapping file i row rows) (inner_some file depth more)
+
+-- what fails here, fails on the whole
+pub fails_along : {A B : Type 0} (e : ReadFault) (part : Result A Fault) (whole : Result B Fault) → ((fault : Fault) → part ≡ Err fault → whole ≡ Err fault) → Fails e part → Fails e whole
+fails_along faults.Memory part whole along fails = tt
+fails_along (faults.Refused fault) part whole along fails = along fault fails
+
+module _ {X A : Type 0} (here : List Row → Read (Option X)) (one : List A → X → List Row → Read A) where
+  pub many_stops : (turns : ℕ) (before : List A) (rows : List Row) (fault : Fault) → 0 < turns → here rows ≡ Err fault → many here one turns before rows ≡ Err fault
+  unfolding many
+  many_stops zero before rows fault some is = absurd (omega arith)
+  many_stops (suc turns) before rows fault some is = ap (λ r. r >>= λ found. many_step (many here one turns) one before found.0 found.1) is
+
+  pub many_ends : (turns : ℕ) (before : List A) (rows left : List Row) → 0 < turns → here rows ≡ Ok (None, left) → many here one turns before rows ≡ Ok (before, left)
+  unfolding many
+  many_ends zero before rows left some is = absurd (omega arith)
+  many_ends (suc turns) before rows left some is = ap (λ r. r >>= λ found. many_step (many here one turns) one before found.0 found.1) is
+
+  pub many_breaks : (turns : ℕ) (before : List A) (rows left : List Row) (x : X) (fault : Fault) → 0 < turns → here rows ≡ Ok (Some x, left) → one before x left ≡ Err fault
+      → many here one turns before rows ≡ Err fault
+  unfolding many
+  many_breaks zero before rows left x fault some is broken = absurd (omega arith)
+  many_breaks (suc turns) before rows left x fault some is broken =
+      ap (λ r. r >>= λ found. many_step (many here one turns) one before found.0 found.1) is ∙ ap (λ r. r >>= λ next. many here one turns (before ++ next.0 ∷ []) next.1) broken
+
+  pub many_goes : (turns : ℕ) (before : List A) (rows left rest : List Row) (x : X) (a : A) → 0 < turns → here rows ≡ Ok (Some x, left) → one before x left ≡ Ok (a, rest)
+      → many here one (turns - 1) (before ++ a ∷ []) rest ≡ many here one turns before rows
+  unfolding many
+  many_goes zero before rows left rest x a some is read = absurd (omega arith)
+  many_goes (suc turns) before rows left rest x a some is read =
+      let e : suc turns - 1 ≡ turns = omega arith in
+      ap (λ t. many here one t (before ++ a ∷ []) rest) e
+      ∙ sym (ap (λ r. r >>= λ found. many_step (many here one turns) one before found.0 found.1) is ∙ ap (λ r. r >>= λ next. many here one turns (before ++ next.0 ∷ []) next.1) read)
+
+-- the same for the two collections: `start` is what was left before the first entry
+module _ (file : FileKey) (values : Values) (parent : ℕ) (row : Row) (start : List Row) (turns : ℕ) (before : List Node) (rows : List Row)
+    (some : 0 < turns) (same : items file values parent row.column turns before rows ≡ items file values parent row.column (size start + 1) [] start) where
+  pub items_stop : (e : ReadFault) → Fails e (next_item parent row.column rows) → Fails e (sequence_of file values parent row start)
+  items_stop e fails =
+      fails_along e (next_item parent row.column rows) (sequence_of file values parent row start)
+      (λ fault is. ap (λ r. r >>= λ read. Ok (node_at file row (Seq read.0), read.1))
+      (sym same ∙ many_stops (next_item parent row.column) (λ _ r left. item file values r left) turns before rows fault some is))
+      fails
+
+  pub items_break : (left : List Row) (x : Row) (e : ReadFault) → next_item parent row.column rows ≡ Ok (Some x, left) → Fails e (item file values x left)
+      → Fails e (sequence_of file values parent row start)
+  items_break left x e found fails =
+      fails_along e (item file values x left) (sequence_of file values parent row start)
+      (λ fault is. ap (λ r. r >>= λ read. Ok (node_at file row (Seq read.0), read.1))
+      (sym same ∙ many_breaks (next_item parent row.column) (λ _ r rest. item file values r rest) turns before rows left x fault some found is))
+      fails
+
+  pub items_end : (left : List Row) (made : Node) → next_item parent row.column rows ≡ Ok (None, left) → made ≡ node_at file row (Seq before)
+      → sequence_of file values parent row start ≡ Ok (made, left)
+  items_end left made none is =
+      ap (λ r. r >>= λ read. Ok (node_at file row (Seq read.0), read.1))
+      (sym same ∙ many_ends (next_item parent row.column) (λ _ r rest. item file values r rest) turns before rows left some none)
+      ∙ ap (λ n. Ok (n, left)) (sym is)
+
+  pub items_go : (left rest : List Row) (x : Row) (a : Node) (after : List Node) → next_item parent row.column rows ≡ Ok (Some x, left) → item file values x left ≡ Ok (a, rest) → after ≡ before ++ a ∷ []
+      → items file values parent row.column (turns - 1) after rest ≡ items file values parent row.column (size start + 1) [] start
+  items_go left rest x a after found read is =
+      ap (λ b. items file values parent row.column (turns - 1) b rest) is
+      ∙ many_goes (next_item parent row.column) (λ _ r left. item file values r left) turns before rows left rest x a some found read ∙ same
+
+module _ (file : FileKey) (values : Values) (row : Row) (start : List Row) (turns : ℕ) (before : List NodePair) (rows : List Row)
+    (some : 0 < turns) (same : pairs file values row.column turns before rows ≡ pairs file values row.column (size start + 1) [] start) where
+  pub pairs_stop : (e : ReadFault) → Fails e (next_key file values.depth row.column rows) → Fails e (mapping_of file values row start)
+  pairs_stop e fails =
+      fails_along e (next_key file values.depth row.column rows) (mapping_of file values row start)
+      (λ fault is. ap (λ r. r >>= λ read. Ok (node_at file row (Map read.0), read.1))
+      (sym same ∙ many_stops (next_key file values.depth row.column) (pair file values) turns before rows fault some is))
+      fails
+
+  pub pairs_break : (left : List Row) (x : FoundKey) (e : ReadFault) → next_key file values.depth row.column rows ≡ Ok (Some x, left) → Fails e (pair file values before x left)
+      → Fails e (mapping_of file values row start)
+  pairs_break left x e found fails =
+      fails_along e (pair file values before x left) (mapping_of file values row start)
+      (λ fault is. ap (λ r. r >>= λ read. Ok (node_at file row (Map read.0), read.1))
+      (sym same ∙ many_breaks (next_key file values.depth row.column) (pair file values) turns before rows left x fault some found is))
+      fails
+
+  pub pairs_end : (left : List Row) (made : Node) → next_key file values.depth row.column rows ≡ Ok (None, left) → made ≡ node_at file row (Map before)
+      → mapping_of file values row start ≡ Ok (made, left)
+  pairs_end left made none is =
+      ap (λ r. r >>= λ read. Ok (node_at file row (Map read.0), read.1))
+      (sym same ∙ many_ends (next_key file values.depth row.column) (pair file values) turns before rows left some none)
+      ∙ ap (λ n. Ok (n, left)) (sym is)
+
+  pub pairs_go : (left rest : List Row) (x : FoundKey) (a : NodePair) (after : List NodePair) → next_key file values.depth row.column rows ≡ Ok (Some x, left) → pair file values before x left ≡ Ok (a, rest) → after ≡ before ++ a ∷ []
+      → pairs file values row.column (turns - 1) after rest ≡ pairs file values row.column (size start + 1) [] start
+  pairs_go left rest x a after found read is =
+      ap (λ b. pairs file values row.column (turns - 1) b rest) is
+      ∙ many_goes (next_key file values.depth row.column) (pair file values) turns before rows left rest x a some found read ∙ same
