@@ -1,0 +1,18 @@
+//! Evaluation of expressions: values that keep where they come from, and the first fault.
+#![tactic(auto)]
+
+mod applied;
+mod apply;
+mod evaluate;
+mod fault;
+mod look_ups;
+mod manner;
+mod names;
+mod projecting;
+#[cfg(test)]
+mod tests;
+mod texts;
+
+pub use evaluate::eval;
+pub use fault::{EvalCode, EvalFault};
+pub use names::Names;
