@@ -2,6 +2,8 @@
 
 ghost use Rattle.std.specs.Prelude.{Some, min, ◌+◌, refl};
 
+mod step_lists;
+
 use crate::outfit::Outfit;
 use crate::run::run;
 use crate::status::Status;
