@@ -114,7 +114,7 @@ pub fn apply_two(
         Function::Ge => Ok(Value::Bool(compare(alloc, left, right)?.is_ge())),
         Function::Contains => {
             let (text, sought) = cast_both(alloc, left, right)?;
-            Ok(Value::Bool(contains(&text, &sought)))
+            Ok(Value::Bool(contains(alloc, &text, &sought)?))
         }
         Function::StartsWith => {
             let (text, sought) = cast_both(alloc, left, right)?;

@@ -4,4 +4,5 @@ pub mod Bytes
 pub mod Replacing
 pub mod Cutting
 pub mod Characters
+pub mod Contained
 pub mod Filling

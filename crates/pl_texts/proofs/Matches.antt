@@ -1,13 +1,13 @@
 -- Texts that stand at the front of others, the case of letters aside.
-use Rattle.std.proofs.Common.{◌≡◌, ◌↔◌, ℕ, ◌+◌, ◌-◌, ◌<◌, Bool, true, false, ◌||◌, nat_eq, IsTrue, List, length, take, drop, map, ap, sym, ◌∙◌}
+use Rattle.std.proofs.Common.{◌≡◌, ◌↔◌, ℕ, ◌-◌, Bool, nat_eq, IsTrue, List, length, take, drop, map, ap, sym, ◌∙◌}
 use Rattle.std.specs.Char.{to_ascii_lowercase}
 use Rattle.std.specs.Cmp.Lexicographic.{pointwise}
-use Rattle.std.proofs.lemmas.List.{length-map, take-map, drop-map, at_drop_more}
+use Rattle.std.proofs.lemmas.List.{length-map, take-map, drop-map}
 use Rattle.std.proofs.lemmas.Bool.Decides.{same_from_decides}
 use Rattle.std.proofs.lemmas.Slice.Eq.{bytes_eq-Decides}
 use Rattle.pl_base.specs.Folding.{folded}
 use Rattle.pl_base.proofs.Cases.{alike}
-use Rattle.pl_texts.specs.Matching.{begins, ends, holds}
+use Rattle.pl_texts.specs.Matching.{begins, ends}
 
 -- one text in lower case is the other exactly where it is so in upper case
 same_folded : (r : Bool) (left right : List ℕ) → IsTrue r ↔ (map to_ascii_lowercase left ≡ map to_ascii_lowercase right) → r ≡ pointwise nat_eq (folded right) (folded left)
@@ -23,14 +23,3 @@ begins_at_front r text sought test =
 pub ends_at_end : (r : Bool) (text sought end : List ℕ) → end ≡ drop (length text - length sought) text → IsTrue r ↔ (map to_ascii_lowercase end ≡ map to_ascii_lowercase sought) → r ≡ ends (folded text) (folded sought)
 ends_at_end r text sought end end_is test =
     same_folded r end sought test ∙ ap (λ end. pointwise nat_eq (folded sought) end) (ap folded end_is ∙ sym (ap (λ count. drop count (folded text)) (ap (λ n. n - length (folded sought)) (length-map text _) ∙ ap (λ n. length text - n) (length-map sought _)) ∙ drop-map _ (length text - length sought) text))
-
--- one place further on
-pub holds_later : (text sought rest : List ℕ) (front : ℕ) → front < length text → rest ≡ drop front text → false ≡ begins (folded rest) (folded sought) → holds (folded (drop front text)) (folded sought) ≡ holds (folded (drop (front + 1) text)) (folded sought)
-holds_later text sought rest front within rest_is not_here =
-    let not_first = not_here ∙ ap (λ rest. begins (folded rest) (folded sought)) rest_is ∙ at_drop_more (λ rest. begins (folded rest) (folded sought)) text front 0 within in
-    at_drop_more (λ rest. holds (folded rest) (folded sought)) text front 0 within ∙ ap (λ first. first || holds (folded (drop (front + 1) text)) (folded sought)) (sym not_first)
-
-pub holds_here : (text sought rest : List ℕ) (front : ℕ) → front < length text → rest ≡ drop front text → true ≡ begins (folded rest) (folded sought) → holds (folded (drop front text)) (folded sought) ≡ true
-holds_here text sought rest front within rest_is here =
-    let first = here ∙ ap (λ rest. begins (folded rest) (folded sought)) rest_is ∙ at_drop_more (λ rest. begins (folded rest) (folded sought)) text front 0 within in
-    at_drop_more (λ rest. holds (folded rest) (folded sought)) text front 0 within ∙ ap (λ first. first || holds (folded (drop (front + 1) text)) (folded sought)) (sym first)

@@ -46,7 +46,7 @@ fn looks_for_texts_without_case(rt: HostRuntime) -> Result<(), Fail> {
     for (text, sought, held, begun, ended, characters) in rows {
         let whole = Text::from_str(alloc, text)?;
         let part = Text::from_str(alloc, sought)?;
-        assert_eq!(rt; contains(&whole, &part), held, "{text} {sought}");
+        assert_eq!(rt; contains(alloc, &whole, &part)?, held, "{text} {sought}");
         assert_eq!(rt; starts_with(&whole, &part), begun, "{text} {sought}");
         assert_eq!(rt; ends_with(&whole, &part), ended, "{text} {sought}");
         assert_eq!(rt; count(&whole), characters, "{text}");
