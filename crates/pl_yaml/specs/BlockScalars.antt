@@ -62,8 +62,8 @@ within_column column (row ∷ rows) =
     if is_bare row then (if nat_lt column row.column then Err (fault_at codes_of.BadIndent row) else within_column column rows)
     else Ok tt
 
--- The column at which a block scalar's content begins, held by a block of that column. A digit counts from the block; without one the first line that isn't
--- blank tells it, where it is deeper than the block: else there is no content.
+-- The column at which a block scalar's content begins, held by a block of that column. A digit counts from the block's column, at the top from
+-- column 1. Without one, the first line that isn't blank tells it, where it is deeper than the block; else there is no content.
 abbrev pub found_column : ℕ → ℕ → List Row → Result (Option ℕ) Fault
 found_column parent column rows = if nat_lt parent column then (within_column column rows >>= λ _. Ok (Some column)) else Ok None
 
@@ -96,13 +96,14 @@ line_from column row is_broken = record { text = text_from column row; broken = 
 abbrev pub inside : Row → Result Unit Fault
 inside row = if is_marker row then Err (fault_at codes_of.Documents row) else line_end row
 
+abbrev pub line_before : Option ℕ → Row → Read (List TextLine) → List Row → Read (List TextLine)
+line_before column row more rows = inside row >>= λ _. more >>= λ read. Ok (line_from column row (has_row rows) ∷ read.0, read.1)
+
 -- the lines of a block scalar, up to the first other line
 unfoldable pub lines : Option ℕ → List Row → Read (List TextLine)
 lines column [] = Ok ([], [])
 lines column (row ∷ rows) =
-    if is_bare row || reaches column row then (inside row
-    >>= λ _. lines column rows
-    >>= λ read. Ok (line_from column row (has_row rows) ∷ read.0, read.1))
+    if is_bare row || reaches column row then line_before column row (lines column rows) rows
     else Ok ([], row ∷ rows)
 
 abbrev pub is_void : TextLine → Bool

@@ -28,6 +28,14 @@ continued_by n row = if begins_with 58 (drop n row.text) then Err (fault_behind 
 abbrev pub continued : Row → Result ℕ Fault
 continued row = continued_by (plain_len row.whole false row.text) row
 
+-- A line that continues a plain scalar adds the breaks before it, behind a line of that number, its own characters, and what further lines add, unless a
+-- comment stands behind it.
+abbrev pub adds : ℕ → Row → Read (List ℕ) → List Row → Read (List ℕ)
+adds last row more rows =
+    continued row
+    >>= λ n. (if n == length row.text then more else Ok ([], rows))
+    >>= λ read. Ok (folded (row.number - last - 1) ++ (part n row ++ read.0), read.1)
+
 -- What further lines add to a plain scalar, which is held by a block of that column, behind its line of that number. They are deeper than the block; lines
 -- of blanks between them are empty lines; a comment ends the scalar.
 unfoldable pub further : ℕ → ℕ → List Row → Read (List ℕ)
@@ -35,12 +43,7 @@ further parent last [] = Ok ([], [])
 further parent last (row ∷ rows) =
     if is_bare row then further parent last rows
     else if is_comment row then Ok ([], row ∷ rows)
-    else (stands row >>= λ _.
-    if nat_lt parent row.column then
-    (continued row
-    >>= λ n. (if n == length row.text then further parent row.number rows else Ok ([], rows))
-    >>= λ read. Ok (folded (row.number - last - 1) ++ (part n row ++ read.0), read.1))
-    else Ok ([], row ∷ rows))
+    else (stands row >>= λ _. if nat_lt parent row.column then adds last row (further parent row.number rows) rows else Ok ([], row ∷ rows))
 
 -- characters behind bytes, as UTF-8
 abbrev pub behind_bytes : List ℕ → Read (List ℕ) → Read (List ℕ)

@@ -132,7 +132,11 @@ fn folded_lines(rt: HostRuntime) -> Result<(), Fail> {
 // What becomes of the breaks at the end.
 #[test]
 fn chomping(rt: HostRuntime) -> Result<(), Fail> {
-    let rows: [(&[u8], &str); 30] = [
+    let rows: [(&[u8], &str); 31] = [
+        (
+            b"a: one\n  two\n\n  three\nb: |+\n  x\n\nc: |\n  y",
+            "1:1{a@1:1=1:4'one two\nthree',b@5:1=5:4'x\n\n',c@8:1=8:4'y'}",
+        ),
         (b"a: |\n  one\n\n\n", "1:1{a@1:1=1:4'one\n'}"),
         (b"a: |-\n  one\n", "1:1{a@1:1=1:4'one'}"),
         (b"a: |-\n  one\n\n\n", "1:1{a@1:1=1:4'one'}"),
