@@ -25,15 +25,15 @@ behind_some names i d node next within there = at_drop_more (λ rest. member_beh
 pub behind_none : (names : List (List ℕ)) (i : ℕ) (d : List ℕ) (node : MarkedNode) → i < length names → member (get_or names i d) node.value ≡ None → member_behind (drop i names) node ≡ None
 behind_none names i d node within lacking = at_drop_more (λ rest. member_behind rest node) names i d within ∙ rw lacking refl
 
+pub slice_get_is : {X : Type 0} (xs : List X) (i : ℕ) (d : X) → i < length xs → slice_get xs i ≡ Some (get_or xs i d)
+slice_get_is [] i d within = absurd (omega (arith, within))
+slice_get_is (x ∷ xs) zero d within = refl
+slice_get_is (x ∷ xs) (suc i) d within = slice_get_is xs i d (omega (arith, within))
+
 pub found_at : {X : Type 0} (p : X → Bool) (xs : List X) (i : ℕ) (x : X) → i < length xs → x ≡ get_or xs i x → p x ≡ true → find p xs ≡ find p (drop i xs) → find p xs ≡ slice_get xs i
 found_at p xs i x within is passes walked =
     let here : p (get_or xs i x) ≡ true = ap p (sym is) ∙ passes in
     walked ∙ (find_drop_yes p xs i x within here ∙ sym (slice_get_is xs i x within))
-  where
-    slice_get_is : {X : Type 0} (xs : List X) (i : ℕ) (d : X) → i < length xs → slice_get xs i ≡ Some (get_or xs i d)
-    slice_get_is [] i d within = absurd (omega (arith, within))
-    slice_get_is (x ∷ xs) zero d within = refl
-    slice_get_is (x ∷ xs) (suc i) d within = slice_get_is xs i d (omega (arith, within))
 
 pub filtered_some : {X Y : Type 0} (h : X → Option Y) (xs : List X) (x : X) (y : Y) (old new : List Y) → old ≡ filter_map h xs → Some y ≡ h x → new ≡ old ++ y ∷ [] → new ≡ filter_map h (xs ++ x ∷ [])
 filtered_some h xs x y old new walked there grown =

@@ -1,6 +1,7 @@
 -- Names in memory: roots in a list as a finite map, and results by name.
-use Rattle.std.proofs.Common.{◌≡◌, ℕ, zero, suc, ◌+◌, ◌<◌, Bool, true, false, Option, Some, None, List, [], ◌∷◌, length, map, get_or, drop, refl, ap, sym, ◌∙◌}
-use Rattle.std.specs.Prelude.{nat_eq, ◌&&◌, cond}
+use Rattle.std.proofs.Common.{◌≡◌, ℕ, zero, suc, ◌+◌, ◌<◌, Bool, true, false, Option, Some, None, List, [], ◌∷◌, length, map, get_or, drop, refl, ap, sym, ◌∙◌, arith}
+use Rattle.std.specs.Prelude.{nat_eq, ◌&&◌, cond, slice_get}
+use Rattle.std.proofs.lemmas.Bool.Decides.{nat_tests}
 use Rattle.std.specs.Option.{option_map}
 use Rattle.std.specs.Ordering.{is_eq, nat_cmp}
 use Rattle.std.specs.Cmp.Lexicographic.{slice_cmp, pointwise}
@@ -14,6 +15,7 @@ use Rattle.pl_base.specs.declared.outcome.Outcome.{Outcome}
 use Rattle.pl_base.specs.declared.value.MarkedNode.{MarkedNode}
 use Rattle.pl_base.specs.declared.value.MarkedPair.{MarkedPair}
 use Rattle.pl_expr.proofs.Folding.{same_by_cmp}
+use Rattle.pl_eval.proofs.Finding.{slice_get_is}
 use Rattle.pl_eval.specs.Known.{same_name}
 use Rattle.pl_eval.specs.LookUps.{property}
 use Rattle.pl_eval.specs.Statuses.{result_named, results_named}
@@ -24,10 +26,7 @@ abbrev pub entry : MarkedPair → List ℕ × MarkedNode
 entry pair = (folded pair.key, pair.item)
 
 nat_swap : (m n : ℕ) → nat_eq m n ≡ nat_eq n m
-nat_swap zero zero = refl
-nat_swap zero (suc n) = refl
-nat_swap (suc m) zero = refl
-nat_swap (suc m) (suc n) = nat_swap m n
+nat_swap m n = grind (arith, nat_tests)
 
 pointwise_swap : (xs ys : List ℕ) → pointwise nat_eq xs ys ≡ pointwise nat_eq ys xs
 pointwise_swap [] [] = refl
@@ -50,6 +49,14 @@ entry_found (pair ∷ pairs) name =
 
 pub roots_found : (pairs : List MarkedPair) (name : List ℕ) → finite.get (finite.from_entries {R = text_cmp} (map entry pairs)) (folded name) ≡ property pairs name
 roots_found pairs name = finite.get-from_entries nat_list_cmp_total (map entry pairs) (folded name) ∙ entry_found pairs name
+
+pub root_there : (pairs : List MarkedPair) (name : List ℕ) (place : ℕ) (pair : MarkedPair) (node : MarkedNode) → place < length pairs → find (λ other. same_name name other.key) pairs ≡ slice_get pairs place → pair ≡ get_or pairs place pair → node ≡ pair.item → Some node ≡ finite.get (finite.from_entries {R = text_cmp} (map entry pairs)) (folded name)
+root_there pairs name place pair node within found is same =
+    let there : find (λ other. same_name name other.key) pairs ≡ Some pair = found ∙ (slice_get_is pairs place pair within ∙ ap (λ (x : MarkedPair). Some x) (sym is)) in
+    ap (λ (x : MarkedNode). Some x) same ∙ (sym (ap (λ (x : Option MarkedPair). option_map (λ other. other.item) x) there) ∙ sym (roots_found pairs name))
+
+pub root_missing : (pairs : List MarkedPair) (name : List ℕ) → find (λ other. same_name name other.key) pairs ≡ None → None ≡ finite.get (finite.from_entries {R = text_cmp} (map entry pairs)) (folded name)
+root_missing pairs name missing = sym (ap (λ (x : Option MarkedPair). option_map (λ other. other.item) x) missing) ∙ sym (roots_found pairs name)
 
 -- ---- results
 

@@ -3,7 +3,7 @@ ghost use Rattle.std.specs.List.{list_all, list_any};
 ghost use Rattle.std.specs.FinMap as finite;
 ghost use Rattle.pl_base.specs.declared.outcome.Outcome.{Outcome as Ended};
 ghost use Rattle.pl_eval.specs.Statuses.{went_well, went_wrong, was_run, result_named, results_named};
-ghost use Rattle.pl_eval.proofs.InMemory.{entry};
+ghost use Rattle.pl_base.specs.Folding.{folded};
 
 use crate::look_ups::{is_named, place_of};
 use crate::names::Names;
@@ -29,13 +29,12 @@ pub struct MemNames {
 
 impl Names for MemNames {
     ghost known = { λ names. record {
-      roots = finite.from_entries (map entry names.roots);
+      roots = finite.from_entries (map (λ pair. (folded pair.key, pair.item)) names.roots);
       canceled = names.canceled;
       all = names.all;
       named = map (λ pair. (pair.name, pair.outcome)) names.named;
     } };
 
-    #[tactic(auto, using(crate::proofs::InMemory::roots_found))]
     fn find(&self, alloc: Global, root: &Text) -> Result<Option<MarkedNode>, Memory> {
         match place_of(&self.roots, root) {
             Some(place) => Ok(Some(self.roots.as_slice()[place].item.copy(alloc)?)),

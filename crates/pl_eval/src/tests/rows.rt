@@ -1,5 +1,5 @@
 use super::world::{State, here, world};
-use super::{code_of, shown, shown_in};
+use super::{code_of, shown};
 use crate::{EvalFault, eval};
 use pl_base::{List, Memory, Text, Value};
 use pl_expr::{Expr, Function};
@@ -29,79 +29,6 @@ fn compares_by_the_left_value_and_fills_patterns(rt: HostRuntime) -> Result<(), 
             "{expression}"
         );
     }
-    Ok(())
-}
-
-/// What status functions answer, by how the dependencies stand.
-#[test]
-fn status_functions_look_at_results(rt: HostRuntime) -> Result<(), Fail> {
-    let alloc = rt.alloc();
-    let rows = [
-        (State::Well, "always()", "True@made"),
-        (State::Canceled, "always()", "True@made"),
-        (State::Well, "canceled()", "False@made"),
-        (State::Canceled, "canceled()", "True@made"),
-        (State::Well, "succeeded()", "True@made"),
-        (State::Canceled, "succeeded()", "False@made"),
-        (State::Failing, "succeeded()", "False@made"),
-        (State::Waiting, "succeeded()", "False@made"),
-        (State::Skipping, "succeeded()", "False@made"),
-        (State::Alone, "succeeded()", "True@made"),
-        (State::Well, "failed()", "False@made"),
-        (State::Failing, "failed()", "True@made"),
-        (State::Waiting, "failed()", "False@made"),
-        (State::Alone, "failed()", "False@made"),
-        (State::Failing, "succeededOrFailed()", "True@made"),
-        (State::Skipping, "succeededOrFailed()", "True@made"),
-        (State::Canceled, "succeededOrFailed()", "False@made"),
-        (State::Well, "succeeded('A')", "True@made"),
-        (State::Well, "succeeded('a', 'E')", "True@made"),
-        (State::Canceled, "succeeded('A')", "False@made"),
-        (State::Well, "succeeded('A', 'b')", "False@made"),
-        (State::Well, "succeeded('none')", "False@made"),
-        (State::Well, "failed('A')", "False@made"),
-        (State::Well, "failed('C', 'B')", "True@made"),
-        (State::Canceled, "failed('b')", "True@made"),
-        (State::Well, "failed('none')", "False@made"),
-        (State::Well, "succeededOrFailed('B')", "True@made"),
-        (State::Well, "succeededOrFailed('C', 'D')", "False@made"),
-        (State::Well, "succeededOrFailed('C', 'e')", "True@made"),
-        (State::Canceled, "succeededOrFailed('B')", "False@made"),
-        (State::Well, "failed(parameters.list)", "False@made"),
-        (State::Well, "failed('B', lt(1, 'x'))", "V1"),
-        (State::Well, "FAILED('B')", "True@made"),
-    ];
-    for (state, expression, expected) in rows {
-        assert_eq!(rt;
-            shown_in(alloc, state, expression)?.as_str(),
-            expected,
-            "{state:?} {expression}"
-        );
-    }
-    Ok(())
-}
-
-/// The text `'a'` in so many calls of `format` that each write their argument twice.
-fn doubled(alloc: Global, times: u32) -> Result<Text, Memory> {
-    let mut expression = Text::new(alloc);
-    for _ in 0..times {
-        expression.push_str("format('{0}{0}', ")?;
-    }
-    expression.push_str("'a'")?;
-    for _ in 0..times {
-        expression.push_str(")")?;
-    }
-    Ok(expression)
-}
-
-/// Sixteen doublings give 65,536 bytes, which is the bound.
-#[test]
-fn texts_are_bounded(rt: HostRuntime) -> Result<(), Fail> {
-    let alloc = rt.alloc();
-    let within = doubled(alloc, 16)?;
-    assert_eq!(rt; shown(alloc, within.as_str())?.as_str(), "'..65536'@made");
-    let past = doubled(alloc, 17)?;
-    assert_eq!(rt; shown(alloc, past.as_str())?.as_str(), "V4");
     Ok(())
 }
 

@@ -3,31 +3,27 @@ use super::{shown, shown_in};
 use pl_base::{Memory, Text};
 use std::alloc::Global;
 
-/// The first expression of a table that isn't shown as is expected, with what it is shown as; else the empty text.
-pub fn first_wrong(alloc: Global, rows: &[(&str, &str)]) -> Result<Text, Memory> {
-    for (expression, expected) in rows {
-        let told = shown(alloc, expression)?;
-        if told.as_str() != *expected {
-            return both(alloc, expression, told.as_str());
-        }
-    }
-    Ok(Text::new(alloc))
+/// The first line `EXPRESSION => EXPECTED` of a table whose expression isn't shown as is expected, with what it is shown
+/// as; else the empty text.
+pub fn first_wrong(alloc: Global, table: &str) -> Result<Text, Memory> {
+    first_wrong_in(alloc, State::Well, table)
 }
 
 /// The same over the world with other results of dependencies.
-pub fn first_wrong_in(alloc: Global, state: State, rows: &[(&str, &str)]) -> Result<Text, Memory> {
-    for (expression, expected) in rows {
-        let told = shown_in(alloc, state, expression)?;
-        if told.as_str() != *expected {
-            return both(alloc, expression, told.as_str());
+pub fn first_wrong_in(alloc: Global, state: State, table: &str) -> Result<Text, Memory> {
+    for line in table.lines() {
+        if !holds(alloc, state, line)? {
+            return Text::from_str(alloc, line);
         }
     }
     Ok(Text::new(alloc))
 }
 
-fn both(alloc: Global, expression: &str, told: &str) -> Result<Text, Memory> {
-    let mut text = Text::from_str(alloc, expression)?;
-    text.push_str(" is ")?;
-    text.push_str(told)?;
-    Ok(text)
+/// Whether a line holds in that world.
+fn holds(alloc: Global, state: State, line: &str) -> Result<bool, Memory> {
+    let Some((expression, expected)) = line.split_once(" => ") else {
+        return Ok(false);
+    };
+    let told = shown_in(alloc, state, expression)?;
+    Ok(told.as_str() == expected)
 }
