@@ -15,6 +15,22 @@ pub struct FileKey {
     pub path: Text,
 }
 
+impl FileKey {
+    /// A key of the same texts, whose copies share them.
+    pub fn shared(&self, alloc: Global) -> Result<FileKey, Memory>
+        ensures { IfOk result (λ key. key ≡ self.now) }
+    {
+        let repo = self.repo.shared(alloc)?;
+        let git_ref = self.git_ref.shared(alloc)?;
+        let path = self.path.shared(alloc)?;
+        Ok(FileKey {
+            repo,
+            git_ref,
+            path,
+        })
+    }
+}
+
 /// A place in a file: its line and its column, both from 1. Columns count Unicode scalar values.
 #[derive(Debug, Drop, PartialEq, Eq)]
 pub struct Place {

@@ -195,6 +195,23 @@ fn texts_hold_their_characters(rt: HostRuntime) -> Result<(), Fail> {
     Ok(())
 }
 
+/// A shared text and its copies are equal, and what is added to one of them doesn't show in another.
+#[test]
+fn shared_texts_are_texts_of_their_own(rt: HostRuntime) -> Result<(), Fail> {
+    let alloc = rt.alloc();
+    let first = Text::from_str(alloc, "size")?.shared(alloc)?;
+    let mut second = first.copy(alloc)?;
+    second.push_str("d")?;
+    let mut third = second.copy(alloc)?;
+    third.push_str("!")?;
+    assert_eq!(rt; first.as_str(), "size");
+    assert_eq!(rt; second.as_str(), "sized");
+    assert_eq!(rt; third.as_str(), "sized!");
+    let file = key(alloc, "app", "main", "/a.yml")?;
+    assert_eq!(rt; file.shared(alloc)?.copy(alloc)?, file);
+    Ok(())
+}
+
 #[test]
 fn texts_are_ordered_by_their_bytes(rt: HostRuntime) -> Result<(), Fail> {
     let alloc = rt.alloc();

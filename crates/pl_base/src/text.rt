@@ -9,23 +9,34 @@ use crate::exact_copy::ExactCopy;
 use crate::memory::Memory;
 use std::alloc::Global;
 use std::cmp::Ordering;
+use std::fmt;
 use std::marker::Model;
+use std::sync::Arc;
 
-/// UTF-8 text, which contracts see as the list of its bytes.
-#[derive(Debug, Drop)]
+/// UTF-8 text, which contracts see as the list of its bytes. Copies of a text that is shared keep its
+/// characters in one place.
+#[derive(Drop)]
 pub struct Text {
-    inner: String,
+    kept: Kept,
+}
+
+/// Where a text's characters are: its own, or shared with its copies.
+#[derive(Drop)]
+enum Kept {
+    Own(String),
+    Shared(Arc<String, Global>),
 }
 
 impl Model for Text {
-    ghost use Rattle.std.specs.Prelude.{List as list, ℕ, string_bytes};
+    ghost use Rattle.std.specs.Prelude.{List as list, ℕ};
     ghost use Rattle.std.specs.Coded.{coded_list, coded_ℕ};
+    ghost use Rattle.pl_base.specs.Texts.{bytes_of};
 
     ghost Value = { list ℕ };
 
     ghost coded = { coded_list coded_ℕ };
 
-    ghost view = { λ text. string_bytes text.inner };
+    ghost view = { λ text. bytes_of text.kept };
 }
 
 impl Text {
@@ -34,7 +45,7 @@ impl Text {
         ensures { result ≡ [] }
     {
         Text {
-            inner: String::new(alloc),
+            kept: Kept::Own(String::new(alloc)),
         }
     }
 
@@ -42,43 +53,57 @@ impl Text {
     pub fn from_str(alloc: Global, text: &str) -> Result<Text, Memory>
         ensures { IfOk result (λ copy. copy ≡ text.now) }
     {
-        let inner = String::from_str(alloc, text)?;
-        Ok(Text { inner })
+        let own = String::from_str(alloc, text)?;
+        Ok(Text::from_string(own))
     }
 
     /// The characters of a string, which it takes over. It takes no memory.
-    pub fn from_string(inner: String) -> Text
-        ensures { result ≡ string_bytes inner }
+    pub fn from_string(own: String) -> Text
+        ensures { result ≡ string_bytes own }
     {
-        Text { inner }
+        Text {
+            kept: Kept::Own(own),
+        }
+    }
+
+    /// A text of the same characters, whose copies share them.
+    pub fn shared(&self, alloc: Global) -> Result<Text, Memory>
+        ensures { IfOk result (λ text. text ≡ self.now) }
+    {
+        let own = String::from_str(alloc, self.as_str())?;
+        let kept = Kept::Shared(Arc::new(alloc, own)?);
+        Ok(Text { kept })
     }
 
     /// The text as std's string slice.
     pub fn as_str(&self) -> &str
         ensures { result.now ≡ self.now }
     {
-        self.inner.as_str()
+        match &self.kept {
+            Kept::Own(own) => own.as_str(),
+            Kept::Shared(shared) => shared.as_str(),
+        }
     }
 
     /// The text's bytes.
     pub fn as_bytes(&self) -> &[u8]
         ensures { result.now ≡ self.now }
     {
-        self.inner.as_str().as_bytes()
+        self.as_str().as_bytes()
     }
 
     /// How many bytes the text has.
     pub fn len(&self) -> usize
         ensures { result ≡ length self.now }
     {
-        self.inner.len()
+        self.as_str().len()
     }
 
     /// Whether the text has no character.
     pub fn is_empty(&self) -> bool
         ensures { IsTrue result ↔ (self.now ≡ []) }
     {
-        self.inner.is_empty()
+        self.as_str().is_empty()
     }
 
     /// Adds characters at the end. After Memory the text is as before.
@@ -86,14 +111,29 @@ impl Text {
         ensures ok { OnOk result (self.new ≡ self.old ++ more.now) }
         ensures err { OnErr result (self.new ≡ self.old) }
     {
-        self.inner.push_str(more)?;
+        match &mut self.kept {
+            Kept::Own(own) => own.push_str(more)?,
+            Kept::Shared(shared) => Arc::make_mut(shared)?.push_str(more)?,
+        }
         Ok(())
+    }
+}
+
+impl fmt::Debug for Text {
+    fn fmt<W: fmt::Write>(&self, f: &mut fmt::Formatter<W>) -> fmt::Result {
+        fmt::Debug::fmt(self.as_str(), f)
     }
 }
 
 impl ExactCopy for Text {
     fn copy(&self, alloc: Global) -> Result<Text, Memory> {
-        Text::from_str(alloc, self.inner.as_str())
+        match &self.kept {
+            Kept::Own(own) => Text::from_str(alloc, own.as_str()),
+            Kept::Shared(shared) => {
+                let kept = Kept::Shared(Arc::try_clone(shared)?);
+                Ok(Text { kept })
+            }
+        }
     }
 }
 
