@@ -1,5 +1,5 @@
 -- The status functions (Microsoft Learn, Azure Pipelines, "Expressions", Job status check functions).
-use Rattle.std.specs.Prelude.{ℕ, Bool, true, false, not, ◌&&◌, List, [], ◌∷◌, map, find, Option, Some, None}
+use Rattle.std.specs.Prelude.{ℕ, Bool, true, false, not, ◌&&◌, List, [], ◌∷◌, map, find, Option, Some}
 use Rattle.std.specs.Option.{option_map}
 use Rattle.std.specs.List.{list_all, list_any}
 use Rattle.pl_base.specs.declared.outcome.Outcome.{Outcome}

@@ -11,7 +11,6 @@ use Rattle.pl_texts.specs.declared.fault.TextFault.TheVariants.{Index}
 use Rattle.pl_texts.specs.Bound.{bounded, all_bounded}
 use Rattle.pl_texts.specs.Changing.{lowered, raised, replaced}
 use Rattle.pl_texts.specs.Formatting.{formatted}
-use Rattle.pl_texts.specs.Matching.{begins, ends, holds}
 use Rattle.pl_texts.specs.Pieces.{joined, pieces}
 use Rattle.pl_eval.specs.LookUps.{Opened, made}
 use Rattle.pl_eval.specs.declared.fault.EvalCode.{EvalCode}

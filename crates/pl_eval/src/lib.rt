@@ -9,6 +9,8 @@ mod look_ups;
 mod manner;
 mod names;
 mod projecting;
+#[cfg(test)]
+mod tests;
 mod texts;
 
 pub use evaluate::eval;

@@ -1,4 +1,4 @@
-use Rattle.std.proofs.Common.{◌≡◌, ◌∙◌, Ok, Err, ap, sym, subst, List, length, map, drop}
+use Rattle.std.proofs.Common.{◌∙◌, Ok, Err, ap, sym, subst, List, length, map, drop}
 use Rattle.std.proofs.lemmas.Result.{err_from_is_err_and}
 use Rattle.pl_base.specs.declared.value.MarkedNode.{MarkedNode}
 use Rattle.pl_expr.specs.Functions.{most_of}
@@ -111,3 +111,8 @@ evaluate_argument-returns-in-Some g t c =
 pub evaluate_argument-returns-in_ok-make-in-None : goal.evaluate_argument-returns-in_ok-make-in-None
 evaluate_argument-returns-in_ok-make-in-None g t c =
     argument_missing (means (g.N.Names.known c.args.names.now) c.args.here.now) c.args.here.now c.args.arguments.now c.args.at c.in-None.ensures.value ∙ ap (λ (n : MarkedNode). Ok n) (sym c.in_ok-make-in-None.ensures)
+
+pub evaluate-returns-in_err-look_up-in-Index : goal.evaluate-returns-in_err-look_up-in-Index
+evaluate-returns-in_err-look_up-in-Index g t c =
+    let p = err_from_is_err_and c.from_residual-in_err-look_up-in-Index.result c.from_residual-in_err-look_up-in-Index.ensures.1 in
+    rw (p.1, p.2) tt
