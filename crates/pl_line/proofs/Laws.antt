@@ -1,7 +1,11 @@
+pub mod Controls
 pub mod Cuts
+pub mod Ends
 pub mod Entries
 pub mod Faults
 pub mod Keys
+pub mod Left
 pub mod Lines
 pub mod Quotes
 pub mod Scanning
+pub mod Taking

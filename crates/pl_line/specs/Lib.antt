@@ -1,3 +1,4 @@
+pub mod Characters
 pub mod Flow
 pub mod Left
 pub mod Quoted

@@ -1,5 +1,5 @@
 -- Quoted scalars on one line (YAML 1.2.2, sections 5.7, 7.3.1 and 7.3.2).
-use Rattle.std.specs.Prelude.{ℕ, zero, suc, ◌+◌, ◌*◌, ◌<◌, ◌≤◌, Bool, ◌==◌, ◌&&◌, ◌||◌, nat_lt, List, [], ◌∷◌, ◌++◌, length, take, drop, Option, Some, None, Result, Ok, Err, if◌then◌else◌}
+use Rattle.std.specs.Prelude.{◌≡◌, ℕ, zero, suc, ◌+◌, ◌*◌, ◌<◌, ◌≤◌, Bool, ◌==◌, ◌&&◌, ◌||◌, nat_lt, List, [], ◌∷◌, ◌++◌, length, take, drop, Option, Some, None, Result, Ok, Err, if◌then◌else◌}
 use Rattle.std.specs.Char.{encode_utf8, digit_value}
 use Rattle.pl_line.specs.declared.code.YamlCode.TheVariants as codes_of
 use Rattle.pl_line.specs.declared.line_fault.Fault.{Fault}
@@ -89,6 +89,15 @@ Takes most (pieces.Character c n) = (0 < n) × (n ≤ most)
 Takes most pieces.Close = 1 ≤ most
 Takes most pieces.BadEscape = Unit {0}
 Takes most pieces.Open = Unit {0}
+
+-- what is left behind a piece that is a character
+abbrev pub Leaves : List ℕ → List ℕ → Piece → Type 0
+Leaves old new (pieces.Character c n) = new ≡ drop n old
+Leaves old new _ = Unit {0}
+
+-- what is neither a quote nor a backslash stands for itself in both
+abbrev pub is_special : ℕ → Bool
+is_special c = c == 39 || c == 34 || c == 92
 
 -- A quoted scalar is one piece after the other, up to the closing quote. The text of those so far is known, and how many characters they took. Each
 -- takes a character, so there are no more of them than characters.

@@ -1,5 +1,5 @@
 -- Characters at the front and at the end of a text (YAML 1.2.2, sections 5.3, 6.6 and 7.3.3).
-use Rattle.std.specs.Prelude.{ℕ, ◌+◌, Bool, false, ◌==◌, ◌&&◌, ◌||◌, List, [], ◌∷◌, if◌then◌else◌}
+use Rattle.std.specs.Prelude.{ℕ, ◌+◌, Bool, false, ◌==◌, ◌&&◌, ◌||◌, List, [], ◌∷◌, Option, Some, None, if◌then◌else◌}
 use Rattle.pl_line.specs.Rows.{is_blank}
 
 abbrev pub begins_with : ℕ → List ℕ → Bool
@@ -21,6 +21,10 @@ plain_len whole blank (c ∷ cs) = if c == 58 && ends_word whole cs || c == 35 &
 abbrev pub content_len : List ℕ → ℕ
 content_len [] = 0
 content_len (c ∷ cs) = if is_blank c && content_len cs == 0 then 0 else 1 + content_len cs
+
+abbrev pub ends_with_blank : Option ℕ → Bool
+ends_with_blank None = false
+ends_with_blank (Some c) = is_blank c
 
 -- `,`, `]`, `}`, `#`, `%`, `@` and the grave accent begin no node
 abbrev pub is_stray : ℕ → Bool

@@ -1,6 +1,8 @@
 ghost use Rattle.std.specs.Prelude.{◌≡◌, ◌<◌, ◌≤◌, ◌+◌, length};
+ghost use Rattle.pl_line.specs.Characters.{all_of};
 ghost use Rattle.pl_line.specs.Quoted as spec;
 
+use crate::characters::Characters;
 use crate::piece::Piece;
 
 /// The character that a backslash before this one spells.
@@ -32,12 +34,13 @@ fn named(character: char) -> Option<char>
 
 /// The value of hexadecimal digits, or None where one is no digit.
 #[tactic(auto, using(crate::proofs::Laws::Quotes::hex_step, crate::proofs::Laws::Quotes::hex_fits))]
-fn hex_value(digits: &[char]) -> Option<u32>
-    requires { length digits.now ≤ 8 }
-    ensures { result ≡ spec.hex_value 0 digits.now }
+fn hex_value(digits: Characters) -> Option<u32>
+    requires { length (all_of digits) ≤ 8 }
+    ensures { result ≡ spec.hex_value 0 (all_of digits.entry) }
 {
     let mut value = 0;
-    for c in digits {
+    let mut rest = digits;
+    while let Some(c) = rest.next() {
         value = 16 * value + c.to_digit(16)?;
     }
     Some(value)
@@ -56,9 +59,9 @@ fn spelled(len: usize, character: Option<char>) -> Piece
 }
 
 /// The Unicode scalar value of these hexadecimal digits.
-fn scalar(digits: &[char]) -> Option<char>
-    requires { length digits.now ≤ 8 }
-    ensures { result ≡ spec.scalar_only (spec.hex_value 0 digits.now) }
+fn scalar(digits: Characters) -> Option<char>
+    requires { length (all_of digits) ≤ 8 }
+    ensures { result ≡ spec.scalar_only (spec.hex_value 0 (all_of digits.entry)) }
 {
     let value = hex_value(digits)?;
     char::from_u32(value)
@@ -66,28 +69,28 @@ fn scalar(digits: &[char]) -> Option<char>
 
 /// What an escape of so many hexadecimal digits spells, the first of which stands first.
 #[tactic(auto, unfolding(crate::specs::Quoted::numbered))]
-fn numbered(digits: usize, text: &[char]) -> Piece
+fn numbered(digits: usize, text: Characters) -> Piece
     requires { digits ≤ 8 }
-    ensures value { result ≡ spec.numbered digits text.now }
-    ensures within { spec.Takes (length text.now + 2) result }
+    ensures value { result ≡ spec.numbered digits (all_of text.entry) }
+    ensures within { spec.Takes (length (all_of text.entry) + 2) result }
 {
     if text.len() < digits {
         return Piece::BadEscape;
     }
-    let (front, _) = text.split_at(digits);
-    spelled(digits + 2, scalar(front))
+    spelled(digits + 2, scalar(text.front(digits)))
 }
 
 /// What a backslash before this text spells.
 #[tactic(auto, unfolding(crate::specs::Quoted::escape))]
-pub(crate) fn escape(text: &[char]) -> Piece
-    ensures value { result ≡ spec.escape text.now }
-    ensures within { spec.Takes (length text.now + 1) result }
+pub(crate) fn escape(text: Characters) -> Piece
+    ensures value { result ≡ spec.escape (all_of text.entry) }
+    ensures within { spec.Takes (length (all_of text.entry) + 1) result }
 {
-    let [first, rest @ ..] = text else {
+    let mut rest = text;
+    let Some(first) = rest.next() else {
         return Piece::BadEscape;
     };
-    match *first {
+    match first {
         'x' => numbered(2, rest),
         'u' => numbered(4, rest),
         'U' => numbered(8, rest),

@@ -1,8 +1,10 @@
-ghost use Rattle.std.specs.Prelude.{◌≡◌, ◌≤◌, false, length};
+ghost use Rattle.std.specs.Prelude.{◌≡◌, ◌≤◌, ◌+◌, false, length, drop};
 ghost use Rattle.pl_line.specs.declared.line_fault.ReadFault.TheVariants.{Refused};
+ghost use Rattle.pl_line.specs.Characters.{all_of};
 ghost use Rattle.pl_line.specs.Rows.{row};
 ghost use Rattle.pl_line.specs.Flow as spec;
 
+use crate::characters::Characters;
 use crate::code::YamlCode;
 use crate::flow_head::FlowHead;
 use crate::left::{end_code, fault_at};
@@ -19,22 +21,30 @@ fn is_flow_indicator(character: char) -> bool
 
 /// How many of these characters a plain scalar takes that has begun before them, blanks at its end
 /// counted.
-fn flow_len(text: &[char], whole: bool) -> usize
-    ensures value { result ≡ spec.flow_len whole false text.now }
-    ensures within { result ≤ length text.now }
+fn flow_len(text: Characters, whole: bool) -> usize
+    ensures value { result ≡ spec.flow_len whole false (all_of text.entry) }
+    ensures within { result ≤ length (all_of text.entry) }
 {
+    let mut rest = text;
+    let mut len = 0;
     let mut behind_blank = false;
-    for (at, c) in text.iter().enumerate() {
-        let (_, rest) = text.split_at(at + 1);
-        if *c == ':' && ends_word(rest, whole)
-            || *c == '#' && behind_blank
-            || is_flow_indicator(*c)
-        {
-            return at;
+    while let Some(c) = rest.next() {
+        if c == ':' && ends_word(rest, whole) || c == '#' && behind_blank || is_flow_indicator(c) {
+            return len;
         }
-        behind_blank = is_blank(*c);
+        behind_blank = is_blank(c);
+        len += 1;
     }
-    text.len()
+    len
+}
+
+/// How many characters a plain scalar takes that begins with these, blanks at its end counted.
+fn plain_len(text: Characters, whole: bool) -> usize
+    requires { 1 ≤ length (all_of text) }
+    ensures value { result ≡ 1 + spec.flow_len whole false (drop 1 (all_of text.entry)) }
+    ensures within { result ≤ length (all_of text.entry) }
+{
+    1 + flow_len(text.behind(1), whole)
 }
 
 /// Whether a character begins no node wherever it stands.
@@ -49,28 +59,29 @@ fn begins_none(character: char) -> bool
 
 /// What begins with a text.
 #[tactic(auto, unfolding(crate::specs::Flow::head_at))]
-fn head_at(text: &[char], whole: bool) -> FlowHead
-    ensures value { result ≡ spec.head_at whole text.now }
-    ensures within { spec.Spans (length text.now) result }
+fn head_at(text: Characters, whole: bool) -> FlowHead
+    ensures value { result ≡ spec.head_at whole (all_of text.entry) }
+    ensures within { spec.Spans (length (all_of text.entry)) result }
 {
-    let [first, rest @ ..] = text else {
+    let mut rest = text;
+    let Some(first) = rest.next() else {
         return FlowHead::End;
     };
-    match *first {
+    match first {
         '[' | '{' => FlowHead::Collection,
         '\'' | '"' => FlowHead::Quote,
         '&' | '*' => FlowHead::Anchor,
         '!' => FlowHead::Tag,
         '?' if ends_word(rest, whole) => FlowHead::Question,
         c if begins_none(c) || (c == '-' || c == ':') && ends_word(rest, whole) => FlowHead::Stray,
-        _ => FlowHead::Plain(1 + flow_len(rest, whole)),
+        _ => FlowHead::Plain(plain_len(text, whole)),
     }
 }
 
 /// What begins at a line's column.
 pub(crate) fn head_of(line: &Line) -> FlowHead
     ensures value { result ≡ spec.head_of (row line.now) }
-    ensures within { spec.Spans (length line.now.text.now) result }
+    ensures within { spec.Spans (length (all_of line.now.text)) result }
 {
     head_at(line.text, line.whole)
 }

@@ -1,4 +1,5 @@
 ghost use Rattle.std.specs.Prelude.{◌≡◌, ◌<◌, ◌≤◌, length, IfOk, OnOk};
+ghost use Rattle.pl_line.specs.Characters.{all_of};
 ghost use Rattle.pl_line.specs.Rows.{row};
 ghost use Rattle.pl_line.specs.Reading.{Gives};
 ghost use Rattle.pl_line.specs.Flow as spec;
@@ -20,7 +21,7 @@ use std::alloc::Global;
 #[tactic(auto, unfolding(crate::specs::Flow::colon))]
 fn colon(line: &mut Line) -> Result<(), ReadFault>
     ensures gives { Gives (λ _. row line.new) result (spec.colon (row line.old)) }
-    ensures falls { OnOk result (length line.new.text.now ≤ length line.old.text.now) }
+    ensures falls { OnOk result (length (all_of line.new.text) ≤ length (all_of line.old.text)) }
 {
     if begins_with(':', line.text) {
         advance(line, 1);
@@ -34,7 +35,7 @@ fn colon(line: &mut Line) -> Result<(), ReadFault>
 #[tactic(auto, unfolding(crate::specs::Flow::separated))]
 fn separated(close: char, line: &mut Line) -> Result<(), ReadFault>
     ensures gives { Gives (λ _. row line.new) result (spec.separated close (row line.old)) }
-    ensures falls { OnOk result (length line.new.text.now ≤ length line.old.text.now) }
+    ensures falls { OnOk result (length (all_of line.new.text) ≤ length (all_of line.old.text)) }
 {
     if begins_with(',', line.text) {
         advance(line, 1);
@@ -51,7 +52,7 @@ fn separated(close: char, line: &mut Line) -> Result<(), ReadFault>
 #[tactic(auto, unfolding(crate::specs::Flow::value))]
 fn value(alloc: Global, file: &FileKey, depth: u32, line: &mut Line) -> Result<Node, ReadFault>
     ensures gives { Gives (λ node. (node, row line.new)) result (spec.value file.now (spec.node file.now depth) (row line.old)) }
-    ensures falls { OnOk result (length line.new.text.now < length line.old.text.now) }
+    ensures falls { OnOk result (length (all_of line.new.text) < length (all_of line.old.text)) }
 {
     let start = *line;
     match head_of(line) {
@@ -73,7 +74,7 @@ fn value(alloc: Global, file: &FileKey, depth: u32, line: &mut Line) -> Result<N
 #[tactic(auto, unfolding(crate::specs::Flow::key))]
 fn key(alloc: Global, file: &FileKey, depth: u32, line: &mut Line) -> Result<Text, ReadFault>
     ensures gives { Gives (λ text. (text, row line.new)) result (spec.key (spec.node file.now depth) (row line.old)) }
-    ensures falls { OnOk result (length line.new.text.now < length line.old.text.now) }
+    ensures falls { OnOk result (length (all_of line.new.text) < length (all_of line.old.text)) }
 {
     match head_of(line) {
         FlowHead::Collection => {
@@ -102,7 +103,7 @@ fn item(
     line: &mut Line,
 ) -> Result<Node, ReadFault>
     ensures gives { Gives (λ node. (node, row line.new)) result (spec.item file.now (spec.node file.now depth) (row at.now) (row line.old)) }
-    ensures falls { OnOk result (length line.new.text.now ≤ length line.old.text.now) }
+    ensures falls { OnOk result (length (all_of line.new.text) ≤ length (all_of line.old.text)) }
 {
     if begins_with(',', line.text) || begins_with('}', line.text) {
         let node = node_at(alloc, file, at, NodeBody::Scalar(Text::new(alloc)))?;
@@ -122,7 +123,7 @@ fn pair(
     line: &mut Line,
 ) -> Result<NodePair, ReadFault>
     ensures gives { Gives (λ pair. (pair, row line.new)) result (spec.pair file.now (spec.node file.now depth) before.now.pairs (row line.old)) }
-    ensures falls { OnOk result (length line.new.text.now < length line.old.text.now) }
+    ensures falls { OnOk result (length (all_of line.new.text) < length (all_of line.old.text)) }
 {
     let start = *line;
     let text = key(alloc, file, depth, line)?;
@@ -141,10 +142,10 @@ fn pair(
 /// Reads the flow sequence that a line begins with, and stays at its closing bracket.
 #[cycle(collections)]
 fn sequence(alloc: Global, file: &FileKey, depth: u32, line: &mut Line) -> Result<Node, ReadFault>
-    requires { 1 ≤ length line.old.text.now }
+    requires { 1 ≤ length (all_of line.old.text) }
     ensures gives { Gives (λ node. (node, row line.new)) result (spec.sequence file.now (spec.node file.now depth) (row line.old)) }
-    ensures closed { OnOk result (1 ≤ length line.new.text.now) }
-    ensures falls { OnOk result (length line.new.text.now < length line.old.text.now) }
+    ensures closed { OnOk result (1 ≤ length (all_of line.new.text)) }
+    ensures falls { OnOk result (length (all_of line.new.text) < length (all_of line.old.text)) }
 {
     let start = *line;
     let mut items = ItemList::new(alloc);
@@ -161,10 +162,10 @@ fn sequence(alloc: Global, file: &FileKey, depth: u32, line: &mut Line) -> Resul
 /// Reads the flow mapping that a line begins with, and stays at its closing bracket.
 #[cycle(collections)]
 fn mapping(alloc: Global, file: &FileKey, depth: u32, line: &mut Line) -> Result<Node, ReadFault>
-    requires { 1 ≤ length line.old.text.now }
+    requires { 1 ≤ length (all_of line.old.text) }
     ensures gives { Gives (λ node. (node, row line.new)) result (spec.mapping file.now (spec.node file.now depth) (row line.old)) }
-    ensures closed { OnOk result (1 ≤ length line.new.text.now) }
-    ensures falls { OnOk result (length line.new.text.now < length line.old.text.now) }
+    ensures closed { OnOk result (1 ≤ length (all_of line.new.text)) }
+    ensures falls { OnOk result (length (all_of line.new.text) < length (all_of line.old.text)) }
 {
     let start = *line;
     let mut pairs = Pairs::new(alloc);
@@ -182,10 +183,10 @@ fn mapping(alloc: Global, file: &FileKey, depth: u32, line: &mut Line) -> Result
 /// may still open, and stays at its closing bracket.
 #[cycle(collections)]
 fn collection(alloc: Global, file: &FileKey, depth: u32, line: &mut Line) -> Result<Node, ReadFault>
-    requires { 1 ≤ length line.old.text.now }
+    requires { 1 ≤ length (all_of line.old.text) }
     ensures gives { Gives (λ node. (node, row line.new)) result (spec.node file.now depth (row line.old)) }
-    ensures closed { OnOk result (1 ≤ length line.new.text.now) }
-    ensures falls { OnOk result (length line.new.text.now < length line.old.text.now) }
+    ensures closed { OnOk result (1 ≤ length (all_of line.new.text)) }
+    ensures falls { OnOk result (length (all_of line.new.text) < length (all_of line.old.text)) }
 {
     if depth == 0 {
         return Err(fault_at(YamlCode::TooDeep, line));
@@ -215,7 +216,7 @@ fn collection(alloc: Global, file: &FileKey, depth: u32, line: &mut Line) -> Res
 #[tactic(auto, unfolding(crate::specs::Flow::flow))]
 pub fn flow(alloc: Global, file: &FileKey, depth: u32, line: &Line) -> Result<Flow, ReadFault>
     ensures gives { Gives (λ read. (read.node, read.len)) result (spec.flow file.now depth (row line.now)) }
-    ensures within { IfOk result (λ read. (2 ≤ read.len) × (read.len ≤ length line.now.text.now)) }
+    ensures within { IfOk result (λ read. (2 ≤ read.len) × (read.len ≤ length (all_of line.now.text))) }
 {
     if !begins_with('[', line.text) && !begins_with('{', line.text) {
         return Err(fault_at(YamlCode::NoEntry, line));

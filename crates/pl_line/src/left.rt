@@ -1,5 +1,6 @@
 ghost use Rattle.std.specs.Prelude.{◌≡◌, ◌+◌, ◌≤◌, length};
 ghost use Rattle.pl_line.specs.declared.line_fault.ReadFault.TheVariants.{Refused};
+ghost use Rattle.pl_line.specs.Characters.{all_of};
 ghost use Rattle.pl_line.specs.Rows.{row};
 ghost use Rattle.pl_line.specs.Reading as reading;
 ghost use Rattle.pl_line.specs.Reading.{Gives};
@@ -8,41 +9,40 @@ ghost use Rattle.pl_line.specs.Left as spec;
 use crate::code::YamlCode;
 use crate::line::Line;
 use crate::line_fault::{Fault, ReadFault};
-use crate::scan::{begins_with, blanks_len, spaces_len};
+use crate::scan::{begins_with, blanks_len, is_blank, spaces_len};
 
 /// What is left of a line behind so many characters and the blanks after them.
 #[tactic(auto, unfolding(crate::specs::Left::behind))]
 pub fn behind<'t>(line: &Line<'t>, len: usize) -> Line<'t>
-    requires { len ≤ length line.now.text.now }
+    requires { len ≤ length (all_of line.now.text) }
     ensures value { row result ≡ spec.behind len (row line.now) }
-    ensures shorter { length result.text.now + len ≤ length line.now.text.now }
+    ensures shorter { length (all_of result.text) + len ≤ length (all_of line.now.text) }
 {
-    let (_, rest) = line.text.split_at(len);
-    let skipped = len + blanks_len(rest);
-    let (_, text) = line.text.split_at(skipped);
+    let rest = line.text.behind(len);
+    let blanks = blanks_len(rest);
     Line {
         number: line.number,
-        column: line.column + skipped as u32,
-        text,
+        column: line.column + (len + blanks) as u32,
+        text: rest.behind(blanks),
         whole: line.whole,
     }
 }
 
 /// Goes over so many characters of a line and the blanks behind them.
 pub fn advance(line: &mut Line, len: usize)
-    requires { len ≤ length line.old.text.now }
+    requires { len ≤ length (all_of line.old.text) }
     ensures value { row line.new ≡ spec.behind len (row line.old) }
-    ensures shorter { length line.new.text.now + len ≤ length line.old.text.now }
+    ensures shorter { length (all_of line.new.text) + len ≤ length (all_of line.old.text) }
 {
     *line = behind(line, len);
 }
 
 /// Whether no tab stands among the blanks behind so many characters.
 pub fn spaces_only(line: &Line, len: usize) -> bool
-    requires { len ≤ length line.now.text.now }
+    requires { len ≤ length (all_of line.now.text) }
     ensures { result ≡ spec.spaces_only len (row line.now) }
 {
-    let (_, rest) = line.text.split_at(len);
+    let rest = line.text.behind(len);
     spaces_len(rest) == blanks_len(rest)
 }
 
@@ -66,7 +66,7 @@ pub fn fault_at(code: YamlCode, line: &Line) -> ReadFault
 
 /// A fault behind so many of a line's characters.
 pub fn fault_behind(code: YamlCode, len: usize, line: &Line) -> ReadFault
-    requires { len ≤ length line.now.text.now }
+    requires { len ≤ length (all_of line.now.text) }
     ensures { result ≡ Refused (reading.fault_behind code len (row line.now)) }
 {
     ReadFault::Refused(Fault {
@@ -103,14 +103,20 @@ pub fn end_code(line: &Line) -> YamlCode
 pub fn is_bare(line: &Line) -> bool
     ensures { result ≡ spec.is_bare (row line.now) }
 {
-    behind(line, 0).text.is_empty() && line.whole
+    match line.text.first() {
+        Some(first) if !is_blank(first) => false,
+        _ => behind(line, 0).text.is_empty() && line.whole,
+    }
 }
 
 /// Whether a comment is left of a line, behind blanks.
 pub fn is_comment(line: &Line) -> bool
     ensures { result ≡ spec.is_comment (row line.now) }
 {
-    begins_with('#', behind(line, 0).text)
+    match line.text.first() {
+        Some(first) if !is_blank(first) => first == '#',
+        _ => begins_with('#', behind(line, 0).text),
+    }
 }
 
 /// Whether no content is left of a line.

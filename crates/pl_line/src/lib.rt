@@ -1,8 +1,10 @@
 //! A YAML text as lines of characters, and what stands on one line.
 #![tactic(auto)]
 
+mod characters;
 mod code;
 mod escapes;
+mod first_line;
 mod flow_head;
 mod flow_heads;
 mod flows;
@@ -16,10 +18,12 @@ mod quotes;
 mod rows;
 mod scalars;
 mod scan;
+mod tail;
+mod taking;
 #[cfg(test)]
 mod tests;
-mod text;
 
+pub use characters::Characters;
 pub use code::YamlCode;
 pub use flows::flow;
 pub use found::{Flow, Quoted};
@@ -33,5 +37,4 @@ pub use pairs::Pairs;
 pub use quotes::quoted;
 pub use rows::{Rows, without_mark};
 pub use scalars::{node_at, plain};
-pub use scan::{begins_with, content_len, ends_word, is_stray, plain_len};
-pub use text::text_of;
+pub use scan::{begins_with, content, ends_word, is_stray, plain_len, stands_at};

@@ -1,5 +1,6 @@
 ghost use Rattle.std.specs.Prelude.{◌≡◌, ℕ, List, [], ◌∷◌, ◌++◌, nat_eq, codes, IfOk};
 ghost use Rattle.std.specs.List.{starts_with};
+ghost use Rattle.std.specs.Option.{option_map_or};
 ghost use Rattle.std.specs.Ordering.{nat_cmp};
 ghost use Rattle.std.specs.Cmp.Lexicographic.{slice_cmp};
 ghost use Rattle.std.specs.BTreeSet.{contains};
@@ -9,12 +10,16 @@ use pl_base::{ExactCopy, List as ItemList, Memory, NodePair, Text};
 use std::alloc::Global;
 use std::collections::BTreeSet;
 
-/// The pairs of a mapping so far, in order, and their keys.
+/// How many pairs a mapping has before their keys are kept in an ordered set.
+const FEW: usize = 8;
+
+/// The pairs of a mapping so far, in order. Behind a few of them, their keys are kept in an ordered
+/// set besides.
 #[derive(Drop)]
 pub struct Pairs {
     pub pairs: ItemList<NodePair>,
-    keys: BTreeSet<Text>,
-    ghost same: { (key : List ℕ) → contains (slice_cmp nat_cmp) keys key ≡ spec.has_key key pairs },
+    keys: Option<BTreeSet<Text>>,
+    ghost same: { (key : List ℕ) → option_map_or (λ keys. contains (slice_cmp nat_cmp) keys key) keys (spec.has_key key pairs) ≡ spec.has_key key pairs },
 }
 
 impl Pairs {
@@ -24,7 +29,7 @@ impl Pairs {
     {
         Pairs {
             pairs: ItemList::new(alloc),
-            keys: BTreeSet::new(alloc),
+            keys: None,
         }
     }
 
@@ -39,7 +44,10 @@ impl Pairs {
     fn has_key(&self, key: &Text) -> bool
         ensures { result ≡ spec.has_key key.now self.now.pairs }
     {
-        self.keys.contains(key)
+        match &self.keys {
+            Some(keys) => keys.contains(key),
+            None => has_key(self.pairs.as_slice(), key),
+        }
     }
 
     /// The pairs with one more behind them.
@@ -47,14 +55,17 @@ impl Pairs {
     pub fn with(self, alloc: Global, pair: NodePair) -> Result<Pairs, Memory>
         ensures { IfOk result (λ more. more.pairs ≡ self.pairs ++ pair ∷ []) }
     {
-        let Pairs {
-            mut pairs,
-            mut keys,
-        } = self;
-        let key = pair.key.copy(alloc)?;
-        keys.insert(key)?;
+        let Pairs { mut pairs, keys } = self;
+        let Some(mut keys) = keys else {
+            pairs.push(pair)?;
+            return gathered(alloc, pairs);
+        };
+        keys.insert(pair.key.copy(alloc)?)?;
         pairs.push(pair)?;
-        Ok(Pairs { pairs, keys })
+        Ok(Pairs {
+            pairs,
+            keys: Some(keys),
+        })
     }
 
     /// The pairs as a list.
@@ -64,6 +75,37 @@ impl Pairs {
         let Pairs { pairs, keys: _ } = self;
         pairs
     }
+}
+
+/// These pairs, with their keys in order where there are more than a few.
+fn gathered(alloc: Global, pairs: ItemList<NodePair>) -> Result<Pairs, Memory>
+    ensures { IfOk result (λ all. all.pairs ≡ pairs) }
+{
+    let keys = if FEW < pairs.len() {
+        Some(keys_of(alloc, pairs.as_slice())?)
+    } else {
+        None
+    };
+    Ok(Pairs { pairs, keys })
+}
+
+/// Whether a key is that of one of these pairs.
+fn has_key(pairs: &[NodePair], key: &Text) -> bool
+    ensures { result ≡ spec.has_key key.now pairs.now }
+{
+    pairs.iter().any(|pair| pair.key == *key)
+}
+
+/// The keys of these pairs.
+#[tactic(auto, using(crate::proofs::Laws::Keys::keys_next))]
+fn keys_of(alloc: Global, pairs: &[NodePair]) -> Result<BTreeSet<Text>, Memory>
+    ensures { IfOk result (λ keys. (key : List ℕ) → contains (slice_cmp nat_cmp) keys key ≡ spec.has_key key pairs.now) }
+{
+    let mut keys = BTreeSet::new(alloc);
+    for pair in pairs {
+        keys.insert(pair.key.copy(alloc)?)?;
+    }
+    Ok(keys)
 }
 
 fn begins_with_expression(key: &Text) -> bool

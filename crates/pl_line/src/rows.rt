@@ -1,37 +1,41 @@
-ghost use Rattle.std.specs.Prelude.{◌≡◌, ◌+◌, ◌<◌, ◌^◌, ◌==◌, [], ◌∷◌, None, length, position, MatchOption, IfSome};
-ghost use Rattle.std.specs.List.{slice_split, last_or};
+ghost use Rattle.std.specs.Prelude.{◌≡◌, ◌+◌, ◌<◌, ◌^◌, ◌==◌, [], ◌∷◌, length, drop, chars, MatchOption};
+ghost use Rattle.std.specs.List.{slice_split, position_or_len};
+ghost use Rattle.pl_line.specs.Characters.{all_of};
 ghost use Rattle.pl_line.specs.Rows as spec;
 ghost use Rattle.pl_line.specs.Rows.{row};
 
+use crate::characters::Characters;
+use crate::first_line::FirstLine;
 use crate::line::Line;
-use crate::scan::{readable_len, spaces_len};
+use crate::scan::{is_control, spaces_len};
+use crate::tail::Tail;
 use std::marker::Model;
 
 /// The lines of a text that are still to be read.
 #[derive(Drop)]
 pub struct Rows<'t> {
-    rest: Option<&'t [char]>,
+    rest: Option<&'t str>,
     number: u32,
 }
 
 impl<'t> Model for Rows<'t> {
-    ghost use Rattle.std.specs.Prelude.{List as list, ℕ, ◌==◌, ◌+◌, ◌<◌, ◌^◌, [], length, IfSome};
+    ghost use Rattle.std.specs.Prelude.{List as list, ℕ, ◌==◌, ◌+◌, ◌<◌, ◌^◌, [], length, chars, IfSome};
     ghost use Rattle.std.specs.Option.{option_map_or};
     ghost use Rattle.std.specs.List.{slice_split};
     ghost use Rattle.pl_line.specs.Rows.{Row, rows_from};
 
     ghost Value = { list Row };
 
-    ghost view = { λ rows. option_map_or (λ rest. rows_from rows.number (slice_split (λ c. c == 10) rest.now)) rows.rest [] };
+    ghost view = { λ rows. option_map_or (λ rest. rows_from rows.number (slice_split (λ c. c == 10) (chars rest.now))) rows.rest [] };
 
-    ghost invariant = { λ rows. IfSome rows.rest (λ rest. rows.number + length rest.now + 1 < 2 ^ 32) };
+    ghost invariant = { λ rows. IfSome rows.rest (λ rest. rows.number + length (chars rest.now) + 1 < 2 ^ 32) };
 }
 
 impl<'t> Rows<'t> {
-    /// The lines of a text's characters.
-    pub fn of(text: &'t [char]) -> Rows<'t>
-        requires { length text.now + 2 < 2 ^ 32 }
-        ensures { result ≡ spec.rows_from 1 (slice_split (λ c. c == 10) text.now) }
+    /// The lines of a text.
+    pub fn of(text: &'t str) -> Rows<'t>
+        requires { length (chars text.now) + 2 < 2 ^ 32 }
+        ensures { result ≡ spec.rows_from 1 (slice_split (λ c. c == 10) (chars text.now)) }
     {
         Rows {
             rest: Some(text),
@@ -49,80 +53,104 @@ impl<'t> Rows<'t> {
         }
     }
 
+    /// Whether no line is left.
+    pub fn is_done(&self) -> bool
+        ensures { result ≡ length self.now == 0 }
+    {
+        match self.rest {
+            Some(_) => false,
+            None => true,
+        }
+    }
+
     /// Takes the first line off, or None where no line is left.
     pub fn next(&mut self) -> Option<Line<'t>>
         ensures { MatchOption result ((self.old ≡ []) × (self.new ≡ [])) (λ line. self.old ≡ row line ∷ self.new) }
     {
         let rest = self.rest?;
         let number = self.number;
-        match line_feed(rest) {
-            Some(at) => {
-                let (line, behind) = rest.split_at(at);
-                let (_, behind) = behind.split_at(1);
+        match first_line(rest) {
+            FirstLine::Broken(front, whole, behind) => {
                 self.rest = Some(behind);
                 self.number = number + 1;
-                Some(line_at(number, without_return(line)))
+                Some(line_at(number, front, whole))
             }
-            None => {
+            FirstLine::Last(front, whole) => {
                 self.rest = None;
-                Some(line_at(number, rest))
+                Some(line_at(number, front, whole))
             }
         }
     }
 }
 
-/// Where the first line feed stands.
-fn line_feed(text: &[char]) -> Option<usize>
-    ensures place { result ≡ position (λ c. c == 10) text.now }
-    ensures within { IfSome result (λ at. at < length text.now) }
+/// Goes behind a text's first control character: how many characters stand before it, and which one
+/// it is.
+fn to_control(rest: &mut Tail) -> (usize, Option<char>)
+    requires { length (chars rest.old.text.now) < 2 ^ 32 }
+    ensures count { result.0 ≡ position_or_len spec.is_control (chars rest.old.text.now) }
+    ensures left { MatchOption result.1 (drop result.0 (chars rest.old.text.now) ≡ []) (λ c. drop result.0 (chars rest.old.text.now) ≡ c ∷ chars rest.new.text.now) }
 {
-    text.iter().position(|c| *c == '\n')
-}
-
-/// A line without the carriage return at its end, where one stands there.
-fn without_return(line: &[char]) -> &[char]
-    ensures { result.now ≡ spec.without_return line.now }
-{
-    if ends_with_return(line) {
-        let (front, _) = line.split_at(line.len() - 1);
-        front
-    } else {
-        line
+    let mut count = 0;
+    while let Some(c) = rest.next() {
+        if is_control(c) {
+            return (count, Some(c));
+        }
+        count += 1;
     }
+    (count, None)
 }
 
-fn ends_with_return(line: &[char]) -> bool
-    ensures { result ≡ spec.is_return (last_or None line.now) }
+/// Cuts a text behind its first line.
+fn first_line(text: &str) -> FirstLine
+    requires { length (chars text.now) < 2 ^ 32 }
+    ensures { spec.IsFirst (chars text.now) result }
 {
-    match line.last() {
-        Some(last) => *last == '\r',
-        None => false,
+    let mut rest = Tail { text };
+    let (readable, control) = to_control(&mut rest);
+    let front = Characters {
+        text,
+        len: readable,
+    };
+    let Some(control) = control else {
+        return FirstLine::Last(front, true);
+    };
+    if control == '\n' {
+        return FirstLine::Broken(front, true, rest.text);
     }
+    let mut len = readable + 1;
+    let mut returned = control == '\r';
+    while let Some(c) = rest.next() {
+        if c == '\n' {
+            let whole = returned && len == readable + 1;
+            return FirstLine::Broken(front, whole, rest.text);
+        }
+        returned = c == '\r';
+        len += 1;
+    }
+    FirstLine::Last(front, false)
 }
 
-/// A line, up to its first character that no text may have.
-#[tactic(auto, unfolding(crate::specs::Rows::row_at))]
-fn line_at(number: u32, line: &[char]) -> Line
-    requires { length line.now + 1 < 2 ^ 32 }
-    ensures { row result ≡ spec.row_at number line.now }
+/// What can be read of a line, as a line.
+fn line_at(number: u32, front: Characters, whole: bool) -> Line
+    requires { length (all_of front) + 1 < 2 ^ 32 }
+    ensures { row result ≡ spec.indented number (all_of front.entry) whole }
 {
-    let (text, control) = line.split_at(readable_len(line));
-    let spaces = spaces_len(text);
-    let (_, behind) = text.split_at(spaces);
+    let spaces = spaces_len(front);
     Line {
         number,
         column: spaces as u32 + 1,
-        text: behind,
-        whole: control.is_empty(),
+        text: front.behind(spaces),
+        whole,
     }
 }
 
 /// A text without the byte order mark at its start, where one stands there.
-pub fn without_mark(text: &[char]) -> &[char]
-    ensures { result.now ≡ spec.without_mark text.now }
+pub fn without_mark(text: &str) -> &str
+    ensures { chars result.now ≡ spec.without_mark (chars text.now) }
 {
-    match text {
-        ['\u{feff}', rest @ ..] => rest,
+    let mut rest = Tail { text };
+    match rest.next() {
+        Some('\u{feff}') => rest.text,
         _ => text,
     }
 }

@@ -1,4 +1,5 @@
 ghost use Rattle.std.specs.Prelude.{◌≡◌, ◌<◌, ◌≤◌, length, IfOk, OnOk, encode_utf8_all};
+ghost use Rattle.pl_line.specs.Characters.{all_of};
 ghost use Rattle.pl_line.specs.Rows.{row};
 ghost use Rattle.pl_line.specs.Reading.{Gives};
 ghost use Rattle.pl_line.specs.Trees as trees;
@@ -10,19 +11,16 @@ use crate::left::{advance, fault_at};
 use crate::line::Line;
 use crate::line_fault::ReadFault;
 use crate::quotes::quoted;
-use crate::scan::content_len;
-use crate::text::text_of;
+use crate::scan::content;
 use pl_base::{FileKey, Memory, Node, NodeBody, Place, Text};
 use std::alloc::Global;
 
 /// The plain scalar of so many of a line's characters, without the blanks behind it.
 pub fn plain(alloc: Global, len: usize, line: &Line) -> Result<Text, Memory>
-    requires { len ≤ length line.now.text.now }
+    requires { len ≤ length (all_of line.now.text) }
     ensures { IfOk result (λ text. text ≡ trees.plain len (row line.now)) }
 {
-    let (front, _) = line.text.split_at(len);
-    let (content, _) = line.text.split_at(content_len(front));
-    text_of(alloc, content)
+    Text::from_str(alloc, content(line.text, len))
 }
 
 /// A node at a line's column.
@@ -36,9 +34,9 @@ pub fn node_at(alloc: Global, file: &FileKey, line: &Line, body: NodeBody) -> Re
 /// Reads the text of the plain or quoted scalar with such a head, and goes behind it.
 #[tactic(auto, unfolding(crate::specs::Flow::scalar_by))]
 pub(crate) fn scalar(alloc: Global, head: FlowHead, line: &mut Line) -> Result<Text, ReadFault>
-    requires { spec.Spans (length line.old.text.now) head }
+    requires { spec.Spans (length (all_of line.old.text)) head }
     ensures gives { Gives (λ text. (text, row line.new)) result (spec.scalar_by (row line.old) head) }
-    ensures falls { OnOk result (length line.new.text.now < length line.old.text.now) }
+    ensures falls { OnOk result (length (all_of line.new.text) < length (all_of line.old.text)) }
 {
     match head {
         FlowHead::Quote => {

@@ -1,7 +1,10 @@
-ghost use Rattle.std.specs.Prelude.{◌≡◌, ◌<◌, ◌≤◌, ◌==◌, false, not, length, position, IfSome};
-ghost use Rattle.std.specs.List.{position_or_len};
+ghost use Rattle.std.specs.Prelude.{◌≡◌, ◌≤◌, ◌==◌, false, not, length, take, drop, None, encode_utf8_all};
+ghost use Rattle.std.specs.List.{position_or_len, last_or};
+ghost use Rattle.pl_line.specs.Characters.{all_of};
 ghost use Rattle.pl_line.specs.Rows as rows;
 ghost use Rattle.pl_line.specs.Scanning as spec;
+
+use crate::characters::Characters;
 
 /// Whether a character is a space or a tab.
 pub fn is_blank(character: char) -> bool
@@ -11,109 +14,126 @@ pub fn is_blank(character: char) -> bool
 }
 
 /// Whether a character is a control character below U+0020 other than tab.
-fn is_control(character: char) -> bool
+pub fn is_control(character: char) -> bool
     ensures { result ≡ rows.is_control character }
 {
     character < ' ' && character != '\t'
 }
 
-/// Where the first control character stands.
-fn control_at(text: &[char]) -> Option<usize>
-    ensures place { result ≡ position rows.is_control text.now }
-    ensures within { IfSome result (λ at. at < length text.now) }
-{
-    text.iter().position(|c| is_control(*c))
-}
-
-/// How many characters stand before the first control character.
-pub fn readable_len(text: &[char]) -> usize
-    ensures value { result ≡ position_or_len rows.is_control text.now }
-    ensures within { result ≤ length text.now }
-{
-    control_at(text).unwrap_or(text.len())
-}
-
-/// Where the first character stands that is no space.
-fn other_than_space_at(text: &[char]) -> Option<usize>
-    ensures place { result ≡ position (λ c. not (c == 32)) text.now }
-    ensures within { IfSome result (λ at. at < length text.now) }
-{
-    text.iter().position(|c| *c != ' ')
-}
-
 /// How many spaces a text begins with.
-pub fn spaces_len(text: &[char]) -> usize
-    ensures value { result ≡ position_or_len (λ c. not (c == 32)) text.now }
-    ensures within { result ≤ length text.now }
+pub fn spaces_len(text: Characters) -> usize
+    ensures value { result ≡ position_or_len (λ c. not (c == 32)) (all_of text.entry) }
+    ensures within { result ≤ length (all_of text.entry) }
 {
-    other_than_space_at(text).unwrap_or(text.len())
-}
-
-/// Where the first character stands that is no blank.
-fn other_than_blank_at(text: &[char]) -> Option<usize>
-    ensures place { result ≡ position (λ c. not (rows.is_blank c)) text.now }
-    ensures within { IfSome result (λ at. at < length text.now) }
-{
-    text.iter().position(|c| !is_blank(*c))
+    let mut rest = text;
+    let mut len = 0;
+    while let Some(' ') = rest.next() {
+        len += 1;
+    }
+    len
 }
 
 /// How many blanks a text begins with.
-pub fn blanks_len(text: &[char]) -> usize
-    ensures value { result ≡ position_or_len (λ c. not (rows.is_blank c)) text.now }
-    ensures within { result ≤ length text.now }
+pub fn blanks_len(text: Characters) -> usize
+    ensures value { result ≡ position_or_len (λ c. not (rows.is_blank c)) (all_of text.entry) }
+    ensures within { result ≤ length (all_of text.entry) }
 {
-    other_than_blank_at(text).unwrap_or(text.len())
+    let mut rest = text;
+    let mut len = 0;
+    while let Some(c) = rest.next() {
+        if !is_blank(c) {
+            return len;
+        }
+        len += 1;
+    }
+    len
 }
 
 /// Whether a text begins with this character.
-pub fn begins_with(character: char, text: &[char]) -> bool
-    ensures { result ≡ spec.begins_with character text.now }
+pub fn begins_with(character: char, text: Characters) -> bool
+    ensures { result ≡ spec.begins_with character (all_of text.entry) }
 {
-    match text {
-        [first, ..] => *first == character,
-        [] => false,
+    match text.first() {
+        Some(first) => first == character,
+        None => false,
     }
 }
 
-/// Whether an indicator before this text is one: a blank or the line's end stands behind it.
-pub fn ends_word(text: &[char], whole: bool) -> bool
-    ensures { result ≡ spec.ends_word whole text.now }
+/// Whether this character stands behind so many of a text.
+pub fn stands_at(character: char, len: usize, text: Characters) -> bool
+    requires { len ≤ length (all_of text) }
+    ensures { result ≡ spec.begins_with character (drop len (all_of text.entry)) }
 {
-    match text {
-        [first, ..] => is_blank(*first),
-        [] => whole,
+    len < text.len() && begins_with(character, text.behind(len))
+}
+
+/// Whether an indicator before this text is one: a blank or the line's end stands behind it.
+pub fn ends_word(text: Characters, whole: bool) -> bool
+    ensures { result ≡ spec.ends_word whole (all_of text.entry) }
+{
+    match text.first() {
+        Some(first) => is_blank(first),
+        None => whole,
     }
 }
 
 /// How many characters a plain scalar takes, blanks behind it counted.
-pub fn plain_len(text: &[char], whole: bool) -> usize
-    ensures value { result ≡ spec.plain_len whole false text.now }
-    ensures within { result ≤ length text.now }
+pub fn plain_len(text: Characters, whole: bool) -> usize
+    ensures value { result ≡ spec.plain_len whole false (all_of text.entry) }
+    ensures within { result ≤ length (all_of text.entry) }
 {
+    let mut rest = text;
+    let mut len = 0;
     let mut behind_blank = false;
-    for (at, c) in text.iter().enumerate() {
-        let (_, rest) = text.split_at(at + 1);
-        if *c == ':' && ends_word(rest, whole) || *c == '#' && behind_blank {
-            return at;
+    while let Some(c) = rest.next() {
+        if c == ':' && ends_word(rest, whole) || c == '#' && behind_blank {
+            return len;
         }
-        behind_blank = is_blank(*c);
+        behind_blank = is_blank(c);
+        len += 1;
     }
-    text.len()
+    len
 }
 
 /// How many characters stand before the blanks at a text's end.
-#[tactic(auto, using(crate::proofs::Laws::Scanning::content_len_next))]
-pub fn content_len(text: &[char]) -> usize
-    ensures value { result ≡ spec.content_len text.now }
-    ensures within { result ≤ length text.now }
+fn content_len(text: Characters) -> usize
+    ensures value { result ≡ spec.content_len (all_of text.entry) }
+    ensures within { result ≤ length (all_of text.entry) }
 {
+    let mut rest = text;
+    let mut at = 0;
     let mut len = 0;
-    for (at, c) in text.iter().enumerate() {
-        if !is_blank(*c) {
-            len = at + 1;
+    while let Some(c) = rest.next() {
+        at += 1;
+        if !is_blank(c) {
+            len = at;
         }
     }
     len
+}
+
+/// Whether a text ends with a blank.
+fn ends_with_blank(text: &str) -> bool
+    ensures { result ≡ spec.ends_with_blank (last_or None text.now) }
+{
+    match text.as_bytes().last() {
+        Some(last) => is_blank(char::from(*last)),
+        None => false,
+    }
+}
+
+/// The first so many characters of a text, without the blanks at their end.
+pub fn content(text: Characters, len: usize) -> &str
+    requires { len ≤ length (all_of text) }
+    ensures { result.now ≡ encode_utf8_all (take (spec.content_len (take len (all_of text.entry))) (all_of text.entry)) }
+{
+    let front = text.front(len);
+    let whole = front.as_str();
+    if ends_with_blank(whole) {
+        text.front(content_len(front)).as_str()
+    } else {
+        whole
+    }
 }
 
 /// Whether a character begins no node.

@@ -1,35 +1,37 @@
 -- The rows of a text, line by line.
-use Rattle.std.proofs.Common.{◌≡◌, ℕ, ◌+◌, List, [], ◌∷◌, Some, None, take, drop, refl, sym, ap, ◌∙◌}
-use Rattle.std.specs.Prelude.{position, ◌==◌}
+use Rattle.std.proofs.Common.{◌≡◌, ℕ, ◌+◌, List, [], ◌∷◌, Bool, false, length, refl, sym, ap, ap₂, ◌∙◌, arith}
+use Rattle.std.specs.Prelude.{◌==◌}
 use Rattle.std.specs.List.{slice_split}
-use Rattle.std.proofs.lemmas.List.{drop-drop}
-use Rattle.pl_line.specs.Rows.{Row, row_at, rows_from, without_return}
-use Rattle.pl_line.proofs.Laws.Cuts.{slice_split-some, slice_split_found, slice_split_whole}
+use Rattle.std.proofs.lemmas.Bool.Decides.{nat_tests}
+use Rattle.pl_line.specs.Rows.{Row, row_at, rows_from, without_return, indented, IsRead}
+use Rattle.pl_line.proofs.Laws.Cuts.{slice_split-some}
 
 -- a line before others
 first_of : (number : ℕ) (line : List ℕ) (lines : List (List ℕ)) → (lines ≡ [] → ⊥) → rows_from number (line ∷ lines) ≡ row_at number (without_return line) ∷ rows_from (number + 1) lines
 first_of number line [] some = absurd (some refl)
 first_of number line (next ∷ lines) some = refl
 
-pub cut : (number at : ℕ) (text : List ℕ) → position (λ c. c == 10) text ≡ Some at
-    → rows_from number (slice_split (λ c. c == 10) text) ≡ row_at number (without_return (take at text)) ∷ rows_from (number + 1) (slice_split (λ c. c == 10) (drop (at + 1) text))
-cut number at text found =
-    ap (rows_from number) (slice_split_found (λ c. c == 10) text at found)
-    ∙ first_of number (take at text) (slice_split (λ c. c == 10) (drop (at + 1) text)) (slice_split-some (λ c. c == 10) (drop (at + 1) text))
+-- a text has a row
+pub rows_left : (number : ℕ) (lines : List (List ℕ)) → (lines ≡ [] → ⊥) → false ≡ (length (rows_from number lines) == 0)
+rows_left number [] some = absurd (some refl)
+rows_left number (line ∷ []) some = refl
+rows_left number (line ∷ (next ∷ lines)) some = grind (arith, nat_tests)
 
--- the last line
-pub last : (number : ℕ) (text : List ℕ) → position (λ c. c == 10) text ≡ None → rows_from number (slice_split (λ c. c == 10) text) ≡ row_at number text ∷ []
-last number text none = ap (rows_from number) (slice_split_whole (λ c. c == 10) text none)
+read_row : (number : ℕ) (line front : List ℕ) (whole : Bool) → IsRead line front whole → indented number front whole ≡ row_at number line
+unfolding row_at
+read_row number line front whole read = ap₂ (indented number) read.0 read.1
 
--- the same of pieces that were cut one after the other
-pub at_cut : (rows : List Row) (number at : ℕ) (text front back line rest : List ℕ) (made : Row) → rows_from number (slice_split (λ c. c == 10) text) ≡ rows
-    → position (λ c. c == 10) text ≡ Some at → front ≡ take at text → back ≡ drop at text → line ≡ without_return front → rest ≡ drop 1 back → made ≡ row_at number line
+-- the row of a text's first line, where others follow and where none does
+pub at_cut : (rows : List Row) (number : ℕ) (text line rest front : List ℕ) (whole : Bool) (made : Row) → rows_from number (slice_split (λ c. c == 10) text) ≡ rows
+    → slice_split (λ c. c == 10) text ≡ line ∷ slice_split (λ c. c == 10) rest → IsRead (without_return line) front whole → made ≡ indented number front whole
     → rows ≡ made ∷ rows_from (number + 1) (slice_split (λ c. c == 10) rest)
-at_cut rows number at text front back line rest made are found in_front behind without after is =
-    let beyond : rest ≡ drop (at + 1) text = after ∙ ap (drop 1) behind ∙ drop-drop 1 at text in
-    let piece : made ≡ row_at number (without_return (take at text)) = is ∙ ap (row_at number) (without ∙ ap without_return in_front) in
-    sym are ∙ cut number at text found ∙ rw (beyond, piece) refl
+at_cut rows number text line rest front whole made are cut read is =
+    sym are
+    ∙ ap (rows_from number) cut
+    ∙ first_of number line (slice_split (λ c. c == 10) rest) (slice_split-some (λ c. c == 10) rest)
+    ∙ ap (λ row. row ∷ rows_from (number + 1) (slice_split (λ c. c == 10) rest)) (sym (is ∙ read_row number (without_return line) front whole read))
 
-pub at_last : (rows : List Row) (number : ℕ) (text : List ℕ) (made : Row) → rows_from number (slice_split (λ c. c == 10) text) ≡ rows
-    → position (λ c. c == 10) text ≡ None → made ≡ row_at number text → rows ≡ made ∷ []
-at_last rows number text made are none is = sym are ∙ last number text none ∙ ap (λ r. r ∷ []) (sym is)
+pub at_last : (rows : List Row) (number : ℕ) (text line front : List ℕ) (whole : Bool) (made : Row) → rows_from number (slice_split (λ c. c == 10) text) ≡ rows
+    → slice_split (λ c. c == 10) text ≡ line ∷ [] → IsRead line front whole → made ≡ indented number front whole → rows ≡ made ∷ []
+at_last rows number text line front whole made are last read is =
+    sym are ∙ ap (rows_from number) last ∙ ap (λ row. row ∷ []) (sym (is ∙ read_row number line front whole read))

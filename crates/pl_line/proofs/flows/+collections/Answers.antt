@@ -1,6 +1,7 @@
 use Rattle.std.proofs.Common.{◌-◌, length, refl, sym, ap, ◌∙◌, arith}
 use Rattle.std.proofs.lemmas.Result.{err_from_is_err_and}
 use Rattle.pl_base.specs.declared.node.NodeBody.TheVariants.{Seq, Map}
+use Rattle.pl_line.specs.Characters.{all_of}
 use Rattle.pl_line.specs.Rows.{row}
 use Rattle.pl_line.specs.Trees.{node_at}
 use Rattle.pl_line.specs.Flow.{node, value, pair}
@@ -21,7 +22,7 @@ collection-returns-else-begins_with-clause-gives t c =
 
 pub sequence-loop-line-init : goal.sequence-loop-line-init
 sequence-loop-line-init t c = (
-  length c.args.line.now.text.now,
+  length (all_of c.args.line.now.text),
   omega (arith, c.advance.ensures.shorter),
   omega (arith, c.advance.ensures.shorter),
   rw (c.new-items.ensures, c.advance.ensures.value) refl,
@@ -63,7 +64,7 @@ sequence-returns-clause-gives t c =
 
 pub mapping-loop-pairs-init : goal.mapping-loop-pairs-init
 mapping-loop-pairs-init t c = (
-  length c.args.line.now.text.now,
+  length (all_of c.args.line.now.text),
   omega (arith, c.advance.ensures.shorter),
   omega (arith, c.advance.ensures.shorter),
   rw (c.new-pairs.ensures, c.advance.ensures.value) refl,

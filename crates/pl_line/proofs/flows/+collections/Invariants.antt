@@ -1,4 +1,5 @@
 use Rattle.std.proofs.Common.{◌≡◌, ℕ, ◌+◌, ◌*◌, ◌<◌, [], length}
+use Rattle.pl_line.specs.Characters.{all_of}
 use Rattle.pl_line.specs.Rows.{row}
 use Rattle.pl_line.specs.Left.{behind}
 use Rattle.pl_line.specs.Flow.{node, value, pair, entries}
@@ -27,18 +28,18 @@ decreases-mapping l = 8 * l.depth + 4
 
 abbrev pub invariant-sequence-loop-line : goal.invariant-sequence-loop-line
 invariant-sequence-loop-line l =
-    (turns : ℕ) × (length l.line.text.now < turns) × (length l.line.text.now < length l.fn.line.text.now)
+    (turns : ℕ) × (length (all_of l.line.text) < turns) × (length (all_of l.line.text) < length (all_of l.fn.line.text))
     × (entries 93 (λ _ left. value l.file (node l.file l.depth) left) turns l.items (row l.line)
-    ≡ entries 93 (λ _ left. value l.file (node l.file l.depth) left) (length l.fn.line.text.now) [] (behind 1 (row l.fn.line)))
+    ≡ entries 93 (λ _ left. value l.file (node l.file l.depth) left) (length (all_of l.fn.line.text)) [] (behind 1 (row l.fn.line)))
 
 abbrev pub decreases-sequence-loop-line : goal.decreases-sequence-loop-line
-decreases-sequence-loop-line l = length l.line.text.now
+decreases-sequence-loop-line l = length (all_of l.line.text)
 
 abbrev pub invariant-mapping-loop-pairs : goal.invariant-mapping-loop-pairs
 invariant-mapping-loop-pairs l =
-    (turns : ℕ) × (length l.line.text.now < turns) × (length l.line.text.now < length l.fn.line.text.now)
+    (turns : ℕ) × (length (all_of l.line.text) < turns) × (length (all_of l.line.text) < length (all_of l.fn.line.text))
     × (entries 125 (pair l.file (node l.file l.depth)) turns l.pairs.pairs (row l.line)
-    ≡ entries 125 (pair l.file (node l.file l.depth)) (length l.fn.line.text.now) [] (behind 1 (row l.fn.line)))
+    ≡ entries 125 (pair l.file (node l.file l.depth)) (length (all_of l.fn.line.text)) [] (behind 1 (row l.fn.line)))
 
 abbrev pub decreases-mapping-loop-pairs : goal.decreases-mapping-loop-pairs
-decreases-mapping-loop-pairs l = length l.line.text.now
+decreases-mapping-loop-pairs l = length (all_of l.line.text)

@@ -1,6 +1,13 @@
-use Rattle.std.proofs.Common.{◌≡◌, ◌+◌, drop, false}
+use Rattle.std.proofs.Common.{◌≡◌, ◌+◌, false, length}
+use Rattle.pl_line.specs.Characters.{all_of}
 use Rattle.pl_line.specs.Scanning.{plain_len}
 use Rattle.pl_line.proofs.scan.plain_len.Given as goal
 
-abbrev pub invariant-loop-at : goal.invariant-loop-at
-invariant-loop-at l = l.at + plain_len l.whole l.behind_blank (drop l.at l.text) ≡ plain_len l.whole false l.text
+abbrev pub invariant-loop-c : goal.invariant-loop-c
+invariant-loop-c l = record {
+  value : l.len + plain_len l.whole l.behind_blank (all_of l.rest) ≡ plain_len l.whole false (all_of l.text);
+  within : l.len + length (all_of l.rest) ≡ length (all_of l.text);
+}
+
+abbrev pub decreases-loop-c : goal.decreases-loop-c
+decreases-loop-c l = length (all_of l.rest)
