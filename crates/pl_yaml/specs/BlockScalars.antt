@@ -5,6 +5,7 @@ use Rattle.pl_base.specs.declared.node.Node.{Node}
 use Rattle.pl_base.specs.declared.node.NodeBody.TheVariants.{Scalar}
 use Rattle.pl_line.specs.declared.code.YamlCode.TheVariants as codes_of
 use Rattle.pl_line.specs.declared.line_fault.Fault.{Fault}
+use Rattle.pl_line.specs.Characters.{all_of}
 use Rattle.pl_line.specs.Rows.{Row, is_blank}
 use Rattle.pl_line.specs.Reading.{◌>>=◌, fault_at}
 use Rattle.pl_line.specs.Left.{line_end, is_bare}
@@ -78,7 +79,7 @@ pub record TextLine : Type 0 where
 
 -- a line of the code, without where it lies in memory
 abbrev pub text_line : BlockLine → TextLine
-text_line line = record { text = replicate line.spaces 32 ++ line.text.now; broken = line.broken }
+text_line line = record { text = replicate line.spaces 32 ++ all_of line.text; broken = line.broken }
 
 -- A line of at least the content's indentation is content from that column on. Another one belongs to the scalar only if it is blank, as an empty line.
 abbrev pub reaches : Option ℕ → Row → Bool
@@ -105,6 +106,11 @@ lines column [] = Ok ([], [])
 lines column (row ∷ rows) =
     if is_bare row || reaches column row then line_before column row (lines column rows) rows
     else Ok ([], row ∷ rows)
+
+-- lines of a block scalar, read from rows one after the other
+abbrev pub text_lines : Option ℕ → List Row → List TextLine
+text_lines column [] = []
+text_lines column (row ∷ rows) = line_from column row (has_row rows) ∷ text_lines column rows
 
 abbrev pub is_void : TextLine → Bool
 is_void line = length line.text == 0

@@ -7,3 +7,4 @@ pub mod Nodes
 pub mod Plain
 pub mod Reading
 pub mod Spells
+pub mod Stack

@@ -1,14 +1,16 @@
-ghost use Rattle.std.specs.Prelude.{◌≡◌, ◌≤◌, map, length, OnOk};
+ghost use Rattle.std.specs.Prelude.{◌≡◌, ◌+◌, ◌≤◌, ◌||◌, take, length, IfOk, OnOk};
+ghost use Rattle.pl_line.specs.Characters.{all_of};
+ghost use Rattle.pl_line.specs.Left as left;
 ghost use Rattle.pl_line.specs.Rows.{row, size};
 ghost use Rattle.pl_line.specs.Reading.{Gives};
 ghost use Rattle.pl_yaml.specs.BlockScalars as spec;
 
-use crate::block_line::BlockLine;
+use crate::block_lines::BlockLines;
 use crate::block_text::block_text;
 use crate::header::header_of;
 use crate::heads::{closed, is_marker};
 use crate::reader::Reader;
-use pl_base::{FileKey, Node, NodeBody};
+use pl_base::{FileKey, Memory, Node, NodeBody};
 use pl_line::{Line, ReadFault, YamlCode, fault_at, is_bare, line_end, node_at};
 use std::alloc::Global;
 
@@ -73,24 +75,6 @@ fn reaches(column: Option<u64>, line: &Line) -> bool
     }
 }
 
-/// A line of a block scalar, behind which a break follows or not.
-fn line_from<'t>(column: Option<u64>, line: &Line<'t>, broken: bool) -> BlockLine<'t>
-    ensures { spec.text_line result ≡ spec.line_from column (row line.now) broken }
-{
-    match column {
-        Some(column) if column <= u64::from(line.column) => BlockLine {
-            spaces: (u64::from(line.column) - column) as u32,
-            text: line.text,
-            broken,
-        },
-        _ => BlockLine {
-            spaces: 0,
-            text: &[],
-            broken,
-        },
-    }
-}
-
 /// Refuses a marker of documents in a block scalar, and reads the line to its end.
 fn inside(line: &Line) -> Result<(), ReadFault>
     ensures { Gives (λ done. done) result (spec.inside (row line.now)) }
@@ -101,26 +85,37 @@ fn inside(line: &Line) -> Result<(), ReadFault>
     line_end(line)
 }
 
-/// Reads the lines of a block scalar, up to the first other line.
-#[tactic(auto, unfolding(crate::specs::BlockScalars::lines))]
-fn lines<'t>(
-    alloc: Global,
-    column: Option<u64>,
-    reader: &mut Reader<'t>,
-) -> Result<Vec<BlockLine<'t>>, ReadFault>
-    ensures gives { Gives (λ all. (map spec.text_line all.items, reader.new)) result (spec.lines column reader.old) }
-    ensures falls { OnOk result (size reader.new ≤ size reader.old) }
+/// Whether a line belongs to a block scalar.
+fn belongs(column: Option<u64>, line: &Line) -> bool
+    ensures { result ≡ (left.is_bare (row line.now) || spec.reaches column (row line.now)) }
 {
-    let mut all = Vec::new(alloc);
+    is_bare(line) || reaches(column, line)
+}
+
+/// The next number. More lines than a `usize` counts are more than memory holds.
+fn one_more(count: usize) -> Result<usize, Memory>
+    ensures { IfOk result (λ next. next ≡ count + 1) }
+{
+    count.checked_add(1).ok_or(Memory)
+}
+
+/// Reads the lines of a block scalar, up to the first other line, and counts them.
+#[tactic(auto, unfolding(crate::specs::BlockScalars::lines))]
+fn lines(column: Option<u64>, reader: &mut Reader) -> Result<usize, ReadFault>
+    ensures gives { Gives (λ count. (take count (spec.text_lines column reader.old), reader.new)) result (spec.lines column reader.old) }
+    ensures falls { OnOk result (size reader.new ≤ size reader.old) }
+    ensures within { IfOk result (λ count. count ≤ length reader.old) }
+{
+    let mut count = 0;
     while let Some(line) = reader.first() {
-        if !is_bare(&line) && !reaches(column, &line) {
-            return Ok(all);
+        if !belongs(column, &line) {
+            return Ok(count);
         }
         inside(&line)?;
         reader.advance();
-        all.push(line_from(column, &line, reader.has_line()))?;
+        count = one_more(count)?;
     }
-    Ok(all)
+    Ok(count)
 }
 
 /// Reads the block scalar that begins at a line, which was taken off, held by a block of that
@@ -133,15 +128,17 @@ pub(crate) fn block(
     line: &Line,
     reader: &mut Reader,
 ) -> Result<Node, ReadFault>
-    requires { 1 ≤ length line.now.text.now }
+    requires { 1 ≤ length (all_of line.now.text) }
     ensures gives { Gives (λ node. (node, reader.new)) result (spec.block file.now parent (row line.now) reader.old) }
     ensures falls { OnOk result (size reader.new ≤ size reader.old) }
 {
     let header = header_of(line);
     closed(line, header.len)?;
     let column = content_column(parent, header.digit, reader)?;
-    let all = lines(alloc, column, reader)?;
-    let text = block_text(alloc, header.folded, header.chomping, all.as_slice())?;
+    let start = reader.copy();
+    let count = lines(column, reader)?;
+    let all = BlockLines::of(column, start, count);
+    let text = block_text(alloc, header.folded, header.chomping, all)?;
     let body = NodeBody::Scalar(text);
     let node = node_at(alloc, file, line, body)?;
     Ok(node)

@@ -1,8 +1,9 @@
-ghost use Rattle.std.specs.Prelude.{◌≡◌, ◌++◌, ◌∷◌, map, OnOk, IfOk, encode_utf8_all, string_bytes, option_to_list};
+ghost use Rattle.std.specs.Prelude.{◌≡◌, ◌++◌, ◌∷◌, OnOk, IfOk, encode_utf8_all, string_bytes, option_to_list};
 ghost use Rattle.std.specs.Option.{option_map};
 ghost use Rattle.pl_yaml.specs.BlockScalars as spec;
 
 use crate::block_line::BlockLine;
+use crate::block_lines::BlockLines;
 use crate::header::Chomping;
 use crate::push::{push_all, push_times};
 use pl_base::{Memory, Text};
@@ -19,20 +20,32 @@ fn is_void(line: &BlockLine) -> bool
 fn is_flush(line: &BlockLine) -> bool
     ensures { result ≡ spec.is_flush (spec.text_line line.now).text }
 {
-    match line.text {
-        [first, ..] => line.spaces == 0 && *first != ' ' && *first != '\t',
-        [] => false,
+    match line.text.first() {
+        Some(first) => line.spaces == 0 && first != ' ' && first != '\t',
+        None => false,
     }
 }
 
 /// The first of these lines that isn't empty.
 #[tactic(auto, unfolding(crate::specs::BlockScalars::next_line))]
-fn next_line<'t>(lines: &[BlockLine<'t>]) -> Option<BlockLine<'t>>
-    ensures { option_map spec.text_line result ≡ spec.next_line (map spec.text_line lines.now) }
+fn next_line<'t>(lines: &BlockLines<'t>) -> Option<BlockLine<'t>>
+    ensures { option_map spec.text_line result ≡ spec.next_line lines.now }
 {
-    for line in lines {
-        if !is_void(line) {
-            return Some(*line);
+    match lines.first() {
+        Some(line) if is_void(&line) => next_far(lines),
+        first => first,
+    }
+}
+
+/// The same where the first line may be empty.
+#[tactic(auto, unfolding(crate::specs::BlockScalars::next_line))]
+fn next_far<'t>(lines: &BlockLines<'t>) -> Option<BlockLine<'t>>
+    ensures { option_map spec.text_line result ≡ spec.next_line lines.now }
+{
+    let mut ahead = lines.copy();
+    while let Some(line) = ahead.next() {
+        if !is_void(&line) {
+            return Some(line);
         }
     }
     None
@@ -43,10 +56,10 @@ fn next_line<'t>(lines: &[BlockLine<'t>]) -> Option<BlockLine<'t>>
 fn next_behind<'t>(
     next: Option<BlockLine<'t>>,
     line: &BlockLine<'t>,
-    after: &[BlockLine<'t>],
+    after: &BlockLines<'t>,
 ) -> Option<BlockLine<'t>>
-    requires { option_map spec.text_line next ≡ spec.next_line (spec.text_line line.now ∷ map spec.text_line after.now) }
-    ensures { option_map spec.text_line result ≡ spec.next_line (map spec.text_line after.now) }
+    requires { option_map spec.text_line next ≡ spec.next_line (spec.text_line line.now ∷ after.now) }
+    ensures { option_map spec.text_line result ≡ spec.next_line after.now }
 {
     if is_void(line) {
         next
@@ -68,19 +81,14 @@ fn last_break(chomping: Chomping, line: &BlockLine) -> Option<char>
 }
 
 /// The break behind a line before others, the next of which isn't empty.
-fn inner_break(
-    folded: bool,
-    line: &BlockLine,
-    after: &[BlockLine],
-    next: &BlockLine,
-) -> Option<char>
-    ensures { option_to_list result ≡ spec.inner_break folded (spec.text_line line.now) (map spec.text_line after.now) (spec.text_line next.now) }
+fn inner_break(folded: bool, line: &BlockLine, after: &BlockLines, next: &BlockLine) -> Option<char>
+    ensures { option_to_list result ≡ spec.inner_break folded (spec.text_line line.now) after.now (spec.text_line next.now) }
 {
     if !folded || !is_flush(line) || !is_flush(next) {
         return Some('\n');
     }
-    match after {
-        [first, ..] if is_void(first) => None,
+    match after.first() {
+        Some(first) if is_void(&first) => None,
         _ => Some(' '),
     }
 }
@@ -90,10 +98,10 @@ fn break_before(
     folded: bool,
     chomping: Chomping,
     line: &BlockLine,
-    after: &[BlockLine],
+    after: &BlockLines,
     next: Option<BlockLine>,
 ) -> Option<char>
-    ensures { option_to_list result ≡ spec.break_before folded chomping (spec.text_line line.now) (map spec.text_line after.now) (option_map spec.text_line next.entry) }
+    ensures { option_to_list result ≡ spec.break_before folded chomping (spec.text_line line.now) after.now (option_map spec.text_line next.entry) }
 {
     match next {
         Some(next) => inner_break(folded, line, after, &next),
@@ -115,7 +123,7 @@ fn push_break(text: &mut String, end: Option<char>) -> Result<(), AllocError>
     ensures { OnOk result (string_bytes text.new ≡ string_bytes text.old ++ encode_utf8_all (option_to_list end)) }
 {
     match end {
-        Some(end) => push_all(text, &[end]),
+        Some(end) => push_times(text, end, 1),
         None => Ok(()),
     }
 }
@@ -126,17 +134,20 @@ pub(crate) fn block_text(
     alloc: Global,
     folded: bool,
     chomping: Chomping,
-    lines: &[BlockLine],
+    lines: BlockLines,
 ) -> Result<Text, Memory>
-    ensures { IfOk result (λ text. text ≡ encode_utf8_all (spec.block_text folded chomping (map spec.text_line lines.now))) }
+    ensures { IfOk result (λ text. text ≡ encode_utf8_all (spec.block_text folded chomping lines.entry)) }
 {
     let mut text = String::new(alloc);
-    let mut next = next_line(lines);
-    for (at, line) in lines.iter().enumerate() {
-        let (_, after) = lines.split_at(at + 1);
-        next = next_behind(next, line, after);
-        push_line(&mut text, line)?;
-        push_break(&mut text, break_before(folded, chomping, line, after, next))?;
+    let mut after = lines;
+    let mut next = next_line(&after);
+    while let Some(line) = after.next() {
+        next = next_behind(next, &line, &after);
+        push_line(&mut text, &line)?;
+        push_break(
+            &mut text,
+            break_before(folded, chomping, &line, &after, next),
+        )?;
     }
     Ok(Text::from_string(text))
 }

@@ -10,7 +10,7 @@ use crate::reader::Reader;
 use crate::slot::Slot;
 use pl_base::{FileKey, Node, Place};
 use pl_line::{ReadFault, Rows, YamlCode, fault_at, without_mark};
-use std::alloc::{AllocError, Global};
+use std::alloc::Global;
 use std::str;
 
 /// The most bytes that a text has.
@@ -40,7 +40,8 @@ const WHOLE_TEXT: Slot = Slot {
 /// - TabIndent: a tab before a line's content, at the tab;
 /// - Anchor, Tag: a node begins with `&` or `*`, with `!`;
 /// - ComplexKey: `? ` where an entry begins, or a flow collection as a key, at its `:`;
-/// - Documents: a marker of documents behind content, or a directive;
+/// - Documents: `---` or `...` at column 1 before a blank or the line's end, unless it is a `---` alone
+///   on its line before any content, which is skipped; or `%` at column 1 before any content;
 /// - BadIndent: a line whose indentation fits no entry and continues nothing, at its content; a
 ///   blank line longer than the content of a block scalar that it begins;
 /// - Unclosed: a quote or a bracket that isn't closed on its line, at the line's end;
@@ -50,6 +51,10 @@ const WHOLE_TEXT: Slot = Slot {
 /// - TooDeep: a collection with which more than 64 are open, where it begins;
 /// - TooLarge: more than 262,144 bytes, before all others, at line 1, column 1;
 /// - NoEntry: anything else that can't stand where it does, a control character among them.
+///
+/// The text is read from its bytes, line by line. Block collections that wait for a value stand on a
+/// stack of at most 64. Memory is taken for the node, for that stack, and for the keys of mappings
+/// with more than eight pairs; Memory is answered where a growth is refused.
 pub fn read(alloc: Global, text: &[u8], file: &FileKey) -> Result<Node, YamlFault>
     ensures { spec.Reads file.now text.now result }
 {
@@ -82,21 +87,14 @@ fn refused(
     Err(YamlFault::Refused(code, place))
 }
 
-/// The characters of a text.
-fn characters(alloc: Global, text: &str) -> Result<Vec<char>, AllocError>
-    ensures { IfOk result (λ all. all.items ≡ chars text.now) }
-{
-    text.chars().collect(alloc)
-}
-
 /// Reads the node of a text.
 fn document_of(alloc: Global, file: &FileKey, text: &str) -> Result<Node, ReadFault>
     requires { length text.now ≤ 262144 }
     ensures { Gives (λ node. node) result (spec.document file.now (rows_of (chars text.now))) }
 {
-    let all = characters(alloc, text)?;
-    let mut reader = Reader::of(Rows::of(without_mark(all.as_slice())));
-    let node = document(alloc, file, &mut reader)?;
+    let mut reader = Reader::of(Rows::of(without_mark(text)));
+    let file = file.shared(alloc)?;
+    let node = document(alloc, &file, &mut reader)?;
     Ok(node)
 }
 

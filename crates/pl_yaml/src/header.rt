@@ -1,8 +1,9 @@
 ghost use Rattle.std.specs.Prelude.{◌≡◌, ◌+◌, ◌<◌, ◌≤◌, length, IfSome};
+ghost use Rattle.pl_line.specs.Characters.{all_of};
 ghost use Rattle.pl_line.specs.Rows.{row};
 ghost use Rattle.pl_yaml.specs.BlockScalars as spec;
 
-use pl_line::{Line, begins_with};
+use pl_line::{Characters, Line, begins_with};
 
 /// What becomes of the breaks at a block scalar's end (YAML 1.2.2, section 8.1.1.2).
 #[derive(Clone, Copy, Debug, PartialEq, Eq)]
@@ -27,12 +28,11 @@ pub(crate) struct Header {
 
 /// The header that a line begins with.
 pub(crate) fn header_of(line: &Line) -> Header
-    requires { 1 ≤ length line.now.text.now }
+    requires { 1 ≤ length (all_of line.now.text) }
     ensures value { result ≡ spec.header_of (row line.now) }
-    ensures within { result.len ≤ length line.now.text.now }
+    ensures within { result.len ≤ length (all_of line.now.text) }
 {
-    let (_, rest) = line.text.split_at(1);
-    let marks = indicators(rest);
+    let marks = indicators(line.text.behind(1));
     Header {
         folded: begins_with('>', line.text),
         digit: digit_of(marks),
@@ -54,47 +54,49 @@ fn is_sign(character: char) -> bool
 }
 
 /// The indicators that a text begins with: at most one digit and at most one sign.
-fn indicators(text: &[char]) -> &[char]
-    ensures value { result.now ≡ spec.indicators text.now }
-    ensures within { length result.now ≤ length text.now }
+fn indicators(text: Characters) -> Characters
+    ensures value { all_of result ≡ spec.indicators (all_of text.entry) }
+    ensures within { length (all_of result) ≤ length (all_of text.entry) }
 {
-    let (front, _) = text.split_at(indicators_len(text));
-    front
+    text.front(indicators_len(text))
 }
 
-fn indicators_len(text: &[char]) -> usize
-    ensures value { result ≡ length (spec.indicators text.now) }
-    ensures within { result ≤ length text.now }
+fn indicators_len(text: Characters) -> usize
+    ensures value { result ≡ length (spec.indicators (all_of text.entry)) }
+    ensures within { result ≤ length (all_of text.entry) }
 {
-    match text {
-        [a, b, ..] if is_digit(*a) && is_sign(*b) || is_sign(*a) && is_digit(*b) => 2,
-        [a, ..] if is_digit(*a) || is_sign(*a) => 1,
+    let mut rest = text;
+    match (rest.next(), rest.next()) {
+        (Some(a), Some(b)) if is_digit(a) && is_sign(b) || is_sign(a) && is_digit(b) => 2,
+        (Some(a), _) if is_digit(a) || is_sign(a) => 1,
         _ => 0,
     }
 }
 
 /// The number that the digit among indicators says.
-fn digit_of(marks: &[char]) -> Option<u32>
-    ensures value { result ≡ spec.digit marks.now }
+fn digit_of(marks: Characters) -> Option<u32>
+    ensures value { result ≡ spec.digit (all_of marks.entry) }
     ensures small { IfSome result (λ n. n < 10) }
 {
-    for mark in marks {
-        if is_digit(*mark) {
-            return Some(*mark as u32 - '0' as u32);
+    let mut rest = marks;
+    while let Some(mark) = rest.next() {
+        if is_digit(mark) {
+            return Some(mark as u32 - '0' as u32);
         }
     }
     None
 }
 
 /// What the sign among indicators says.
-fn chomping_of(marks: &[char]) -> Chomping
-    ensures { result ≡ spec.chomping marks.now }
+fn chomping_of(marks: Characters) -> Chomping
+    ensures { result ≡ spec.chomping (all_of marks.entry) }
 {
-    for mark in marks {
-        if *mark == '-' {
+    let mut rest = marks;
+    while let Some(mark) = rest.next() {
+        if mark == '-' {
             return Chomping::Strip;
         }
-        if *mark == '+' {
+        if mark == '+' {
             return Chomping::Keep;
         }
     }

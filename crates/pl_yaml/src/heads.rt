@@ -1,4 +1,5 @@
-ghost use Rattle.std.specs.Prelude.{◌≡◌, ◌≤◌, length, IsTrue};
+ghost use Rattle.std.specs.Prelude.{◌≡◌, ◌≤◌, [], ◌∷◌, length, IsTrue};
+ghost use Rattle.pl_line.specs.Characters.{all_of};
 ghost use Rattle.pl_line.specs.Rows.{row};
 ghost use Rattle.pl_line.specs.Reading.{Gives};
 ghost use Rattle.pl_yaml.specs.Heads as spec;
@@ -6,39 +7,43 @@ ghost use Rattle.pl_yaml.specs.Content as content;
 
 use crate::head::Head;
 use pl_line::{
-    Line, ReadFault, YamlCode, begins_with, behind, ends_word, fault_at, is_empty, is_stray,
-    line_end, plain_len,
+    Characters, Line, ReadFault, YamlCode, begins_with, behind, ends_word, fault_at, is_empty,
+    is_stray, line_end, plain_len, stands_at,
 };
 
-/// Whether these three characters stand at column 1 as a word.
-fn is_word(line: &Line, word: &[char; 3]) -> bool
-    ensures value { result ≡ spec.is_word word.now (row line.now) }
-    ensures within { IsTrue result → 3 ≤ length line.now.text.now }
+/// Whether this character stands three times at column 1, as a word.
+fn is_word(line: &Line, character: char) -> bool
+    ensures value { result ≡ spec.is_word (character ∷ character ∷ character ∷ []) (row line.now) }
+    ensures within { IsTrue result → 3 ≤ length (all_of line.now.text) }
 {
-    match line.text.strip_prefix(word) {
-        Some(rest) => line.column == 1 && ends_word(rest, line.whole),
-        None => false,
+    if line.column != 1 || !begins_with(character, line.text) {
+        return false;
     }
+    let mut rest = line.text;
+    let (Some(_), Some(second), Some(third)) = (rest.next(), rest.next(), rest.next()) else {
+        return false;
+    };
+    second == character && third == character && ends_word(rest, line.whole)
 }
 
 /// Whether a line is a marker of documents: `---` or `...` at column 1, as a word.
 pub(crate) fn is_marker(line: &Line) -> bool
     ensures { result ≡ spec.is_marker (row line.now) }
 {
-    is_word(line, &['-', '-', '-']) || is_word(line, &['.', '.', '.'])
+    line.column == 1 && (is_word(line, '-') || is_word(line, '.'))
 }
 
 /// Whether `---` stands alone on a line, perhaps before a comment.
 pub(crate) fn is_start(line: &Line) -> bool
     ensures { result ≡ spec.is_start (row line.now) }
 {
-    is_word(line, &['-', '-', '-']) && is_empty(&behind(line, 3))
+    is_word(line, '-') && is_empty(&behind(line, 3))
 }
 
 /// What begins at a line's column.
 pub(crate) fn head_of(line: &Line) -> Head
     ensures value { result ≡ spec.head_of (row line.now) }
-    ensures within { spec.head_len result ≤ length line.now.text.now }
+    ensures within { spec.head_len result ≤ length (all_of line.now.text) }
 {
     head_at(line.text, line.whole)
 }
@@ -91,10 +96,10 @@ pub(crate) fn begins(line: &Line) -> Result<(), ReadFault>
 
 /// Refuses content behind so many of a line's characters.
 pub(crate) fn closed(line: &Line, len: usize) -> Result<(), ReadFault>
-    requires { len ≤ length line.now.text.now }
+    requires { len ≤ length (all_of line.now.text) }
     ensures { Gives (λ done. done) result (content.closed len (row line.now)) }
 {
-    let (_, after) = line.text.split_at(len);
+    let after = line.text.behind(len);
     let rest = behind(line, len);
     if rest.text.is_empty() || ends_word(after, false) && begins_with('#', rest.text) {
         line_end(line)
@@ -105,14 +110,15 @@ pub(crate) fn closed(line: &Line, len: usize) -> Result<(), ReadFault>
 
 /// What begins with a text.
 #[tactic(auto, unfolding(crate::specs::Heads::head_at))]
-fn head_at(text: &[char], whole: bool) -> Head
-    ensures value { result ≡ spec.head_at whole text.now }
-    ensures within { spec.head_len result ≤ length text.now }
+fn head_at(text: Characters, whole: bool) -> Head
+    ensures value { result ≡ spec.head_at whole (all_of text.entry) }
+    ensures within { spec.head_len result ≤ length (all_of text.entry) }
 {
-    let [first, rest @ ..] = text else {
+    let mut rest = text;
+    let Some(first) = rest.next() else {
         return Head::Stray;
     };
-    match *first {
+    match first {
         '-' if ends_word(rest, whole) => Head::Dash,
         '?' if ends_word(rest, whole) => Head::Question,
         '&' | '*' => Head::Anchor,
@@ -126,13 +132,12 @@ fn head_at(text: &[char], whole: bool) -> Head
 }
 
 /// A plain scalar that takes so many characters, as a key or not.
-fn plain_head(text: &[char], len: usize) -> Head
-    requires { len ≤ length text.now }
-    ensures value { result ≡ spec.plain_head text.now len }
-    ensures within { spec.head_len result ≤ length text.now }
+fn plain_head(text: Characters, len: usize) -> Head
+    requires { len ≤ length (all_of text) }
+    ensures value { result ≡ spec.plain_head (all_of text.entry) len }
+    ensures within { spec.head_len result ≤ length (all_of text.entry) }
 {
-    let (_, rest) = text.split_at(len);
-    if begins_with(':', rest) {
+    if stands_at(':', len, text) {
         Head::Key(len)
     } else {
         Head::Word(len)

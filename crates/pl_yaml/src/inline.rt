@@ -1,4 +1,5 @@
 ghost use Rattle.std.specs.Prelude.{◌≡◌, ◌≤◌, length, OnOk};
+ghost use Rattle.pl_line.specs.Characters.{all_of};
 ghost use Rattle.pl_line.specs.Rows.{row, size};
 ghost use Rattle.pl_line.specs.Reading.{Gives};
 ghost use Rattle.pl_yaml.specs.Inline as spec;
@@ -21,7 +22,7 @@ pub(crate) fn quoted_node(
     line: &Line,
     read: Quoted,
 ) -> Result<Node, ReadFault>
-    requires { read.len ≤ length line.now.text.now }
+    requires { read.len ≤ length (all_of line.now.text) }
     ensures { Gives (λ node. node) result (spec.quoted_node file.now (row line.now) (read.text, read.len)) }
 {
     closed(line, read.len)?;
@@ -32,7 +33,7 @@ pub(crate) fn quoted_node(
 
 /// A flow collection, behind which its line has no content.
 pub(crate) fn flow_node(line: &Line, read: Flow) -> Result<Node, ReadFault>
-    requires { read.len ≤ length line.now.text.now }
+    requires { read.len ≤ length (all_of line.now.text) }
     ensures { Gives (λ node. node) result (spec.flow_node (row line.now) (read.node, read.len)) }
 {
     closed(line, read.len)?;

@@ -1,6 +1,7 @@
 ghost use Rattle.std.specs.Prelude.{◌≡◌, ◌+◌, ◌≤◌, length, IfOk, IfSome, IsTrue, OnOk};
 ghost use Rattle.std.specs.Option.{option_map};
 ghost use Rattle.pl_line.specs.declared.line_fault.ReadFault.TheVariants.{Refused};
+ghost use Rattle.pl_line.specs.Characters.{all_of};
 ghost use Rattle.pl_line.specs.Rows.{row, size};
 ghost use Rattle.pl_line.specs.Reading.{Gives};
 ghost use Rattle.pl_yaml.specs.Heads.{head_of};
@@ -22,17 +23,18 @@ use std::alloc::Global;
 /// Whether a mapping's `:` stands at a line's column.
 pub(crate) fn is_colon(line: &Line) -> bool
     ensures value { result ≡ spec.is_colon (row line.now) }
-    ensures within { IsTrue result → 1 ≤ length line.now.text.now }
+    ensures within { IsTrue result → 1 ≤ length (all_of line.now.text) }
 {
-    match line.text {
-        [':', rest @ ..] => ends_word(rest, line.whole),
+    let mut rest = line.text;
+    match rest.next() {
+        Some(':') => ends_word(rest, line.whole),
         _ => false,
     }
 }
 
 /// A plain scalar of so many characters, as a key.
 fn plain_key<'t>(alloc: Global, line: &Line<'t>, len: usize) -> Result<Key<'t>, Memory>
-    requires { len + 1 ≤ length line.now.text.now }
+    requires { len + 1 ≤ length (all_of line.now.text) }
     ensures { IfOk result (λ key. spec.found_key key ≡ spec.plain_key (row line.now) len) }
 {
     let text = plain(alloc, len, line)?;

@@ -1,16 +1,14 @@
 ghost use Rattle.std.specs.Prelude.{◌≡◌, ◌++◌, replicate, OnOk, encode_utf8_all, string_bytes};
+ghost use Rattle.pl_line.specs.Characters.{all_of};
 
+use pl_line::Characters;
 use std::alloc::AllocError;
 
 /// Adds characters to a text.
-#[tactic(auto, using(crate::proofs::Laws::Bytes::push_next))]
-pub(crate) fn push_all(text: &mut String, characters: &[char]) -> Result<(), AllocError>
-    ensures { OnOk result (string_bytes text.new ≡ string_bytes text.old ++ encode_utf8_all characters.now) }
+pub(crate) fn push_all(text: &mut String, characters: Characters) -> Result<(), AllocError>
+    ensures { OnOk result (string_bytes text.new ≡ string_bytes text.old ++ encode_utf8_all (all_of characters.entry)) }
 {
-    for c in characters {
-        text.push(*c)?;
-    }
-    Ok(())
+    text.push_str(characters.as_str())
 }
 
 /// Adds a character to a text so many times.

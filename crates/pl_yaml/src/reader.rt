@@ -58,6 +58,16 @@ impl<'t> Reader<'t> {
         self.current.is_some()
     }
 
+    /// Whether a line is left behind that one.
+    pub(crate) fn has_more(&self) -> bool
+        ensures { result ≡ has_row (drop 1 self.now) }
+    {
+        match self.current {
+            Some(_) => !self.behind.is_done(),
+            None => false,
+        }
+    }
+
     /// Takes that line off, where one is left.
     pub(crate) fn advance(&mut self)
         ensures { self.new ≡ drop 1 self.old }

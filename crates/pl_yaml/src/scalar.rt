@@ -1,36 +1,34 @@
 ghost use Rattle.std.specs.Prelude.{◌≡◌, ◌≤◌, ◌-◌, ◌++◌, length, IfOk, OnOk, encode_utf8_all, string_bytes};
+ghost use Rattle.pl_line.specs.Characters.{all_of};
 ghost use Rattle.pl_line.specs.Rows.{row, size};
 ghost use Rattle.pl_line.specs.Reading.{Gives};
 ghost use Rattle.pl_yaml.specs.Plain as spec;
 
 use crate::heads::stands;
-use crate::push::{push_all, push_times};
+use crate::push::push_times;
 use crate::reader::Reader;
 use pl_base::{FileKey, Node, NodeBody, Text};
 use pl_line::{
-    Line, ReadFault, YamlCode, begins_with, content_len, fault_behind, is_bare, is_comment,
-    line_end, node_at, plain_len,
+    Line, ReadFault, YamlCode, content, fault_behind, is_bare, is_comment, line_end, node_at,
+    plain_len, stands_at,
 };
 use std::alloc::{AllocError, Global};
 
 /// Adds the first so many of a line's characters to a text, without the blanks behind them.
 pub(crate) fn push_part(text: &mut String, len: usize, line: &Line) -> Result<(), AllocError>
-    requires { len ≤ length line.now.text.now }
+    requires { len ≤ length (all_of line.now.text) }
     ensures { OnOk result (string_bytes text.new ≡ string_bytes text.old ++ encode_utf8_all (spec.part len (row line.now))) }
 {
-    let (front, _) = line.text.split_at(len);
-    let (content, _) = line.text.split_at(content_len(front));
-    push_all(text, content)
+    text.push_str(content(line.text, len))
 }
 
 /// How many characters of a line continue a plain scalar.
 fn continued(line: &Line) -> Result<usize, ReadFault>
     ensures gives { Gives (λ len. len) result (spec.continued (row line.now)) }
-    ensures within { IfOk result (λ len. len ≤ length line.now.text.now) }
+    ensures within { IfOk result (λ len. len ≤ length (all_of line.now.text)) }
 {
     let len = plain_len(line.text, line.whole);
-    let (_, rest) = line.text.split_at(len);
-    if begins_with(':', rest) {
+    if stands_at(':', len, line.text) {
         return Err(fault_behind(YamlCode::NoEntry, len, line));
     }
     line_end(line)?;
@@ -109,7 +107,7 @@ pub(crate) fn word(
     len: usize,
     reader: &mut Reader,
 ) -> Result<Node, ReadFault>
-    requires { len ≤ length line.now.text.now }
+    requires { len ≤ length (all_of line.now.text) }
     ensures gives { Gives (λ node. (node, reader.new)) result (spec.word file.now parent (row line.now) len reader.old) }
     ensures falls { OnOk result (size reader.new ≤ size reader.old) }
 {

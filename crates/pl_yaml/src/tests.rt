@@ -75,3 +75,42 @@ fn outcome(alloc: Global, text: &[u8]) -> Result<String, Memory> {
         Err(YamlFault::Memory) => Err(Memory),
     }
 }
+
+// A character of a table: the picture of a control character (U+2400 to U+241F, and U+2421) stands
+// for that character.
+fn meant(character: char) -> char {
+    match character {
+        '\u{2400}'..='\u{241f}' => char::from((character as u32 - 0x2400) as u8),
+        '\u{2421}' => '\x7f',
+        _ => character,
+    }
+}
+
+// A part of a table's line, with the characters that are meant.
+fn spelled(alloc: Global, part: &str) -> Result<String, Memory> {
+    let mut all = String::new(alloc);
+    for character in part.chars() {
+        all.push(meant(character))?;
+    }
+    Ok(all)
+}
+
+// Whether a table's line `TEXT => OUTCOME` is what reading the text answers.
+fn holds(alloc: Global, line: &str) -> Result<bool, Memory> {
+    let Some((text, expected)) = line.split_once(" => ") else {
+        return Ok(false);
+    };
+    let got = outcome(alloc, spelled(alloc, text)?.as_bytes())?;
+    let wanted = spelled(alloc, expected)?;
+    Ok(got.as_str() == wanted.as_str())
+}
+
+// The first line of a table that doesn't hold; else the empty text.
+fn first_wrong(alloc: Global, table: &str) -> Result<String, Memory> {
+    for line in table.lines() {
+        if !holds(alloc, line)? {
+            return Ok(String::from_str(alloc, line)?);
+        }
+    }
+    Ok(String::new(alloc))
+}

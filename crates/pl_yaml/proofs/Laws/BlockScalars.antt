@@ -1,12 +1,13 @@
 -- The lines of a block scalar, and their text.
-use Rattle.std.proofs.Common.{◌≡◌, ℕ, ◌+◌, ◌<◌, Bool, List, [], ◌∷◌, ◌++◌, map, drop, length, get_or, Option, Ok, Err, refl, sym, ap, ◌∙◌, append_assoc, add-one, drop-cons}
+use Rattle.std.proofs.Common.{◌≡◌, ℕ, zero, suc, ◌+◌, ◌-◌, Bool, true, ◌||◌, cond, List, [], ◌∷◌, ◌++◌, take, drop, length, Option, Ok, Err, refl, sym, ap, ap₂, ◌∙◌, append_assoc, arith}
 use Rattle.std.specs.Prelude.{encode_utf8_all}
 use Rattle.std.proofs.lemmas.Str.{encodes-append}
 use Rattle.pl_line.specs.Reading.{◌>>=◌}
-use Rattle.pl_yaml.specs.declared.block_line.BlockLine.{BlockLine}
+use Rattle.pl_line.specs.Left.{is_bare}
 use Rattle.pl_yaml.specs.declared.header.Chomping.{Chomping}
-use Rattle.pl_yaml.specs.Reading.{Read}
-use Rattle.pl_yaml.specs.BlockScalars.{TextLine, text_line, next_line, break_before, block_text}
+use Rattle.pl_line.specs.Rows.{Row}
+use Rattle.pl_yaml.specs.Reading.{Read, has_row}
+use Rattle.pl_yaml.specs.BlockScalars.{TextLine, text_lines, line_from, lines, line_before, reaches, inside, next_line, break_before, block_text}
 
 -- lines read before others
 abbrev pub prefixed : List TextLine → Read (List TextLine) → Read (List TextLine)
@@ -15,6 +16,10 @@ prefixed front read = read >>= λ r. Ok (front ++ r.0, r.1)
 pub prefixed_none : (read : Read (List TextLine)) → prefixed [] read ≡ read
 prefixed_none (Ok r) = refl
 prefixed_none (Err fault) = refl
+
+prefixed_more : (front : List TextLine) (line : TextLine) (more : Read (List TextLine)) → prefixed (front ++ line ∷ []) more ≡ prefixed front (more >>= λ read. Ok (line ∷ read.0, read.1))
+prefixed_more front line (Ok r) = ap (λ ls. Ok (ls, r.1)) (append_assoc front (line ∷ []) r.0)
+prefixed_more front line (Err fault) = refl
 
 -- two parts, added to a text
 pub pushed : (old one two : List ℕ) (a b : List ℕ) → one ≡ old ++ encode_utf8_all a → two ≡ one ++ encode_utf8_all b → two ≡ old ++ encode_utf8_all (a ++ b)
@@ -29,21 +34,62 @@ pushed_along old one two a b more first second =
     ∙ ap (λ e. old ++ e) (sym (encodes-append a (b ++ more)))
 
 -- a line of a scalar, with its break, and the lines behind it
-pub text_goes : (is_folded : Bool) (chomps : Chomping) (old one two end : List ℕ) (line : BlockLine) (rest after : List BlockLine) (next : Option TextLine)
-    → rest ≡ line ∷ after → next ≡ next_line (map text_line after) → end ≡ break_before is_folded chomps (text_line line) (map text_line after) next
-    → one ≡ old ++ encode_utf8_all (text_line line).text → two ≡ one ++ encode_utf8_all end
-    → two ++ encode_utf8_all (block_text is_folded chomps (map text_line after)) ≡ old ++ encode_utf8_all (block_text is_folded chomps (map text_line rest))
+pub text_goes : (is_folded : Bool) (chomps : Chomping) (old one two end : List ℕ) (line : TextLine) (rest after : List TextLine) (next : Option TextLine)
+    → rest ≡ line ∷ after → next ≡ next_line after → end ≡ break_before is_folded chomps line after next
+    → one ≡ old ++ encode_utf8_all line.text → two ≡ one ++ encode_utf8_all end
+    → two ++ encode_utf8_all (block_text is_folded chomps after) ≡ old ++ encode_utf8_all (block_text is_folded chomps rest)
 unfolding block_text
 text_goes is_folded chomps old one two end line rest after next cut at is first second =
-    let parts : end ≡ break_before is_folded chomps (text_line line) (map text_line after) (next_line (map text_line after)) = is ∙ ap (break_before is_folded chomps (text_line line) (map text_line after)) at in
-    pushed_along old one two (text_line line).text end (block_text is_folded chomps (map text_line after)) first second
-    ∙ ap (λ e. old ++ encode_utf8_all ((text_line line).text ++ (e ++ block_text is_folded chomps (map text_line after)))) parts
-    ∙ ap (λ ls. old ++ encode_utf8_all (block_text is_folded chomps (map text_line ls))) (sym cut)
+    let parts : end ≡ break_before is_folded chomps line after (next_line after) = is ∙ ap (break_before is_folded chomps line after) at in
+    pushed_along old one two line.text end (block_text is_folded chomps after) first second
+    ∙ ap (λ e. old ++ encode_utf8_all (line.text ++ (e ++ block_text is_folded chomps after))) parts
+    ∙ ap (λ ls. old ++ encode_utf8_all (block_text is_folded chomps ls)) (sym cut)
 
--- the lines from a place on
-pub from_place : (all : List BlockLine) (i : ℕ) (none : BlockLine) → i < length all → drop i all ≡ get_or all i none ∷ drop (i + 1) all
-from_place all i none within = rw add-one (drop-cons all i none within)
+-- the first of the lines that are left, looked at and taken off
+pub seen : (column : Option ℕ) (left : ℕ) (rows : List Row) (row : Row) (is_broken : Bool) (line : TextLine) → (left ≡ 0 → ⊥) → rows ≡ row ∷ drop 1 rows
+    → is_broken ≡ has_row (drop 1 rows) → line ≡ line_from column row is_broken → take left (text_lines column rows) ≡ line ∷ drop 1 (take left (text_lines column rows))
+seen column zero rows row is_broken line some is broken made = absurd (some refl)
+seen column (suc left) rows row is_broken line some is broken made =
+    let first : line_from column row (has_row (drop 1 rows)) ≡ line = sym (made ∙ ap (line_from column row) broken) in
+    let cut : take (suc left) (text_lines column rows) ≡ line ∷ take left (text_lines column (drop 1 rows)) =
+    ap (λ rs. take (suc left) (text_lines column rs)) is ∙ ap (λ l. l ∷ take left (text_lines column (drop 1 rows))) first
+    in
+    cut ∙ ap (λ ls. line ∷ ls) (sym (ap (drop 1) cut))
 
-pub map_push : (all : List BlockLine) (line : BlockLine) → map text_line (all ++ line ∷ []) ≡ map text_line all ++ text_line line ∷ []
-map_push [] line = refl
-map_push (l ∷ all) line = ap (λ ls. text_line l ∷ ls) (map_push all line)
+pub taken : (column : Option ℕ) (left : ℕ) (rows after : List Row) (row : Row) (is_broken : Bool) (line : TextLine) → (left ≡ 0 → ⊥) → rows ≡ row ∷ drop 1 rows → after ≡ drop 1 rows
+    → is_broken ≡ has_row after → line ≡ line_from column row is_broken → take left (text_lines column rows) ≡ line ∷ take (left - 1) (text_lines column after)
+taken column zero rows after row is_broken line some is behind broken made = absurd (some refl)
+taken column (suc left) rows after row is_broken line some is behind broken made =
+    let e : suc left - 1 ≡ left = omega arith in
+    let first : line_from column row (has_row (drop 1 rows)) ≡ line = sym (made ∙ ap (line_from column row) (broken ∙ ap has_row behind)) in
+    let others : take left (text_lines column (drop 1 rows)) ≡ take (suc left - 1) (text_lines column after) =
+    sym (ap (λ n. take n (text_lines column after)) e ∙ ap (λ rs. take left (text_lines column rs)) behind)
+    in
+    ap (λ rs. take (suc left) (text_lines column rs)) is ∙ ap₂ (λ l ls. l ∷ ls) first others
+
+-- one line more of those that were read
+pub one_more : (column : Option ℕ) (n : ℕ) (rows others : List Row) (row : Row) → drop n rows ≡ row ∷ others
+    → take (n + 1) (text_lines column rows) ≡ take n (text_lines column rows) ++ line_from column row (has_row others) ∷ []
+one_more column zero [] others row is = absurd (omega (arith, ap length is))
+one_more column zero (r ∷ rows) others row is = ap (λ rs. take 1 (text_lines column rs)) is
+one_more column (suc n) [] others row is = absurd (omega (arith, ap length is))
+one_more column (suc n) (r ∷ rows) others row is =
+    let e : suc n + 1 ≡ suc (n + 1) = omega arith in
+    ap (λ m. take m (text_lines column (r ∷ rows))) e ∙ ap (λ ls. line_from column r (has_row rows) ∷ ls) (one_more column n rows others row is)
+
+-- a line that belongs to the scalar
+more_lines : (column : Option ℕ) (row : Row) (others : List Row) → (is_bare row || reaches column row) ≡ true → inside row ≡ Ok tt
+    → lines column (row ∷ others) ≡ (lines column others >>= λ read. Ok (line_from column row (has_row others) ∷ read.0, read.1))
+unfolding lines
+more_lines column row others belongs clean =
+    ap (λ b. cond b (line_before column row (lines column others) others) (Ok ([], row ∷ others))) belongs
+    ∙ ap (λ r. r >>= λ _. lines column others >>= λ read. Ok (line_from column row (has_row others) ∷ read.0, read.1)) clean
+
+pub line_read : (column : Option ℕ) (n : ℕ) (start rows after : List Row) (row : Row) → rows ≡ row ∷ drop 1 rows → rows ≡ drop n start → after ≡ drop 1 rows
+    → (is_bare row || reaches column row) ≡ true → inside row ≡ Ok tt
+    → prefixed (take (n + 1) (text_lines column start)) (lines column after) ≡ prefixed (take n (text_lines column start)) (lines column rows)
+line_read column n start rows after row is at behind belongs clean =
+    ap (λ rs. prefixed (take (n + 1) (text_lines column start)) (lines column rs)) behind
+    ∙ ap (λ ls. prefixed ls (lines column (drop 1 rows))) (one_more column n start (drop 1 rows) row (sym at ∙ is))
+    ∙ prefixed_more (take n (text_lines column start)) (line_from column row (has_row (drop 1 rows))) (lines column (drop 1 rows))
+    ∙ ap (prefixed (take n (text_lines column start))) (sym (more_lines column row (drop 1 rows) belongs clean) ∙ ap (lines column) (sym is))

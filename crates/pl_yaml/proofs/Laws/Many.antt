@@ -1,5 +1,5 @@
 -- One after the other, as a loop values them.
-use Rattle.std.proofs.Common.{◌≡◌, ℕ, zero, suc, ◌+◌, ◌-◌, ◌<◌, List, [], ◌∷◌, ◌++◌, Option, Some, None, Result, Ok, Err, refl, sym, ap, ◌∙◌, arith}
+use Rattle.std.proofs.Common.{◌≡◌, ℕ, zero, suc, ◌-◌, ◌<◌, List, [], ◌∷◌, ◌++◌, Option, Some, None, Result, Ok, Err, refl, sym, ap, ◌∙◌, arith}
 use Rattle.pl_base.specs.declared.place.FileKey.{FileKey}
 use Rattle.pl_base.specs.declared.node.Node.{Node}
 use Rattle.pl_base.specs.declared.node.NodeBody.TheVariants.{Seq, Map}
@@ -8,12 +8,13 @@ use Rattle.pl_line.specs.declared.code.YamlCode.TheVariants as codes_of
 use Rattle.pl_line.specs.declared.line_fault.Fault.{Fault}
 use Rattle.pl_line.specs.declared.line_fault.ReadFault.{ReadFault}
 use Rattle.pl_line.specs.declared.line_fault.ReadFault.TheVariants as faults
-use Rattle.pl_line.specs.Rows.{Row, size}
+use Rattle.pl_line.specs.Rows.{Row}
 use Rattle.pl_yaml.specs.Reading.{Read, many, many_step}
 use Rattle.pl_line.specs.Reading.{◌>>=◌, Fails, fault_at}
 use Rattle.pl_line.specs.Trees.{node_at}
 use Rattle.pl_yaml.specs.Keys.{FoundKey, next_key}
 use Rattle.pl_yaml.specs.Nodes.{Values, values_at, inner, node, next_item, item, items, sequence, sequence_of, pair, pairs, mapping, mapping_of}
+use Rattle.pl_yaml.specs.Stack.{items_from, pairs_from}
 
 -- in a collection one less may open
 pub inner_some : (file : FileKey) (depth : ℕ) → (depth ≡ 0 → ⊥) → inner file depth ≡ Some (values_at file (depth - 1))
@@ -68,72 +69,78 @@ module _ {X A : Type 0} (here : List Row → Read (Option X)) (one : List A → 
   many_breaks (suc turns) before rows left x fault some is broken =
       ap (λ r. r >>= λ found. many_step (many here one turns) one before found.0 found.1) is ∙ ap (λ r. r >>= λ next. many here one turns (before ++ next.0 ∷ []) next.1) broken
 
-  pub many_goes : (turns : ℕ) (before : List A) (rows left rest : List Row) (x : X) (a : A) → 0 < turns → here rows ≡ Ok (Some x, left) → one before x left ≡ Ok (a, rest)
-      → many here one (turns - 1) (before ++ a ∷ []) rest ≡ many here one turns before rows
+  pub many_goes : (turns : ℕ) (before : List A) (rows left : List Row) (x : X) → 0 < turns → here rows ≡ Ok (Some x, left)
+      → many here one turns before rows ≡ (one before x left >>= λ next. many here one (turns - 1) (before ++ next.0 ∷ []) next.1)
   unfolding many
-  many_goes zero before rows left rest x a some is read = absurd (omega arith)
-  many_goes (suc turns) before rows left rest x a some is read =
+  many_goes zero before rows left x some is = absurd (omega arith)
+  many_goes (suc turns) before rows left x some is =
       let e : suc turns - 1 ≡ turns = omega arith in
-      ap (λ t. many here one t (before ++ a ∷ []) rest) e
-      ∙ sym (ap (λ r. r >>= λ found. many_step (many here one turns) one before found.0 found.1) is ∙ ap (λ r. r >>= λ next. many here one turns (before ++ next.0 ∷ []) next.1) read)
+      ap (λ r. r >>= λ found. many_step (many here one turns) one before found.0 found.1) is
+      ∙ sym (ap (λ t. one before x left >>= λ next. many here one t (before ++ next.0 ∷ []) next.1) e)
 
--- the same for the two collections: `start` is what was left before the first entry
-module _ (file : FileKey) (values : Values) (parent : ℕ) (row : Row) (start : List Row) (turns : ℕ) (before : List Node) (rows : List Row)
-    (some : 0 < turns) (same : items file values parent row.column turns before rows ≡ items file values parent row.column (size start + 1) [] start) where
-  pub items_stop : (e : ReadFault) → Fails e (next_item parent row.column rows) → Fails e (sequence_of file values parent row start)
+pub bind_bind : {A B C : Type 0} (r : Result A Fault) (f : A → Result B Fault) (g : B → Result C Fault) → ((r >>= f) >>= g) ≡ (r >>= λ x. f x >>= g)
+bind_bind (Ok x) f g = refl
+bind_bind (Err fault) f g = refl
+
+-- the same for the two collections
+module _ (file : FileKey) (values : Values) (parent : ℕ) (row : Row) (turns : ℕ) (before : List Node) (rows : List Row) (some : 0 < turns) where
+  pub items_stop : (e : ReadFault) → Fails e (next_item parent row.column rows) → Fails e (items_from file values parent row turns before rows)
   items_stop e fails =
-      fails_along e (next_item parent row.column rows) (sequence_of file values parent row start)
+      fails_along e (next_item parent row.column rows) (items_from file values parent row turns before rows)
       (λ fault is. ap (λ r. r >>= λ read. Ok (node_at file row (Seq read.0), read.1))
-      (sym same ∙ many_stops (next_item parent row.column) (λ _ r left. item file values r left) turns before rows fault some is))
+      (many_stops (next_item parent row.column) (λ _ r left. item file values r left) turns before rows fault some is))
       fails
 
   pub items_break : (left : List Row) (x : Row) (e : ReadFault) → next_item parent row.column rows ≡ Ok (Some x, left) → Fails e (item file values x left)
-      → Fails e (sequence_of file values parent row start)
+      → Fails e (items_from file values parent row turns before rows)
   items_break left x e found fails =
-      fails_along e (item file values x left) (sequence_of file values parent row start)
+      fails_along e (item file values x left) (items_from file values parent row turns before rows)
       (λ fault is. ap (λ r. r >>= λ read. Ok (node_at file row (Seq read.0), read.1))
-      (sym same ∙ many_breaks (next_item parent row.column) (λ _ r rest. item file values r rest) turns before rows left x fault some found is))
+      (many_breaks (next_item parent row.column) (λ _ r rest. item file values r rest) turns before rows left x fault some found is))
       fails
 
   pub items_end : (left : List Row) (made : Node) → next_item parent row.column rows ≡ Ok (None, left) → made ≡ node_at file row (Seq before)
-      → sequence_of file values parent row start ≡ Ok (made, left)
+      → items_from file values parent row turns before rows ≡ Ok (made, left)
   items_end left made none is =
       ap (λ r. r >>= λ read. Ok (node_at file row (Seq read.0), read.1))
-      (sym same ∙ many_ends (next_item parent row.column) (λ _ r rest. item file values r rest) turns before rows left some none)
+      (many_ends (next_item parent row.column) (λ _ r left. item file values r left) turns before rows left some none)
       ∙ ap (λ n. Ok (n, left)) (sym is)
 
-  pub items_go : (left rest : List Row) (x : Row) (a : Node) (after : List Node) → next_item parent row.column rows ≡ Ok (Some x, left) → item file values x left ≡ Ok (a, rest) → after ≡ before ++ a ∷ []
-      → items file values parent row.column (turns - 1) after rest ≡ items file values parent row.column (size start + 1) [] start
-  items_go left rest x a after found read is =
-      ap (λ b. items file values parent row.column (turns - 1) b rest) is
-      ∙ many_goes (next_item parent row.column) (λ _ r left. item file values r left) turns before rows left rest x a some found read ∙ same
+  pub items_go : (left : List Row) (x : Row) → next_item parent row.column rows ≡ Ok (Some x, left)
+      → items_from file values parent row turns before rows ≡ (item file values x left >>= λ read. items_from file values parent row (turns - 1) (before ++ read.0 ∷ []) read.1)
+  items_go left x found =
+      ap (λ r. r >>= λ read. Ok (node_at file row (Seq read.0), read.1))
+      (many_goes (next_item parent row.column) (λ _ r left. item file values r left) turns before rows left x some found)
+      ∙ bind_bind (item file values x left) (λ next. items file values parent row.column (turns - 1) (before ++ next.0 ∷ []) next.1)
+      (λ read. Ok (node_at file row (Seq read.0), read.1))
 
-module _ (file : FileKey) (values : Values) (row : Row) (start : List Row) (turns : ℕ) (before : List NodePair) (rows : List Row)
-    (some : 0 < turns) (same : pairs file values row.column turns before rows ≡ pairs file values row.column (size start + 1) [] start) where
-  pub pairs_stop : (e : ReadFault) → Fails e (next_key file values.depth row.column rows) → Fails e (mapping_of file values row start)
+module _ (file : FileKey) (values : Values) (row : Row) (turns : ℕ) (before : List NodePair) (rows : List Row) (some : 0 < turns) where
+  pub pairs_stop : (e : ReadFault) → Fails e (next_key file values.depth row.column rows) → Fails e (pairs_from file values row turns before rows)
   pairs_stop e fails =
-      fails_along e (next_key file values.depth row.column rows) (mapping_of file values row start)
+      fails_along e (next_key file values.depth row.column rows) (pairs_from file values row turns before rows)
       (λ fault is. ap (λ r. r >>= λ read. Ok (node_at file row (Map read.0), read.1))
-      (sym same ∙ many_stops (next_key file values.depth row.column) (pair file values) turns before rows fault some is))
+      (many_stops (next_key file values.depth row.column) (pair file values) turns before rows fault some is))
       fails
 
   pub pairs_break : (left : List Row) (x : FoundKey) (e : ReadFault) → next_key file values.depth row.column rows ≡ Ok (Some x, left) → Fails e (pair file values before x left)
-      → Fails e (mapping_of file values row start)
+      → Fails e (pairs_from file values row turns before rows)
   pairs_break left x e found fails =
-      fails_along e (pair file values before x left) (mapping_of file values row start)
+      fails_along e (pair file values before x left) (pairs_from file values row turns before rows)
       (λ fault is. ap (λ r. r >>= λ read. Ok (node_at file row (Map read.0), read.1))
-      (sym same ∙ many_breaks (next_key file values.depth row.column) (pair file values) turns before rows left x fault some found is))
+      (many_breaks (next_key file values.depth row.column) (pair file values) turns before rows left x fault some found is))
       fails
 
   pub pairs_end : (left : List Row) (made : Node) → next_key file values.depth row.column rows ≡ Ok (None, left) → made ≡ node_at file row (Map before)
-      → mapping_of file values row start ≡ Ok (made, left)
+      → pairs_from file values row turns before rows ≡ Ok (made, left)
   pairs_end left made none is =
       ap (λ r. r >>= λ read. Ok (node_at file row (Map read.0), read.1))
-      (sym same ∙ many_ends (next_key file values.depth row.column) (pair file values) turns before rows left some none)
+      (many_ends (next_key file values.depth row.column) (pair file values) turns before rows left some none)
       ∙ ap (λ n. Ok (n, left)) (sym is)
 
-  pub pairs_go : (left rest : List Row) (x : FoundKey) (a : NodePair) (after : List NodePair) → next_key file values.depth row.column rows ≡ Ok (Some x, left) → pair file values before x left ≡ Ok (a, rest) → after ≡ before ++ a ∷ []
-      → pairs file values row.column (turns - 1) after rest ≡ pairs file values row.column (size start + 1) [] start
-  pairs_go left rest x a after found read is =
-      ap (λ b. pairs file values row.column (turns - 1) b rest) is
-      ∙ many_goes (next_key file values.depth row.column) (pair file values) turns before rows left rest x a some found read ∙ same
+  pub pairs_go : (left : List Row) (x : FoundKey) → next_key file values.depth row.column rows ≡ Ok (Some x, left)
+      → pairs_from file values row turns before rows ≡ (pair file values before x left >>= λ read. pairs_from file values row (turns - 1) (before ++ read.0 ∷ []) read.1)
+  pairs_go left x found =
+      ap (λ r. r >>= λ read. Ok (node_at file row (Map read.0), read.1))
+      (many_goes (next_key file values.depth row.column) (pair file values) turns before rows left x some found)
+      ∙ bind_bind (pair file values before x left) (λ next. pairs file values row.column (turns - 1) (before ++ next.0 ∷ []) next.1)
+      (λ read. Ok (node_at file row (Map read.0), read.1))

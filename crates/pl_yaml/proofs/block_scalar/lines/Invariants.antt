@@ -1,12 +1,14 @@
-use Rattle.std.proofs.Common.{◌≡◌, ◌≤◌, map}
+use Rattle.std.proofs.Common.{◌≡◌, ◌+◌, ◌≤◌, take, drop, length}
 use Rattle.pl_line.specs.Rows.{size}
-use Rattle.pl_yaml.specs.BlockScalars.{text_line, lines}
+use Rattle.pl_yaml.specs.BlockScalars.{text_lines, lines}
 use Rattle.pl_yaml.proofs.Laws.BlockScalars.{prefixed}
 use Rattle.pl_yaml.proofs.block_scalar.lines.Given as goal
 
 abbrev pub invariant-loop-line : goal.invariant-loop-line
 invariant-loop-line l = record {
-  gives : prefixed (map text_line l.all.items) (lines l.column l.reader) ≡ lines l.column l.fn.reader;
+  gives : prefixed (take l.count (text_lines l.column l.fn.reader)) (lines l.column l.reader) ≡ lines l.column l.fn.reader;
+  at : l.reader ≡ drop l.count l.fn.reader;
+  within : l.count + length l.reader ≡ length l.fn.reader;
   falls : size l.reader ≤ size l.fn.reader;
 }
 

@@ -1,6 +1,10 @@
-use Rattle.std.proofs.Common.{◌≡◌, drop}
+use Rattle.std.proofs.Common.{◌≡◌, length}
+use Rattle.pl_line.specs.Characters.{all_of}
 use Rattle.pl_yaml.specs.BlockScalars.{digit}
 use Rattle.pl_yaml.proofs.header.digit_of.Given as goal
 
 abbrev pub invariant-loop-mark : goal.invariant-loop-mark
-invariant-loop-mark l = digit (drop l.mark-index l.marks) ≡ digit l.marks
+invariant-loop-mark l = digit (all_of l.rest) ≡ digit (all_of l.marks)
+
+abbrev pub decreases-loop-mark : goal.decreases-loop-mark
+decreases-loop-mark l = length (all_of l.rest)

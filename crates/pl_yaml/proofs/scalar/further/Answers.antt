@@ -6,8 +6,8 @@ use Rattle.pl_yaml.proofs.Laws.Content.{size_drop}
 use Rattle.pl_yaml.proofs.Laws.Plain.{further_ends, further_more}
 use Rattle.pl_yaml.proofs.scalar.further.Goals as goal
 
-pub returns-then-len-line-clause-gives : goal.returns-then-len-line-clause-gives
-returns-then-len-line-clause-gives c =
+pub returns-then-len-clause-gives : goal.returns-then-len-clause-gives
+returns-then-len-clause-gives c =
     let line = c.in-Some.line in
     let bare : is_bare (row line) ≡ false = sym c.is_bare.ensures ∙ c.if-is_bare.false in
     let comment : is_comment (row line) ≡ false = sym c.is_comment.ensures ∙ c.if-is_comment.false in

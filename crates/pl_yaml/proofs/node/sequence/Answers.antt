@@ -1,0 +1,14 @@
+use Rattle.std.proofs.Common.{◌+◌, ◌-◌, sym, ap, ◌∙◌}
+use Rattle.pl_line.specs.Rows.{row, size}
+use Rattle.pl_yaml.specs.Nodes.{values_at}
+use Rattle.pl_yaml.specs.Stack.{items_from}
+use Rattle.pl_yaml.proofs.Laws.Many.{sequence_shuts, sequence_opens}
+use Rattle.pl_yaml.proofs.node.sequence.Goals as goal
+
+pub returns-then-depth-eq0 : goal.returns-then-depth-eq0
+returns-then-depth-eq0 c = λ file rows. sequence_shuts file c.args.depth c.args.parent (row c.args.line.now) rows c.fault_at.result c.if-depth-eq0.true c.fault_at.ensures
+
+pub returns : goal.returns
+returns c = λ file rows.
+    sequence_opens file c.args.depth c.args.parent (row c.args.line.now) rows c.if-depth-eq0.false
+    ∙ ap (λ before. items_from file (values_at file (c.args.depth - 1)) c.args.parent (row c.args.line.now) (size rows + 1) before rows) (sym c.new.ensures)
