@@ -1,0 +1,12 @@
+pub mod Quotes
+pub mod Rows
+pub mod RowsTrees
+pub mod Texts
+pub mod TextsEscapes
+pub mod TreeBlocks
+pub mod TreeEquations
+pub mod TreeInline
+pub mod TreeMappings
+pub mod TreeReads
+pub mod TreeRows
+pub mod TreeSequences

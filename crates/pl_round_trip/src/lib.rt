@@ -1,0 +1,8 @@
+//! What is printed of a tree reads as that tree.
+#![tactic(auto)]
+
+mod laws;
+#[cfg(test)]
+mod tests;
+
+pub use laws::what_is_printed_reads_back;
