@@ -22,14 +22,16 @@ pub trait Link {
     ghost write_faults: { Self → ℕ };
 
     /// Reads the next bytes into the front of a piece, and says how many. 0 for a piece that isn't
-    /// empty is the end. Failed leaves the bytes as they were.
+    /// empty is the end. Failed leaves the bytes as they were. Only the end is told as the end.
     fn read(&mut self, into: &mut [u8]) -> Result<usize, Failed>
         ensures within { IfOk result (λ count. count ≤ length into.old) }
         ensures bytes { IfOk result (λ count. left self.old ≡ with_front (take count into.new) (left self.new)) }
         ensures end { 0 < length into.old → IfOk result (λ count. count ≡ 0 → IsTrue (ended self.new) × IfSome (left self.new) (λ rest. rest ≡ [])) }
         ensures quiet { OnOk result (read_faults self.new ≡ read_faults self.old) }
         ensures failed { OnErr result (read_faults self.new ≡ one_more (read_faults self.old)) }
+        ensures running { IfOk result (λ count. 0 < count → ended self.new ≡ ended self.old) }
         ensures kept { OnErr result (left self.new ≡ left self.old) }
+        ensures unended { OnErr result (ended self.new ≡ ended self.old) }
         ensures writing { (held self.new ≡ held self.old) × (write_faults self.new ≡ write_faults self.old) };
 
     /// Takes a front of the bytes, at least one of a piece that isn't empty, and says how many.

@@ -90,10 +90,14 @@ impl<T> List<T> {
 
 impl<T: Drop> List<T> {
     /// Puts an item behind the last one. After Memory the list is as before, and the item is dropped.
+    /// The first item takes room for one alone, since most lists of trees have one.
     pub fn push(&mut self, item: T) -> Result<(), Memory>
         ensures ok { OnOk result (self.new ≡ self.old ++ item ∷ []) }
         ensures err { OnErr result (self.new ≡ self.old) }
     {
+        if self.items.capacity() == 0 {
+            self.items.reserve_exact(1)?;
+        }
         self.items.push(item)?;
         Ok(())
     }

@@ -1,7 +1,8 @@
 use crate::exact_copy::ExactCopy;
-use crate::list::List;
 use crate::memory::Memory;
 use crate::place::{FileKey, Place};
+use crate::shared::Shared;
+use crate::shared_list::SharedList;
 use crate::text::Text;
 use std::alloc::Global;
 
@@ -9,9 +10,9 @@ use std::alloc::Global;
 #[derive(Debug, Drop, PartialEq, Eq)]
 pub enum Crossing {
     /// The root file extends this template.
-    Extends(FileKey),
+    Extends(Shared<FileKey>),
     /// This template was included, by the `template` item at this place.
-    Include(FileKey, Place),
+    Include(Shared<FileKey>, Place),
     /// The parameter of this name was taken by the expression at this place.
     Argument(Text, Place),
     /// An expression made the node.
@@ -19,11 +20,11 @@ pub enum Crossing {
 }
 
 /// Where a node or a key of the expanded tree comes from: where it is written, and the borders
-/// that it crossed since, in order.
+/// that it crossed since, in order. Origins whose crossings begin alike share these.
 #[derive(Debug, Drop, PartialEq, Eq)]
 pub struct Origin {
     pub source: Place,
-    pub crossings: List<Crossing>,
+    pub crossings: SharedList<Crossing>,
 }
 
 impl ExactCopy for Crossing {

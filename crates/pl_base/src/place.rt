@@ -3,6 +3,7 @@ ghost use Rattle.pl_base.specs.Places.{place_at};
 
 use crate::exact_copy::ExactCopy;
 use crate::memory::Memory;
+use crate::shared::Shared;
 use crate::text::Text;
 use std::alloc::Global;
 
@@ -15,33 +16,18 @@ pub struct FileKey {
     pub path: Text,
 }
 
-impl FileKey {
-    /// A key of the same texts, whose copies share them.
-    pub fn shared(&self, alloc: Global) -> Result<FileKey, Memory>
-        ensures { IfOk result (λ key. key ≡ self.now) }
-    {
-        let repo = self.repo.shared(alloc)?;
-        let git_ref = self.git_ref.shared(alloc)?;
-        let path = self.path.shared(alloc)?;
-        Ok(FileKey {
-            repo,
-            git_ref,
-            path,
-        })
-    }
-}
-
-/// A place in a file: its line and its column, both from 1. Columns count Unicode scalar values.
+/// A place in a file: its line and its column, both from 1. Columns count Unicode scalar values. The
+/// places of one file share its key.
 #[derive(Debug, Drop, PartialEq, Eq)]
 pub struct Place {
-    pub file: FileKey,
+    pub file: Shared<FileKey>,
     pub line: u32,
     pub col: u32,
 }
 
 impl Place {
-    /// A place in a file, of which it keeps a copy.
-    pub fn at(alloc: Global, file: &FileKey, line: u32, col: u32) -> Result<Place, Memory>
+    /// A place in a file, whose key it shares.
+    pub fn at(alloc: Global, file: &Shared<FileKey>, line: u32, col: u32) -> Result<Place, Memory>
         ensures { IfOk result (λ place. place ≡ place_at file.now line col) }
     {
         let file = file.copy(alloc)?;

@@ -1,11 +1,13 @@
 use crate::{
     Argument, Boxed, Bytes, Clock, Crossing, ExactCopy, Failed, FileKey, FileSet, Link, List,
     MarkedNode, MarkedPair, MemClock, MemSink, MemSource, Memory, Node, NodeBody, NodePair, Origin,
-    Paired, Place, Refusal, Repository, Sink, Source, Text, Value, equals_ignoring_case,
+    Paired, Place, Refusal, Repository, Shared, SharedList, Sink, Source, Text, Value,
+    equals_ignoring_case,
 };
 use std::alloc::Global;
 use std::cmp::Ordering;
 use std::fmt::Debug;
+use std::mem::size_of;
 use std::test::Fail;
 
 fn key(alloc: Global, repo: &str, git_ref: &str, path: &str) -> Result<FileKey, Memory> {
@@ -18,18 +20,19 @@ fn key(alloc: Global, repo: &str, git_ref: &str, path: &str) -> Result<FileKey, 
 
 fn place(alloc: Global, line: u32, col: u32) -> Result<Place, Memory> {
     let file = key(alloc, "app", "refs/heads/main", "/a.yml")?;
-    Place::at(alloc, &file, line, col)
+    Place::at(alloc, &Shared::new(alloc, file)?, line, col)
 }
 
 // An origin with each kind of crossing.
 fn origin(alloc: Global, line: u32) -> Result<Origin, Memory> {
     let called = key(alloc, "shared", "refs/tags/v1", "/steps.yml")?;
-    let mut crossings = List::new(alloc);
-    crossings.push(Crossing::Extends(key(alloc, "app", "main", "/top.yml")?))?;
-    crossings.push(Crossing::Include(called, place(alloc, line, 3)?))?;
+    let top = Shared::new(alloc, key(alloc, "app", "main", "/top.yml")?)?;
+    let extended = SharedList::new(alloc)?.with(alloc, Crossing::Extends(top))?;
+    let called = Shared::new(alloc, called)?;
+    let included = extended.with(alloc, Crossing::Include(called, place(alloc, line, 3)?))?;
     let name = Text::from_str(alloc, "size")?;
-    crossings.push(Crossing::Argument(name, place(alloc, line, 9)?))?;
-    crossings.push(Crossing::Made)?;
+    let taken = included.with(alloc, Crossing::Argument(name, place(alloc, line, 9)?))?;
+    let crossings = taken.with(alloc, Crossing::Made)?;
     Ok(Origin {
         source: place(alloc, line, 1)?,
         crossings,
@@ -208,7 +211,7 @@ fn shared_texts_are_texts_of_their_own(rt: HostRuntime) -> Result<(), Fail> {
     assert_eq!(rt; second.as_str(), "sized");
     assert_eq!(rt; third.as_str(), "sized!");
     let file = key(alloc, "app", "main", "/a.yml")?;
-    assert_eq!(rt; file.shared(alloc)?.copy(alloc)?, file);
+    assert_eq!(rt; file.copy(alloc)?, file);
     Ok(())
 }
 
@@ -452,5 +455,15 @@ fn a_source_and_a_sink_are_a_link(rt: HostRuntime) -> Result<(), Fail> {
         assert_eq!(rt; exchange(alloc, &mut link)?.as_str(), answer);
     }
     assert_eq!(rt; link.sink.bytes(), b"xyzx".as_slice());
+    Ok(())
+}
+
+/// What a node of a template costs, beside its text and its items: the places of a file share its key, and crossings
+/// that begin alike share these.
+#[test]
+fn a_marked_node_takes_64_bytes(rt: HostRuntime) -> Result<(), Fail> {
+    assert_eq!(rt; size_of::<Place>(), 16);
+    assert_eq!(rt; size_of::<Origin>(), 24);
+    assert_eq!(rt; size_of::<MarkedNode>(), 64);
     Ok(())
 }

@@ -1,4 +1,5 @@
-ghost use Rattle.std.specs.Prelude.{◌≡◌, ◌++◌, [], nat_eq, length, string_bytes, ◌↔◌, IsTrue, IfOk, OnOk, OnErr};
+ghost use Rattle.std.specs.Prelude.{◌≡◌, ◌++◌, [], true, nat_eq, length, string_bytes, ◌↔◌, IsTrue, IfOk, OnOk, OnErr};
+ghost use Rattle.std.specs.Str.{is_utf8};
 ghost use Rattle.std.specs.Ordering.{nat_cmp, as_partial_cmp};
 ghost use Rattle.std.specs.Cmp.{partial_order_from_own_ties};
 ghost use Rattle.std.specs.Cmp.Lexicographic.{slice_cmp, pointwise};
@@ -66,12 +67,16 @@ impl Text {
         }
     }
 
-    /// A text of the same characters, whose copies share them.
+    /// A text of the same characters, whose copies share them. A shared text's characters aren't
+    /// copied: sharing is about cost alone.
     pub fn shared(&self, alloc: Global) -> Result<Text, Memory>
         ensures { IfOk result (λ text. text ≡ self.now) }
     {
-        let own = String::from_str(alloc, self.as_str())?;
-        let kept = Kept::Shared(Arc::new(alloc, own)?);
+        let shared = match &self.kept {
+            Kept::Own(own) => Arc::new(alloc, String::from_str(alloc, own.as_str())?)?,
+            Kept::Shared(shared) => Arc::try_clone(shared)?,
+        };
+        let kept = Kept::Shared(shared);
         Ok(Text { kept })
     }
 
@@ -83,6 +88,13 @@ impl Text {
             Kept::Own(own) => own.as_str(),
             Kept::Shared(shared) => shared.as_str(),
         }
+    }
+
+    /// The law that each text is UTF-8 (RFC 3629), wherever it comes from.
+    pub fn each_is_utf8(&self)
+        ensures { is_utf8 self.now ≡ true }
+    {
+        let _text = self.as_str();
     }
 
     /// The text's bytes.

@@ -7,7 +7,7 @@ ghost use Rattle.pl_core.specs.Plan.{PlansText};
 use crate::only::only_item;
 use pl_base::{
     ExactCopy, FileKey, List, MarkedNode, MarkedPair, Memory, Node, NodeBody, NodePair, Origin,
-    Place, Text, Value,
+    Place, SharedList, Text, Value,
 };
 use pl_step_list::step_list;
 use std::alloc::Global;
@@ -154,6 +154,6 @@ fn written_at(alloc: Global, place: &Place) -> Result<Origin, Memory>
     ensures { IfOk result (λ origin. origin ≡ spec.written_at place.now) }
 {
     let source = place.copy(alloc)?;
-    let crossings = List::new(alloc);
+    let crossings = SharedList::new(alloc)?;
     Ok(Origin { source, crossings })
 }

@@ -8,7 +8,9 @@ use Rattle.pl_base.specs.declared.value.Value.TheOpen.{Value-F}
 use Rattle.pl_base.specs.declared.value.Value.TheOpen as layer
 use Rattle.pl_base.specs.declared.value.MarkedNode.{MarkedNode}
 use Rattle.pl_base.specs.declared.value.MarkedPair.{MarkedPair}
-use Rattle.pl_eval.specs.Known.{same_name}
+use Rattle.pl_eval.specs.declared.names.RootMember.{RootMember}
+use Rattle.pl_eval.specs.declared.names.RootMember.TheVariants.{NoRoot, Missing, Found}
+use Rattle.pl_eval.specs.Known.{Known, same_name, root_of}
 use Rattle.pl_expr.specs.Conversions.{number_of_value, text_of}
 
 -- a value that an expression makes has the origin of made values
@@ -37,6 +39,15 @@ found_in value at = None
 
 abbrev pub found : Value → Value → Option MarkedNode
 found of at = found_in (out-Value of) at
+
+-- what an index finds in the value of a root, where there is such a root
+abbrev pub member_of : Option (Option MarkedNode) → RootMember
+member_of None = NoRoot
+member_of (Some None) = Missing
+member_of (Some (Some node)) = Found node
+
+abbrev pub root_member : Known → List ℕ → Value → RootMember
+root_member known root at = member_of (option_map (λ node. found node.value at) (root_of known root))
 
 -- a look-up hands on what it finds, and makes Null where there is nothing
 abbrev pub looked_up : Origin → Value → Value → MarkedNode

@@ -138,10 +138,18 @@ abbrev pub rooted : Option MarkedNode → Meaning
 rooted None = Err UnknownRoot
 rooted (Some node) = Ok node
 
+-- a look-up by an index: a fault of what is looked in comes first
+abbrev pub indexed : Origin → Meaning → Meaning → Meaning
+indexed here of at = of >>= λ node. at >>= λ index. Ok (looked_up here node.value index.value)
+
+-- the same by the value of an index that has no fault
+abbrev pub indexed_by : Origin → Meaning → Value → Meaning
+indexed_by here of index = of >>= λ node. Ok (looked_up here node.value index)
+
 abbrev pub means_step : Known → Origin → Expr-F Meaning → Meaning
 means_step known here (Lit value) = answer here value
 means_step known here (Root name) = rooted (root_of known name)
-means_step known here (Index of at) = of >>= λ node. at >>= λ index. Ok (looked_up here node.value index.value)
+means_step known here (Index of at) = indexed here of at
 means_step known here (Project of names) = of >>= λ node. answer here (projected names node.value)
 means_step known here (Call function arguments) = called known here function arguments
 

@@ -4,14 +4,14 @@ ghost use Rattle.pl_expr.specs.Functions.{most_of};
 ghost use Rattle.pl_eval.specs.Known.{root_of};
 ghost use Rattle.pl_eval.specs.Statuses.{is_status};
 ghost use Rattle.pl_eval.specs.declared.fault.EvalCode.{EvalCode as Code};
-ghost use Rattle.pl_eval.specs.Means.{means, called, rooted, told, contrary, argument, filled, counted, up_to, all_true, any_true, first_filled, first_is_among, values, status, chosen};
+ghost use Rattle.pl_eval.specs.Means.{Meaning, means, called, rooted, indexed, indexed_by, told, contrary, argument, filled, counted, up_to, all_true, any_true, first_filled, first_is_among, values, status, chosen};
 ghost use Rattle.pl_eval.specs.Gives.{Gives};
 
 use crate::apply::apply;
 use crate::fault::{EvalCode, EvalFault};
 use crate::look_ups::{look_up, make};
 use crate::manner::{Manner, manner_of};
-use crate::names::Names;
+use crate::names::{Names, RootMember};
 use crate::projecting::project;
 use crate::texts::cast_items;
 use pl_base::{ExactCopy, List, MarkedNode, Memory, Origin, Text, Value};
@@ -47,6 +47,43 @@ fn root<N: Names>(alloc: Global, name: &Text, names: &N) -> Result<MarkedNode, E
     match names.find(alloc, name)? {
         Some(node) => Ok(node),
         None => Err(EvalFault::Refused(EvalCode::UnknownRoot)),
+    }
+}
+
+/// What an index finds in a root. An unknown root comes before a fault of the index.
+fn root_index<N: Names>(
+    alloc: Global,
+    name: &Text,
+    at: Result<MarkedNode, EvalFault>,
+    names: &N,
+    here: &Origin,
+) -> Result<MarkedNode, EvalFault>
+    ensures { (meant : Meaning) → Gives at meant → Gives result (indexed here.now (rooted (root_of (N.known names.now) name.now)) meant) }
+{
+    match at {
+        Ok(at) => root_member(alloc, name, &at.value, names, here),
+        Err(EvalFault::Memory) => Err(EvalFault::Memory),
+        Err(fault) => {
+            root(alloc, name, names)?;
+            Err(fault)
+        }
+    }
+}
+
+/// What an index finds in a root, or a Null that is made where it finds nothing.
+fn root_member<N: Names>(
+    alloc: Global,
+    name: &Text,
+    at: &Value,
+    names: &N,
+    here: &Origin,
+) -> Result<MarkedNode, EvalFault>
+    ensures { Gives result (indexed_by here.now (rooted (root_of (N.known names.now) name.now)) at.now) }
+{
+    match names.member(alloc, name, at)? {
+        RootMember::NoRoot => Err(EvalFault::Refused(EvalCode::UnknownRoot)),
+        RootMember::Missing => Ok(make(alloc, Value::Null, here)?),
+        RootMember::Found(node) => Ok(node),
     }
 }
 
@@ -134,11 +171,17 @@ fn evaluate<N: Names>(
     match expr {
         Expr::Lit(value) => Ok(make(alloc, value.copy(alloc)?, here)?),
         Expr::Root(name) => root(alloc, name, names),
-        Expr::Index(of, at) => {
-            let of = evaluate(alloc, of.get(), names, here)?;
-            let at = evaluate(alloc, at.get(), names, here)?;
-            Ok(look_up(alloc, of.value, &at.value, here)?)
-        }
+        Expr::Index(of, at) => match of.get() {
+            Expr::Root(root) => {
+                let at = evaluate(alloc, at.get(), names, here);
+                root_index(alloc, root, at, names, here)
+            }
+            of => {
+                let of = evaluate(alloc, of, names, here)?;
+                let at = evaluate(alloc, at.get(), names, here)?;
+                Ok(look_up(alloc, of.value, &at.value, here)?)
+            }
+        },
         Expr::Project(of, members) => {
             let of = evaluate(alloc, of.get(), names, here)?;
             let found = project(alloc, of.value, members)?;

@@ -15,4 +15,5 @@ mod texts;
 
 pub use evaluate::eval;
 pub use fault::{EvalCode, EvalFault};
-pub use names::Names;
+pub use look_ups::find_member;
+pub use names::{Names, RootMember};

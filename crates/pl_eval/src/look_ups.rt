@@ -1,4 +1,5 @@
 ghost use Rattle.std.specs.Prelude.{◌≡◌, ◌<◌, IfOk, find, length, slice_get, MatchOption};
+ghost use Rattle.std.specs.Option.{option_copied};
 ghost use Rattle.pl_eval.specs.Known.{same_name};
 ghost use Rattle.pl_eval.specs.LookUps.{made, property, item_at, found, looked_up, member, member_behind};
 
@@ -44,6 +45,51 @@ pub fn take_property(pairs: List<MarkedPair>, name: &Text) -> Option<MarkedNode>
     let mut pairs = pairs.into_vec();
     let pair = pairs.swap_remove(place);
     Some(pair.item)
+}
+
+/// The item at a place from 0 of an array.
+fn item_of(items: &List<MarkedNode>, at: i64) -> Option<&MarkedNode>
+    ensures { option_copied result ≡ item_at items.now at }
+{
+    let Ok(place) = usize::try_from(at) else {
+        return None;
+    };
+    items.get(place)
+}
+
+/// The first property of that name, the case of letters aside.
+fn property_of<'p>(pairs: &'p List<MarkedPair>, name: &Text) -> Option<&'p MarkedNode>
+    ensures { option_copied result ≡ property pairs.now name.now }
+{
+    let place = place_of(pairs, name)?;
+    let pair = pairs.get(place)?;
+    Some(&pair.item)
+}
+
+/// What an index finds in a value (Microsoft Learn, Azure Pipelines, "Expressions", References): in an array the item at
+/// the number that the index converts to, from 0; in an object the first property of the name that it converts to, the
+/// case of letters aside; None in anything else, or where the index doesn't convert.
+pub fn find_member<'v>(
+    alloc: Global,
+    of: &'v Value,
+    at: &Value,
+) -> Result<Option<&'v MarkedNode>, Memory>
+    ensures { IfOk result (λ node. option_copied node ≡ found of.now at.now) }
+{
+    match of {
+        Value::Array(items) => match to_number(at) {
+            Some(number) => Ok(item_of(items, number)),
+            None => Ok(None),
+        },
+        Value::Object(pairs) => match at {
+            Value::Array(_) | Value::Object(_) => Ok(None),
+            _ => {
+                let name = to_text(alloc, at)?;
+                Ok(property_of(pairs, &name))
+            }
+        },
+        _ => Ok(None),
+    }
 }
 
 /// Takes the item at a place from 0 out of an array.

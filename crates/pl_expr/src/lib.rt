@@ -2,6 +2,7 @@
 #![tactic(auto)]
 
 mod conversions;
+mod copying;
 mod expr;
 mod fault;
 mod laws;

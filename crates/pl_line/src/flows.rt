@@ -14,7 +14,7 @@ use crate::line_fault::ReadFault;
 use crate::pairs::Pairs;
 use crate::scalars::{node_at, scalar};
 use crate::scan::begins_with;
-use pl_base::{FileKey, List as ItemList, Node, NodeBody, NodePair, Place, Text};
+use pl_base::{FileKey, List as ItemList, Node, NodeBody, NodePair, Place, Shared, Text};
 use std::alloc::Global;
 
 /// Goes over the `:` behind a key.
@@ -50,7 +50,12 @@ fn separated(close: char, line: &mut Line) -> Result<(), ReadFault>
 /// Reads a node in a collection, in which so many collections may still open.
 #[cycle(collections)]
 #[tactic(auto, unfolding(crate::specs::Flow::value))]
-fn value(alloc: Global, file: &FileKey, depth: u32, line: &mut Line) -> Result<Node, ReadFault>
+fn value(
+    alloc: Global,
+    file: &Shared<FileKey>,
+    depth: u32,
+    line: &mut Line,
+) -> Result<Node, ReadFault>
     ensures gives { Gives (λ node. (node, row line.new)) result (spec.value file.now (spec.node file.now depth) (row line.old)) }
     ensures falls { OnOk result (length (all_of line.new.text) < length (all_of line.old.text)) }
 {
@@ -72,7 +77,12 @@ fn value(alloc: Global, file: &FileKey, depth: u32, line: &mut Line) -> Result<N
 /// Reads a key and its `:`. A collection in its place is read through.
 #[cycle(collections)]
 #[tactic(auto, unfolding(crate::specs::Flow::key))]
-fn key(alloc: Global, file: &FileKey, depth: u32, line: &mut Line) -> Result<Text, ReadFault>
+fn key(
+    alloc: Global,
+    file: &Shared<FileKey>,
+    depth: u32,
+    line: &mut Line,
+) -> Result<Text, ReadFault>
     ensures gives { Gives (λ text. (text, row line.new)) result (spec.key (spec.node file.now depth) (row line.old)) }
     ensures falls { OnOk result (length (all_of line.new.text) < length (all_of line.old.text)) }
 {
@@ -97,7 +107,7 @@ fn key(alloc: Global, file: &FileKey, depth: u32, line: &mut Line) -> Result<Tex
 #[tactic(auto, unfolding(crate::specs::Flow::item))]
 fn item(
     alloc: Global,
-    file: &FileKey,
+    file: &Shared<FileKey>,
     depth: u32,
     at: &Line,
     line: &mut Line,
@@ -117,7 +127,7 @@ fn item(
 #[tactic(auto, unfolding(crate::specs::Flow::pair))]
 fn pair(
     alloc: Global,
-    file: &FileKey,
+    file: &Shared<FileKey>,
     depth: u32,
     before: &Pairs,
     line: &mut Line,
@@ -141,7 +151,12 @@ fn pair(
 
 /// Reads the flow sequence that a line begins with, and stays at its closing bracket.
 #[cycle(collections)]
-fn sequence(alloc: Global, file: &FileKey, depth: u32, line: &mut Line) -> Result<Node, ReadFault>
+fn sequence(
+    alloc: Global,
+    file: &Shared<FileKey>,
+    depth: u32,
+    line: &mut Line,
+) -> Result<Node, ReadFault>
     requires { 1 ≤ length (all_of line.old.text) }
     ensures gives { Gives (λ node. (node, row line.new)) result (spec.sequence file.now (spec.node file.now depth) (row line.old)) }
     ensures closed { OnOk result (1 ≤ length (all_of line.new.text)) }
@@ -161,7 +176,12 @@ fn sequence(alloc: Global, file: &FileKey, depth: u32, line: &mut Line) -> Resul
 
 /// Reads the flow mapping that a line begins with, and stays at its closing bracket.
 #[cycle(collections)]
-fn mapping(alloc: Global, file: &FileKey, depth: u32, line: &mut Line) -> Result<Node, ReadFault>
+fn mapping(
+    alloc: Global,
+    file: &Shared<FileKey>,
+    depth: u32,
+    line: &mut Line,
+) -> Result<Node, ReadFault>
     requires { 1 ≤ length (all_of line.old.text) }
     ensures gives { Gives (λ node. (node, row line.new)) result (spec.mapping file.now (spec.node file.now depth) (row line.old)) }
     ensures closed { OnOk result (1 ≤ length (all_of line.new.text)) }
@@ -182,7 +202,12 @@ fn mapping(alloc: Global, file: &FileKey, depth: u32, line: &mut Line) -> Result
 /// Reads the flow collection that a line begins with, in which and with which so many collections
 /// may still open, and stays at its closing bracket.
 #[cycle(collections)]
-fn collection(alloc: Global, file: &FileKey, depth: u32, line: &mut Line) -> Result<Node, ReadFault>
+fn collection(
+    alloc: Global,
+    file: &Shared<FileKey>,
+    depth: u32,
+    line: &mut Line,
+) -> Result<Node, ReadFault>
     requires { 1 ≤ length (all_of line.old.text) }
     ensures gives { Gives (λ node. (node, row line.new)) result (spec.node file.now depth (row line.old)) }
     ensures closed { OnOk result (1 ≤ length (all_of line.new.text)) }
@@ -214,7 +239,12 @@ fn collection(alloc: Global, file: &FileKey, depth: u32, line: &mut Line) -> Res
 ///   comment, a `:` in a sequence, an entry of a mapping without `:`, a character that no text may
 ///   have, and a line that begins with no bracket.
 #[tactic(auto, unfolding(crate::specs::Flow::flow))]
-pub fn flow(alloc: Global, file: &FileKey, depth: u32, line: &Line) -> Result<Flow, ReadFault>
+pub fn flow(
+    alloc: Global,
+    file: &Shared<FileKey>,
+    depth: u32,
+    line: &Line,
+) -> Result<Flow, ReadFault>
     ensures gives { Gives (λ read. (read.node, read.len)) result (spec.flow file.now depth (row line.now)) }
     ensures within { IfOk result (λ read. (2 ≤ read.len) × (read.len ≤ length (all_of line.now.text))) }
 {

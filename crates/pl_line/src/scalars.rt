@@ -12,7 +12,7 @@ use crate::line::Line;
 use crate::line_fault::ReadFault;
 use crate::quotes::quoted;
 use crate::scan::content;
-use pl_base::{FileKey, Memory, Node, NodeBody, Place, Text};
+use pl_base::{FileKey, Memory, Node, NodeBody, Place, Shared, Text};
 use std::alloc::Global;
 
 /// The plain scalar of so many of a line's characters, without the blanks behind it.
@@ -24,7 +24,12 @@ pub fn plain(alloc: Global, len: usize, line: &Line) -> Result<Text, Memory>
 }
 
 /// A node at a line's column.
-pub fn node_at(alloc: Global, file: &FileKey, line: &Line, body: NodeBody) -> Result<Node, Memory>
+pub fn node_at(
+    alloc: Global,
+    file: &Shared<FileKey>,
+    line: &Line,
+    body: NodeBody,
+) -> Result<Node, Memory>
     ensures { IfOk result (λ node. node ≡ trees.node_at file.now (row line.now) body) }
 {
     let place = Place::at(alloc, file, line.number, line.column)?;

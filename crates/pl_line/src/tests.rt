@@ -1,14 +1,15 @@
 use crate::{Line, Rows, flow, quoted};
-use pl_base::{FileKey, Memory, NodeBody, Text};
+use pl_base::{FileKey, Memory, NodeBody, Shared, Text};
 use std::alloc::Global;
 use std::test::Fail;
 
-fn file(alloc: Global) -> Result<FileKey, Memory> {
-    Ok(FileKey {
+fn file(alloc: Global) -> Result<Shared<FileKey>, Memory> {
+    let key = FileKey {
         repo: Text::from_str(alloc, "app")?,
         git_ref: Text::from_str(alloc, "refs/heads/main")?,
         path: Text::from_str(alloc, "/a.yml")?,
-    })
+    };
+    Shared::new(alloc, key)
 }
 
 // The text of a quoted scalar and how many characters it takes, with a tail behind it.

@@ -1,5 +1,5 @@
 use crate::write;
-use pl_base::{FileKey, List, Memory, Node, NodeBody, NodePair, Place, Text};
+use pl_base::{FileKey, List, Memory, Node, NodeBody, NodePair, Place, Shared, Text};
 use std::alloc::Global;
 use std::test::Fail;
 
@@ -17,11 +17,12 @@ enum Step {
 use Step::{Item, Map, Pair, Scalar, Seq};
 
 fn place(alloc: Global) -> Result<Place, Memory> {
-    let file = FileKey {
+    let key = FileKey {
         repo: Text::from_str(alloc, "app")?,
         git_ref: Text::from_str(alloc, "refs/heads/main")?,
         path: Text::from_str(alloc, "/a.yml")?,
     };
+    let file = Shared::new(alloc, key)?;
     Place::at(alloc, &file, 1, 1)
 }
 

@@ -1,4 +1,4 @@
-use pl_base::{FileKey, List, Memory, Node, NodeBody, NodePair, Place, Text};
+use pl_base::{FileKey, List, Memory, Node, NodeBody, NodePair, Place, Shared, Text};
 use pl_yaml::{YamlFault, read, write};
 use std::alloc::Global;
 use std::test::Fail;
@@ -16,12 +16,13 @@ enum Step {
 
 use Step::{Item, Map, Pair, Scalar, Seq};
 
-fn file(alloc: Global) -> Result<FileKey, Memory> {
-    Ok(FileKey {
+fn file(alloc: Global) -> Result<Shared<FileKey>, Memory> {
+    let key = FileKey {
         repo: Text::from_str(alloc, "app")?,
         git_ref: Text::from_str(alloc, "refs/heads/main")?,
         path: Text::from_str(alloc, "/a.yml")?,
-    })
+    };
+    Shared::new(alloc, key)
 }
 
 /// The collection with an item, or with a pair where there is a key.
@@ -107,7 +108,8 @@ fn shown_pairs(alloc: Global, pairs: &List<NodePair>) -> Result<String, Memory> 
 /// What is read of what is written of a node, in short, or the fault.
 fn again(alloc: Global, node: &Node) -> Result<String, Memory> {
     let bytes = write(alloc, node)?;
-    match read(alloc, bytes.as_slice(), &file(alloc)?) {
+    let file = file(alloc)?;
+    match read(alloc, bytes.as_slice(), &file) {
         Ok(node) => shown(alloc, &node),
         Err(YamlFault::Refused(code, _place)) => Ok(format!(in alloc; "{code:?}")?),
         Err(YamlFault::Memory) => Err(Memory),

@@ -1,13 +1,13 @@
 ghost use Rattle.std.specs.Prelude.{◌≡◌, [], ◌∷◌, IfOk};
 ghost use Rattle.pl_step_list.specs.StepList as spec;
 
-use pl_base::{FileKey, List as ItemList, Memory, Node, NodeBody, NodePair, Place, Text};
+use pl_base::{FileKey, List as ItemList, Memory, Node, NodeBody, NodePair, Place, Shared, Text};
 use std::alloc::Global;
 
 /// The mapping `script: S` on a line, behind the dash.
 pub(crate) fn step_at(
     alloc: Global,
-    file: &FileKey,
+    file: &Shared<FileKey>,
     line: u32,
     script: &str,
 ) -> Result<Node, Memory>
@@ -27,7 +27,7 @@ pub(crate) fn step_at(
 /// The mapping of `steps` to a sequence, which begins at its first dash.
 pub(crate) fn steps_node(
     alloc: Global,
-    file: &FileKey,
+    file: &Shared<FileKey>,
     steps: ItemList<Node>,
 ) -> Result<Node, Memory>
     ensures { IfOk result (λ node. node ≡ spec.steps_node file.now steps) }

@@ -7,7 +7,7 @@ ghost use Rattle.pl_step_list.specs.Spelling.{IsSpelled};
 use crate::lines::Lines;
 use crate::nodes::{step_at, steps_node};
 use crate::script::script_of;
-use pl_base::{FileKey, List as ItemList, Memory, Node};
+use pl_base::{ExactCopy, FileKey, List as ItemList, Memory, Node, Shared};
 use std::alloc::Global;
 
 /// The first line of a step list.
@@ -39,8 +39,9 @@ pub fn step_list(alloc: Global, text: &[u8], file: &FileKey) -> Result<Option<No
     if first != FIRST_LINE {
         return Ok(None);
     }
-    match steps_in(alloc, lines, file)? {
-        Some(steps) => Ok(Some(steps_node(alloc, file, steps)?)),
+    let file = Shared::new(alloc, file.copy(alloc)?)?;
+    match steps_in(alloc, lines, &file)? {
+        Some(steps) => Ok(Some(steps_node(alloc, &file, steps)?)),
         None => Ok(None),
     }
 }
@@ -49,7 +50,7 @@ pub fn step_list(alloc: Global, text: &[u8], file: &FileKey) -> Result<Option<No
 fn steps_in(
     alloc: Global,
     mut lines: Lines,
-    file: &FileKey,
+    file: &Shared<FileKey>,
 ) -> Result<Option<ItemList<Node>>, Memory>
     ensures { IfOk result (λ steps. steps ≡ option_map (steps_from file.now 2) (option_and_then counted (scripts_in lines.entry))) }
 {

@@ -10,7 +10,7 @@ use crate::block_text::block_text;
 use crate::header::header_of;
 use crate::heads::{closed, is_marker};
 use crate::reader::Reader;
-use pl_base::{FileKey, Memory, Node, NodeBody};
+use pl_base::{FileKey, Memory, Node, NodeBody, Shared};
 use pl_line::{Line, ReadFault, YamlCode, fault_at, is_bare, line_end, node_at};
 use std::alloc::Global;
 
@@ -123,7 +123,7 @@ fn lines(column: Option<u64>, reader: &mut Reader) -> Result<usize, ReadFault>
 #[tactic(auto, unfolding(crate::specs::BlockScalars::block))]
 pub(crate) fn block(
     alloc: Global,
-    file: &FileKey,
+    file: &Shared<FileKey>,
     parent: u32,
     line: &Line,
     reader: &mut Reader,

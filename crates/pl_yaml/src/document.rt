@@ -8,7 +8,7 @@ use crate::fault::YamlFault;
 use crate::node::node;
 use crate::reader::Reader;
 use crate::slot::Slot;
-use pl_base::{FileKey, Node, Place};
+use pl_base::{ExactCopy, FileKey, Node, Place, Shared};
 use pl_line::{ReadFault, Rows, YamlCode, fault_at, without_mark};
 use std::alloc::Global;
 use std::str;
@@ -58,16 +58,17 @@ const WHOLE_TEXT: Slot = Slot {
 pub fn read(alloc: Global, text: &[u8], file: &FileKey) -> Result<Node, YamlFault>
     ensures { spec.Reads file.now text.now result }
 {
+    let file = Shared::new(alloc, file.copy(alloc)?)?;
     if text.len() > MOST_BYTES {
-        return refused(alloc, file, YamlCode::TooLarge, 1, 1);
+        return refused(alloc, &file, YamlCode::TooLarge, 1, 1);
     }
     let Ok(text) = str::from_utf8(text) else {
-        return refused(alloc, file, YamlCode::NotUtf8, 1, 1);
+        return refused(alloc, &file, YamlCode::NotUtf8, 1, 1);
     };
-    match document_of(alloc, file, text) {
+    match document_of(alloc, &file, text) {
         Ok(node) => Ok(node),
         Err(ReadFault::Refused(fault)) => {
-            refused(alloc, file, fault.code, fault.line, fault.column)
+            refused(alloc, &file, fault.code, fault.line, fault.column)
         }
         Err(ReadFault::Memory) => Err(YamlFault::Memory),
     }
@@ -76,7 +77,7 @@ pub fn read(alloc: Global, text: &[u8], file: &FileKey) -> Result<Node, YamlFaul
 /// A refusal at a place of a file.
 fn refused(
     alloc: Global,
-    file: &FileKey,
+    file: &Shared<FileKey>,
     code: YamlCode,
     line: u32,
     column: u32,
@@ -88,19 +89,18 @@ fn refused(
 }
 
 /// Reads the node of a text.
-fn document_of(alloc: Global, file: &FileKey, text: &str) -> Result<Node, ReadFault>
+fn document_of(alloc: Global, file: &Shared<FileKey>, text: &str) -> Result<Node, ReadFault>
     requires { length text.now ≤ 262144 }
     ensures { Gives (λ node. node) result (spec.document file.now (rows_of (chars text.now))) }
 {
     let mut reader = Reader::of(Rows::of(without_mark(text)));
-    let file = file.shared(alloc)?;
-    let node = document(alloc, &file, &mut reader)?;
+    let node = document(alloc, file, &mut reader)?;
     Ok(node)
 }
 
 /// Reads the node of a text's lines, behind which no line has content.
 #[tactic(auto, unfolding(crate::specs::Spells::document))]
-fn document(alloc: Global, file: &FileKey, reader: &mut Reader) -> Result<Node, ReadFault>
+fn document(alloc: Global, file: &Shared<FileKey>, reader: &mut Reader) -> Result<Node, ReadFault>
     ensures { Gives (λ node. node) result (spec.document file.now reader.old) }
 {
     to_lead(reader)?;

@@ -18,7 +18,7 @@ use crate::keys::next_key;
 use crate::reader::Reader;
 use crate::slot::Slot;
 use crate::stack::{Found, Mapping, Sequence, Step, Waiting};
-use pl_base::{FileKey, NodeBody};
+use pl_base::{FileKey, NodeBody, Shared};
 use pl_line::{
     Line, Pairs, ReadFault, YamlCode, behind, fault_at, is_done, line_end, node_at, spaces_only,
 };
@@ -68,7 +68,7 @@ fn below(own: bool, line: &Line) -> Slot
 #[tactic(auto, unfolding(crate::specs::Nodes::value))]
 fn value(
     alloc: Global,
-    file: &FileKey,
+    file: &Shared<FileKey>,
     depth: u32,
     slot: Slot,
     line: &Line,
@@ -89,7 +89,7 @@ fn value(
 #[tactic(auto, unfolding(crate::specs::Nodes::item))]
 fn item<'t>(
     alloc: Global,
-    file: &FileKey,
+    file: &Shared<FileKey>,
     depth: u32,
     line: &Line<'t>,
     reader: &mut Reader<'t>,
@@ -112,7 +112,7 @@ fn item<'t>(
 #[tactic(auto, unfolding(crate::specs::Nodes::pair))]
 fn pair(
     alloc: Global,
-    file: &FileKey,
+    file: &Shared<FileKey>,
     depth: u32,
     before: &Pairs,
     key: &Key,
@@ -133,7 +133,7 @@ fn pair(
 /// Goes to the next item of a sequence, or makes its node where no more follow.
 pub(crate) fn next_of_sequence<'t>(
     alloc: Global,
-    file: &FileKey,
+    file: &Shared<FileKey>,
     sequence: Sequence<'t>,
     reader: &mut Reader<'t>,
 ) -> Result<Step<'t>, ReadFault>
@@ -152,7 +152,7 @@ pub(crate) fn next_of_sequence<'t>(
 /// Goes to the next pair of a mapping, or makes its node where no more follow.
 pub(crate) fn next_of_mapping<'t>(
     alloc: Global,
-    file: &FileKey,
+    file: &Shared<FileKey>,
     mapping: Mapping<'t>,
     reader: &mut Reader<'t>,
 ) -> Result<Step<'t>, ReadFault>

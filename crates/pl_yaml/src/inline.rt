@@ -9,7 +9,7 @@ use crate::head::Head;
 use crate::heads::{closed, head_of, refusal_inline};
 use crate::reader::Reader;
 use crate::scalar::word;
-use pl_base::{FileKey, Node, NodeBody};
+use pl_base::{FileKey, Node, NodeBody, Shared};
 use pl_line::{
     Flow, Line, Quoted, ReadFault, YamlCode, fault_at, fault_behind, flow, node_at, quoted,
 };
@@ -18,7 +18,7 @@ use std::alloc::Global;
 /// A quoted scalar, behind which its line has no content.
 pub(crate) fn quoted_node(
     alloc: Global,
-    file: &FileKey,
+    file: &Shared<FileKey>,
     line: &Line,
     read: Quoted,
 ) -> Result<Node, ReadFault>
@@ -45,7 +45,7 @@ pub(crate) fn flow_node(line: &Line, read: Flow) -> Result<Node, ReadFault>
 #[tactic(auto, unfolding(crate::specs::Inline::inline))]
 pub(crate) fn inline(
     alloc: Global,
-    file: &FileKey,
+    file: &Shared<FileKey>,
     depth: u32,
     parent: u32,
     line: &Line,

@@ -13,7 +13,7 @@ use crate::head::Head;
 use crate::heads::{head_of, refusal};
 use crate::key::Key;
 use crate::reader::Reader;
-use pl_base::{FileKey, Memory};
+use pl_base::{FileKey, Memory, Shared};
 use pl_line::{
     Line, ReadFault, YamlCode, begins_with, behind, ends_word, fault_at, fault_behind, flow, plain,
     quoted,
@@ -75,7 +75,7 @@ fn no_key(rest: &Line) -> ReadFault
 /// Reads the key that begins at a line, where so many collections may still open.
 fn key_at<'t>(
     alloc: Global,
-    file: &FileKey,
+    file: &Shared<FileKey>,
     depth: u32,
     line: &Line<'t>,
 ) -> Result<Key<'t>, ReadFault>
@@ -98,7 +98,7 @@ fn key_at<'t>(
 #[tactic(auto, unfolding(crate::specs::Keys::next_key))]
 pub(crate) fn next_key<'t>(
     alloc: Global,
-    file: &FileKey,
+    file: &Shared<FileKey>,
     depth: u32,
     column: u32,
     reader: &mut Reader<'t>,

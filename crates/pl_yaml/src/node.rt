@@ -17,7 +17,7 @@ use crate::reader::Reader;
 use crate::scalar::word;
 use crate::slot::Slot;
 use crate::stack::{Found, Mapping, Sequence, Step};
-use pl_base::{FileKey, List as ItemList, Memory, Node, NodeBody, Place, Text};
+use pl_base::{FileKey, List as ItemList, Memory, Node, NodeBody, Place, Shared, Text};
 use pl_line::{Line, Pairs, ReadFault, YamlCode, begins_with, behind, fault_at, flow, quoted};
 use std::alloc::Global;
 
@@ -30,7 +30,7 @@ fn fits(slot: Slot, line: &Line) -> bool
 }
 
 /// The empty scalar.
-fn empty(alloc: Global, file: &FileKey, slot: Slot) -> Result<Node, Memory>
+fn empty(alloc: Global, file: &Shared<FileKey>, slot: Slot) -> Result<Node, Memory>
     ensures { IfOk result (λ node. node ≡ spec.empty file.now slot) }
 {
     let place = Place::at(alloc, file, slot.line, slot.column)?;
@@ -78,7 +78,7 @@ fn mapping<'t>(alloc: Global, depth: u32, line: &Line<'t>) -> Result<Mapping<'t>
 /// first one left.
 fn begun_quoted<'t>(
     alloc: Global,
-    file: &FileKey,
+    file: &Shared<FileKey>,
     depth: u32,
     line: &Line<'t>,
     reader: &mut Reader<'t>,
@@ -96,7 +96,12 @@ fn begun_quoted<'t>(
 }
 
 /// Reads the flow collection that begins at a line, which can't be a key.
-fn begun_flow(alloc: Global, file: &FileKey, depth: u32, line: &Line) -> Result<Node, ReadFault>
+fn begun_flow(
+    alloc: Global,
+    file: &Shared<FileKey>,
+    depth: u32,
+    line: &Line,
+) -> Result<Node, ReadFault>
     ensures { Gives (λ node. node) result (spec.in_brackets file.now depth (row line.now)) }
 {
     let read = flow(alloc, file, depth, line)?;
@@ -112,7 +117,7 @@ fn begun_flow(alloc: Global, file: &FileKey, depth: u32, line: &Line) -> Result<
 #[tactic(auto, unfolding(crate::specs::Nodes::begun))]
 fn begun<'t>(
     alloc: Global,
-    file: &FileKey,
+    file: &Shared<FileKey>,
     depth: u32,
     parent: u32,
     line: &Line<'t>,
@@ -148,7 +153,7 @@ fn begun<'t>(
 #[tactic(auto, unfolding(crate::specs::Nodes::node))]
 fn begin<'t>(
     alloc: Global,
-    file: &FileKey,
+    file: &Shared<FileKey>,
     depth: u32,
     slot: Slot,
     reader: &mut Reader<'t>,
@@ -173,7 +178,7 @@ fn begin<'t>(
 /// when that value was read.
 pub(crate) fn node<'t>(
     alloc: Global,
-    file: &FileKey,
+    file: &Shared<FileKey>,
     depth: u32,
     slot: Slot,
     reader: &mut Reader<'t>,

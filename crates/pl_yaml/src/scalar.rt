@@ -7,7 +7,7 @@ ghost use Rattle.pl_yaml.specs.Plain as spec;
 use crate::heads::stands;
 use crate::push::push_times;
 use crate::reader::Reader;
-use pl_base::{FileKey, Node, NodeBody, Text};
+use pl_base::{FileKey, Node, NodeBody, Shared, Text};
 use pl_line::{
     Line, ReadFault, YamlCode, content, fault_behind, is_bare, is_comment, line_end, node_at,
     plain_len, stands_at,
@@ -101,7 +101,7 @@ fn behind_line(
 /// off.
 pub(crate) fn word(
     alloc: Global,
-    file: &FileKey,
+    file: &Shared<FileKey>,
     parent: u32,
     line: &Line,
     len: usize,

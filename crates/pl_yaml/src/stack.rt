@@ -9,7 +9,7 @@ ghost use Rattle.pl_yaml.specs.Stack as spec;
 
 use crate::key::Key;
 use crate::slot::Slot;
-use pl_base::{FileKey, List as ItemList, Memory, Node, NodePair, Place};
+use pl_base::{FileKey, List as ItemList, Memory, Node, NodePair, Place, Shared};
 use pl_line::{Line, Pairs};
 use std::alloc::Global;
 
@@ -62,7 +62,12 @@ pub(crate) enum Step<'t> {
 
 impl<'t> Waiting<'t> {
     /// The collection with its value, which looks for its next entry.
-    pub(crate) fn with(self, alloc: Global, file: &FileKey, item: Node) -> Result<Step<'t>, Memory>
+    pub(crate) fn with(
+        self,
+        alloc: Global,
+        file: &Shared<FileKey>,
+        item: Node,
+    ) -> Result<Step<'t>, Memory>
         ensures gives { IfOk result (λ step. (turns : ℕ) (rows : list Row) → spec.reads file.now turns step rows ≡ spec.into file.now turns self.entry (item, rows)) }
         ensures rank { IfOk result (λ step. spec.rank step ≤ 1) }
     {

@@ -1,4 +1,6 @@
-ghost use Rattle.std.specs.Prelude.{◌≡◌, Some, [], IfOk, max};
+ghost use Rattle.std.specs.Prelude.{◌≡◌, ◌<◌, ◌≤◌, Some, [], IsTrue, IfOk, OnOk, OnErr, IsErr, length, max, take};
+ghost use Rattle.pl_base.specs.Counts.{one_more};
+ghost use Rattle.pl_base.specs.Streams.{with_end, is_listed};
 ghost use Rattle.std.specs.Vec.{vec_capacity};
 
 use crate::failed::Failed;
@@ -57,7 +59,17 @@ impl Sink for MemSink {
 
     ghost faults = { λ sink. sink.faults };
 
-    fn write(&mut self, bytes: &[u8]) -> Result<usize, Failed> {
+    fn write(&mut self, bytes: &[u8]) -> Result<usize, Failed>
+        ensures within { IfOk result (λ count. count ≤ length bytes.now) }
+        ensures some { 0 < length bytes.now → IfOk result (λ count. 0 < count) }
+        ensures bytes { IfOk result (λ count. Some self.new.bytes.items ≡ with_end (Some self.old.bytes.items) (take count bytes.now)) }
+        ensures quiet { OnOk result (self.new.faults ≡ self.old.faults) }
+        ensures failed { OnErr result (self.new.faults ≡ one_more self.old.faults) }
+        ensures kept { OnErr result (Some self.new.bytes.items ≡ Some self.old.bytes.items) }
+        ensures counted { self.new.calls ≡ one_more self.old.calls }
+        ensures listed { self.new.failing ≡ self.old.failing }
+        ensures failing { IsTrue (is_listed self.new.calls self.old.failing) → IsErr result }
+    {
         self.calls = self.calls.saturating_add(1);
         let room = self.bytes.capacity() - self.bytes.len();
         let count = bytes.len().min(room).min(self.piece);

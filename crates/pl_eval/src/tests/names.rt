@@ -5,9 +5,9 @@ ghost use Rattle.pl_base.specs.declared.outcome.Outcome.{Outcome as Ended};
 ghost use Rattle.pl_eval.specs.Statuses.{went_well, went_wrong, was_run, result_named, results_named};
 ghost use Rattle.pl_base.specs.Folding.{folded};
 
-use crate::look_ups::{is_named, place_of};
-use crate::names::Names;
-use pl_base::{ExactCopy, List, MarkedNode, MarkedPair, Memory, Outcome, Text};
+use crate::look_ups::{find_member, is_named, place_of};
+use crate::names::{Names, RootMember};
+use pl_base::{ExactCopy, List, MarkedNode, MarkedPair, Memory, Outcome, Text, Value};
 use pl_expr::Function;
 use std::alloc::Global;
 
@@ -39,6 +39,16 @@ impl Names for MemNames {
         match place_of(&self.roots, root) {
             Some(place) => Ok(Some(self.roots.as_slice()[place].item.copy(alloc)?)),
             None => Ok(None),
+        }
+    }
+
+    fn member(&self, alloc: Global, root: &Text, at: &Value) -> Result<RootMember, Memory> {
+        match place_of(&self.roots, root) {
+            Some(place) => match find_member(alloc, &self.roots.as_slice()[place].item.value, at)? {
+                Some(node) => Ok(RootMember::Found(node.copy(alloc)?)),
+                None => Ok(RootMember::Missing),
+            },
+            None => Ok(RootMember::NoRoot),
         }
     }
 

@@ -1,7 +1,8 @@
 //! The world of the tests: values that are read from one text (`ROOTS`), and how dependencies ended.
 use super::names::{MemNames, Named};
 use pl_base::{
-    Crossing, FileKey, List, MarkedNode, MarkedPair, Memory, Origin, Outcome, Place, Text, Value,
+    Crossing, FileKey, List, MarkedNode, MarkedPair, Memory, Origin, Outcome, Place, Shared,
+    SharedList, Text, Value,
 };
 use pl_expr::{Expr, Mode, parse};
 use std::alloc::Global;
@@ -90,22 +91,23 @@ pub enum State {
 }
 
 fn origin_at(alloc: Global, path: &str, line: u32) -> Result<Origin, Memory> {
-    let file = FileKey {
+    let key = FileKey {
         repo: Text::from_str(alloc, "repo")?,
         git_ref: Text::from_str(alloc, "refs/heads/main")?,
         path: Text::from_str(alloc, path)?,
     };
+    let file = Shared::new(alloc, key)?;
     Ok(Origin {
         source: Place { file, line, col: 1 },
-        crossings: List::new(alloc),
+        crossings: SharedList::new(alloc)?,
     })
 }
 
 /// The origin of made values: line 99 of another file, and `Made`.
 pub fn here(alloc: Global) -> Result<Origin, Memory> {
-    let mut origin = origin_at(alloc, "/here.yml", 99)?;
-    origin.crossings.push(Crossing::Made)?;
-    Ok(origin)
+    let Origin { source, crossings } = origin_at(alloc, "/here.yml", 99)?;
+    let crossings = crossings.with(alloc, Crossing::Made)?;
+    Ok(Origin { source, crossings })
 }
 
 /// A text of so many times the letter x.

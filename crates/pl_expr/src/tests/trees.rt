@@ -1,5 +1,5 @@
 use crate::{Expr, Mode, parse, print, to_text};
-use pl_base::{List, Memory, Text, Value};
+use pl_base::{ExactCopy, List, Memory, Text, Value};
 use std::alloc::Global;
 use std::test::Fail;
 
@@ -78,10 +78,10 @@ fn tree_of(alloc: Global, mode: Mode, text: &str) -> Result<Text, Memory> {
     Ok(out)
 }
 
-/// What is printed of the tree of a text, or `fault`.
+/// What is printed of a copy of the tree of a text, or `fault`.
 fn printed_of(alloc: Global, mode: Mode, text: &str) -> Result<Text, Memory> {
     match parse(alloc, &Text::from_str(alloc, text)?, mode) {
-        Ok(expr) => print(alloc, &expr),
+        Ok(expr) => print(alloc, &expr.copy(alloc)?),
         Err(_) => Text::from_str(alloc, "fault"),
     }
 }
