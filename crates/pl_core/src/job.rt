@@ -6,7 +6,7 @@ ghost use Rattle.pl_core.specs.State as spec;
 use crate::only::only_item;
 use crate::plan::{FirstPlan, PlanStep};
 use crate::reply::{Json, JsonMember, Reply};
-use pl_base::{List, MarkedPair, Memory, Origin, Text, Value};
+use pl_base::{FileKey, List, MarkedPair, Memory, Origin, Text, Value};
 use std::alloc::Global;
 
 /// The reply to a draw: the job of run 1.
@@ -105,6 +105,7 @@ fn origin_object(alloc: Global, origin: &Origin) -> Result<Json, Memory>
     ensures { IfOk result (λ object. object ≡ spec.origin_object origin.now) }
 {
     let place = &origin.source;
+    let file: &FileKey = &place.file;
     let mut members = List::new(alloc);
     put(
         alloc,
@@ -128,19 +129,19 @@ fn origin_object(alloc: Global, origin: &Origin) -> Result<Json, Memory>
         alloc,
         &mut members,
         "path",
-        Json::text(alloc, place.file.path.as_str())?,
+        Json::text(alloc, file.path.as_str())?,
     )?;
     put(
         alloc,
         &mut members,
         "ref",
-        Json::text(alloc, place.file.git_ref.as_str())?,
+        Json::text(alloc, file.git_ref.as_str())?,
     )?;
     put(
         alloc,
         &mut members,
         "repo",
-        Json::text(alloc, place.file.repo.as_str())?,
+        Json::text(alloc, file.repo.as_str())?,
     )?;
     Ok(Json::Object(members))
 }

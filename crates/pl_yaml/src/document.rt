@@ -50,7 +50,9 @@ const WHOLE_TEXT: Slot = Slot {
 ///   `${{`;
 /// - TooDeep: a collection with which more than 64 are open, where it begins;
 /// - TooLarge: more than 262,144 bytes, before all others, at line 1, column 1;
-/// - NoEntry: anything else that can't stand where it does, a control character among them.
+/// - NoEntry: anything else that can't stand where it does, a control character among them, and `? `
+///   at an entry of a flow sequence. So is the `{` of `[${{ x }}]`, since a plain scalar in a flow
+///   collection ends before `{`: such an expression is written in quotes, or in a block sequence.
 ///
 /// The text is read from its bytes, line by line. Block collections that wait for a value stand on a
 /// stack of at most 64. Memory is taken for the node, for that stack, and for the keys of mappings
@@ -59,16 +61,23 @@ pub fn read(alloc: Global, text: &[u8], file: &FileKey) -> Result<Node, YamlFaul
     ensures { spec.Reads file.now text.now result }
 {
     let file = Shared::new(alloc, file.copy(alloc)?)?;
+    read_in(alloc, text, &file)
+}
+
+/// Reads a text as the node that it spells, whose places share the file's key.
+fn read_in(alloc: Global, text: &[u8], file: &Shared<FileKey>) -> Result<Node, YamlFault>
+    ensures { spec.Reads file.now text.now result }
+{
     if text.len() > MOST_BYTES {
-        return refused(alloc, &file, YamlCode::TooLarge, 1, 1);
+        return refused(alloc, file, YamlCode::TooLarge, 1, 1);
     }
     let Ok(text) = str::from_utf8(text) else {
-        return refused(alloc, &file, YamlCode::NotUtf8, 1, 1);
+        return refused(alloc, file, YamlCode::NotUtf8, 1, 1);
     };
-    match document_of(alloc, &file, text) {
+    match document_of(alloc, file, text) {
         Ok(node) => Ok(node),
         Err(ReadFault::Refused(fault)) => {
-            refused(alloc, &file, fault.code, fault.line, fault.column)
+            refused(alloc, file, fault.code, fault.line, fault.column)
         }
         Err(ReadFault::Memory) => Err(YamlFault::Memory),
     }

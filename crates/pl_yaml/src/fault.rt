@@ -4,11 +4,16 @@ ghost use Rattle.pl_yaml.specs.declared.fault.YamlFault.TheVariants.{Memory};
 use pl_base::Place;
 use pl_line::YamlCode;
 use std::alloc::{AllocError, AllocFailed};
+use thiserror::Error;
 
 /// A text that isn't read: the fault and its place, or want of memory.
-#[derive(Debug, Drop, PartialEq, Eq)]
+#[derive(Debug, Drop, Error, PartialEq, Eq)]
 pub enum YamlFault {
+    /// The text isn't in the profile.
+    #[error("{line}:{col}: {0}", line = .1.line, col = .1.col)]
     Refused(YamlCode, Place),
+    /// Memory was wanting.
+    #[error("out of memory")]
     Memory,
 }
 

@@ -114,3 +114,26 @@ fn first_wrong(alloc: Global, table: &str) -> Result<String, Memory> {
     }
     Ok(String::new(alloc))
 }
+
+/// What a text is refused with, as a user reads it.
+fn told(alloc: Global, text: &[u8]) -> Result<String, Memory> {
+    let file = file(alloc)?;
+    match read(alloc, text, &file) {
+        Ok(_) => Ok(String::new(alloc)),
+        Err(fault) => Ok(format!(in alloc; "{fault}")?),
+    }
+}
+
+#[test]
+fn a_fault_tells_its_place_and_what_was_found(rt: HostRuntime) -> Result<(), Fail> {
+    let alloc = rt.alloc();
+    assert_eq!(rt;
+        told(alloc, b"a: &x 1")?.as_str(),
+        "1:4: Y3: an anchor or an alias"
+    );
+    assert_eq!(rt;
+        told(alloc, b"a: 1\na: 2")?.as_str(),
+        "2:1: Y10: a key that stands twice"
+    );
+    Ok(())
+}

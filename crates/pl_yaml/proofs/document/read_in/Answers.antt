@@ -1,7 +1,7 @@
 use Rattle.std.proofs.Common.{ap, ◌∙◌}
 use Rattle.pl_yaml.specs.Spells.{placed}
 use Rattle.pl_yaml.proofs.Laws.Texts.{large_spells, other_spells, whole_spells, answers_along}
-use Rattle.pl_yaml.proofs.document.read.Goals as goal
+use Rattle.pl_yaml.proofs.document.read_in.Goals as goal
 
 pub returns-then-text-gt-MOST_BYTES : goal.returns-then-text-gt-MOST_BYTES
 returns-then-text-gt-MOST_BYTES c =
