@@ -1,0 +1,5 @@
+pub mod Chosen
+pub mod Keeping
+pub mod Moved
+pub mod Ordered
+pub mod Progress

@@ -1,0 +1,145 @@
+ghost use Rattle.std.specs.Prelude.{◌≡◌, ◌≢◌, ◌↔◌, [], All, Contains, IfOk, IsSome, IsTrue, MatchOption, OnErr, OnOk};
+ghost use Rattle.pl_locks.specs.declared.contender.Contender.{Contender};
+ghost use Rattle.pl_locks.specs.Locks.{IsAt, IsHeld, IsLeastSuperseded, IsLeastSuperseding, IsNext, IsSuperseded, MayStart};
+ghost use Rattle.pl_locks.specs.Kept.{IsAbsent, IsKept, IsPutIn, without};
+
+use crate::choosing::{is_absent, least_superseded, next_of};
+use crate::contender::Contender;
+use crate::ordering::{copies_of, drop_out, put_in, take_out};
+use pl_base::Memory;
+use std::alloc::Global;
+use std::marker::Model;
+
+/// The stages that want exclusive resources: those that are eligible, and those that hold them.
+///
+/// Contracts see it as these two lists, each of them ascending by run and position. No stage stands in
+/// them twice, and no two holders use one resource.
+#[derive(Debug, Drop)]
+pub struct Contenders {
+    eligible: Vec<Contender>,
+    holders: Vec<Contender>,
+}
+
+impl Model for Contenders {
+    ghost use Rattle.std.specs.Prelude.{◌+◌, ◌≤◌, vec_len};
+    ghost use Rattle.std.specs.Vec.{vec_capacity};
+    ghost use Rattle.pl_locks.specs.Locks.{Locks};
+    ghost use Rattle.pl_locks.specs.Kept.{IsKept};
+
+    ghost Value = { Locks };
+
+    ghost view = { λ lists. record { eligible = lists.eligible.items; holders = lists.holders.items } };
+
+    // The holders have room for every stage that is eligible.
+    ghost invariant = { λ lists. IsKept lists.eligible.items lists.holders.items ×
+        (vec_len lists.eligible + vec_len lists.holders ≤ vec_capacity lists.holders) };
+}
+
+impl Contenders {
+    /// No stages.
+    pub fn new(alloc: Global) -> Contenders
+        ensures eligible { result.eligible ≡ [] }
+        ensures holders { result.holders ≡ [] }
+    {
+        Contenders {
+            eligible: Vec::new(alloc),
+            holders: Vec::new(alloc),
+        }
+    }
+
+    /// The same two lists once more.
+    pub fn copy(&self) -> Result<Contenders, Memory>
+        ensures { IfOk result (λ copy. copy ≡ self.now) }
+    {
+        let alloc = *self.eligible.allocator();
+        let room = self.eligible.len() + self.holders.len();
+        let eligible = copies_of(alloc, &self.eligible, self.eligible.len())?;
+        let holders = copies_of(alloc, &self.holders, room)?;
+        Ok(Contenders { eligible, holders })
+    }
+
+    /// Puts a stage among the eligible ones. It takes the memory that `hold` needs later. After Memory
+    /// both lists are as before, and the stage is dropped.
+    pub fn enter(&mut self, stage: Contender) -> Result<(), Memory>
+        requires eligible { IsAbsent stage.run stage.position self.old.eligible }
+        requires holders { IsAbsent stage.run stage.position self.old.holders }
+        ensures eligible { OnOk result (IsPutIn stage self.old.eligible self.new.eligible) }
+        ensures holders { OnOk result (self.new.holders ≡ self.old.holders) }
+        ensures err { OnErr result (self.new ≡ self.old) }
+    {
+        self.holders.reserve(self.eligible.len() + 1)?;
+        put_in(&mut self.eligible, stage)?;
+        Ok(())
+    }
+
+    /// Takes a stage from the eligible ones. Where it isn't among them, nothing changes.
+    pub fn leave(&mut self, run: u64, position: u32)
+        ensures eligible { self.new.eligible ≡ without run position self.old.eligible }
+        ensures holders { self.new.holders ≡ self.old.holders }
+        ensures absent { IsAbsent run position self.old.eligible → self.new ≡ self.old }
+    {
+        drop_out(&mut self.eligible, run, position);
+    }
+
+    /// Moves the next stage from the eligible ones to the holders.
+    pub fn hold(&mut self, run: u64, position: u32)
+        requires { (stage : Contender) × IsNext self.old.eligible self.old.holders stage × IsAt run position stage }
+        ensures eligible { self.new.eligible ≡ without run position self.old.eligible }
+        ensures holders { (stage : Contender) → Contains self.old.eligible stage → IsAt run position stage →
+            IsPutIn stage self.old.holders self.new.holders }
+    {
+        let stage = take_out(&mut self.eligible, run, position);
+        match put_in(&mut self.holders, stage) {
+            Ok(()) => {}
+            Err(Memory) => unreachable!(),
+        }
+    }
+
+    /// Takes a stage from the holders. Where it isn't among them, nothing changes.
+    pub fn release(&mut self, run: u64, position: u32)
+        ensures eligible { self.new.eligible ≡ self.old.eligible }
+        ensures holders { self.new.holders ≡ without run position self.old.holders }
+        ensures absent { IsAbsent run position self.old.holders → self.new ≡ self.old }
+    {
+        drop_out(&mut self.holders, run, position);
+    }
+
+    /// The run and the position of the stage that may start next, or None where nothing may.
+    pub fn next(&self) -> Option<(u64, u32)>
+        ensures next { MatchOption result (All (λ stage. ¬ MayStart self.now.eligible self.now.holders stage) self.now.eligible)
+            (λ told. (stage : Contender) × IsNext self.now.eligible self.now.holders stage × IsAt told.0 told.1 stage) }
+
+        // Some stage may start where nothing stands in its way, and where no resource of an eligible one is held.
+        ensures some { (stage : Contender) → Contains self.now.eligible stage →
+            MayStart self.now.eligible self.now.holders stage → IsSome result }
+        ensures progress { self.now.eligible ≢ [] →
+            All (λ stage. ¬ IsHeld self.now.holders stage) self.now.eligible → IsSome result }
+    {
+        next_of(&self.eligible, &self.holders)
+    }
+
+    /// The run and the position of the least stage that is superseded, and the least run to whose stage it
+    /// gives way; or None where none is.
+    pub fn superseded(&self) -> Option<(u64, u32, u64)>
+        ensures { MatchOption result (All (λ stage. ¬ IsSuperseded self.now.eligible stage) self.now.eligible)
+            (λ told. (stage : Contender) × (IsLeastSuperseded self.now.eligible stage) ×
+                (IsAt told.0 told.1 stage) × (IsLeastSuperseding self.now.eligible stage told.2)) }
+    {
+        least_superseded(&self.eligible)
+    }
+
+    /// Whether no stage of that run stands in the lists at that position, so that one may be entered.
+    pub fn is_new(&self, run: u64, position: u32) -> bool
+        ensures { IsTrue result ↔
+            (IsAbsent run position self.now.eligible × IsAbsent run position self.now.holders) }
+    {
+        is_absent(&self.eligible, run, position) && is_absent(&self.holders, run, position)
+    }
+
+    /// What holds of both lists, however they came about.
+    pub fn facts(&self)
+        ensures { IsKept self.now.eligible self.now.holders }
+    {
+        let _ = &self.holders;
+    }
+}
