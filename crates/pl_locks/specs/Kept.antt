@@ -13,7 +13,9 @@ IsAbsent run position stages = All (λ stage. ¬ IsAt run position stage) stages
 
 -- stages that share an exclusive resource are one and the same
 abbrev pub AreApart : List Contender → Type 0
-AreApart stages = (left right : Contender) → Contains stages left → Contains stages right → Shares left right → left ≡ right
+AreApart stages =
+    (left right : Contender) → Contains stages left → Contains stages right → Shares left right →
+    left ≡ right
 
 -- what holds of the two lists, however they came about
 pub record IsKept (eligible holders : List Contender) : Type 0 where

@@ -1,6 +1,6 @@
 ghost use Rattle.std.specs.Prelude.{◌≢◌, ◌↔◌, [], All, Contains, IsSome, IsTrue, MatchOption};
 ghost use Rattle.pl_locks.specs.declared.contender.Contender.{Contender};
-ghost use Rattle.pl_locks.specs.Locks.{ComesFirst, GivesWay, IsAt, IsBehind, IsHeld, IsLeastSuperseded, IsLeastSuperseding, IsNext, IsSuperseded, MayStart};
+ghost use Rattle.pl_locks.specs.Locks.{ComesFirst, GivesWay, IsAt, IsBehind, IsHeld, IsLeastSuperseded, IsLeastLaterRun, IsNext, IsSuperseded, MayStart};
 ghost use Rattle.pl_locks.specs.Kept.{IsAbsent, IsFirstAt, IsOrdered};
 
 use crate::contender::Contender;
@@ -52,10 +52,14 @@ fn may_start(eligible: &[Contender], holders: &[Contender], stage: &Contender) -
 /// The run and the position of the least eligible stage in whose way nothing stands.
 pub fn next_of(eligible: &[Contender], holders: &[Contender]) -> Option<(u64, u32)>
     requires { IsOrdered eligible.now }
-    ensures next { MatchOption result (All (λ stage. ¬ MayStart eligible.now holders.now stage) eligible.now)
-        (λ told. (stage : Contender) × IsNext eligible.now holders.now stage × IsAt told.0 told.1 stage) }
-    ensures some { (stage : Contender) → Contains eligible.now stage → MayStart eligible.now holders.now stage → IsSome result }
-    ensures progress { eligible.now ≢ [] → All (λ stage. ¬ IsHeld holders.now stage) eligible.now → IsSome result }
+    ensures next { MatchOption result
+        (All (λ stage. ¬ MayStart eligible.now holders.now stage) eligible.now)
+        (λ told. (stage : Contender) × IsNext eligible.now holders.now stage ×
+        IsAt told.0 told.1 stage) }
+    ensures some { (stage : Contender) → Contains eligible.now stage →
+        MayStart eligible.now holders.now stage → IsSome result }
+    ensures progress { eligible.now ≢ [] →
+        All (λ stage. ¬ IsHeld holders.now stage) eligible.now → IsSome result }
 {
     for stage in eligible {
         if may_start(eligible, holders, stage) {
@@ -67,17 +71,19 @@ pub fn next_of(eligible: &[Contender], holders: &[Contender]) -> Option<(u64, u3
 
 /// The first place of an eligible stage to which a stage gives way.
 fn first_superseding(eligible: &[Contender], stage: &Contender) -> Option<usize>
-    ensures { MatchOption result (¬ IsSuperseded eligible.now stage.now) (IsFirstAt (GivesWay stage.now) eligible.now) }
+    ensures { MatchOption result (¬ IsSuperseded eligible.now stage.now)
+        (IsFirstAt (GivesWay stage.now) eligible.now) }
 {
     eligible.iter().position(|later| stage.gives_way(later))
 }
 
-/// The least superseded stage, by its run and position, and the least run to whose stage it gives way.
+/// The least superseded stage, by its run and position, and the least run to whose stage it gives
+/// way.
 pub fn least_superseded(eligible: &[Contender]) -> Option<(u64, u32, u64)>
     requires { IsOrdered eligible.now }
     ensures { MatchOption result (All (λ stage. ¬ IsSuperseded eligible.now stage) eligible.now)
         (λ told. (stage : Contender) × (IsLeastSuperseded eligible.now stage) ×
-            (IsAt told.0 told.1 stage) × (IsLeastSuperseding eligible.now stage told.2)) }
+        (IsAt told.0 told.1 stage) × (IsLeastLaterRun eligible.now stage told.2)) }
 {
     for stage in eligible {
         if let Some(place) = first_superseding(eligible, stage) {

@@ -5,16 +5,20 @@ ghost use Rattle.pl_locks.specs.Kept.{is_at};
 use pl_base::{Behaviour, ExactCopy, List, Memory, ResourceKey, Text};
 use std::alloc::Global;
 
-/// A stage of a run, with the exclusive resources that it uses.
-///
-/// A run and a position in it name one stage.
+/// A stage of a run that uses exclusive resources.
 #[derive(Debug, Drop)]
 pub struct Contender {
+    /// The number of its run; later runs have greater ones.
     pub run: u64,
+    /// Its place in its run, which with the run's number names it.
     pub position: u32,
+    /// The pipeline that the run is of.
     pub pipeline: Text,
+    /// Its name, by which it is the same stage in another run of the pipeline.
     pub name: Text,
+    /// Whether all runs take their turns, or only the latest does.
     pub behaviour: Behaviour,
+    /// The exclusive ones of the resources that it uses.
     pub resources: List<ResourceKey>,
 }
 

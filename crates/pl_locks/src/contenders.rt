@@ -1,6 +1,6 @@
 ghost use Rattle.std.specs.Prelude.{◌≡◌, ◌≢◌, ◌↔◌, [], All, Contains, IfOk, IsSome, IsTrue, MatchOption, OnErr, OnOk};
 ghost use Rattle.pl_locks.specs.declared.contender.Contender.{Contender};
-ghost use Rattle.pl_locks.specs.Locks.{IsAt, IsHeld, IsLeastSuperseded, IsLeastSuperseding, IsNext, IsSuperseded, MayStart};
+ghost use Rattle.pl_locks.specs.Locks.{IsAt, IsHeld, IsLeastSuperseded, IsLeastLaterRun, IsNext, IsSuperseded, MayStart};
 ghost use Rattle.pl_locks.specs.Kept.{IsAbsent, IsKept, IsPutIn, without};
 
 use crate::choosing::{is_absent, least_superseded, next_of};
@@ -12,8 +12,8 @@ use std::marker::Model;
 
 /// The stages that want exclusive resources: those that are eligible, and those that hold them.
 ///
-/// Contracts see it as these two lists, each of them ascending by run and position. No stage stands in
-/// them twice, and no two holders use one resource.
+/// Contracts see it as these two lists, each of them ascending by run and position. No stage stands
+/// in them twice, and no two holders use one resource.
 #[derive(Debug, Drop)]
 pub struct Contenders {
     eligible: Vec<Contender>,
@@ -28,7 +28,10 @@ impl Model for Contenders {
 
     ghost Value = { Locks };
 
-    ghost view = { λ lists. record { eligible = lists.eligible.items; holders = lists.holders.items } };
+    ghost view = { λ lists. record {
+      eligible = lists.eligible.items;
+      holders = lists.holders.items;
+    } };
 
     // The holders have room for every stage that is eligible.
     ghost invariant = { λ lists. IsKept lists.eligible.items lists.holders.items ×
@@ -58,8 +61,8 @@ impl Contenders {
         Ok(Contenders { eligible, holders })
     }
 
-    /// Puts a stage among the eligible ones. It takes the memory that `hold` needs later. After Memory
-    /// both lists are as before, and the stage is dropped.
+    /// Puts a stage among the eligible ones. It takes the memory that `hold` needs later. After
+    /// Memory both lists are as before, and the stage is dropped.
     pub fn enter(&mut self, stage: Contender) -> Result<(), Memory>
         requires eligible { IsAbsent stage.run stage.position self.old.eligible }
         requires holders { IsAbsent stage.run stage.position self.old.holders }
@@ -83,10 +86,11 @@ impl Contenders {
 
     /// Moves the next stage from the eligible ones to the holders.
     pub fn hold(&mut self, run: u64, position: u32)
-        requires { (stage : Contender) × IsNext self.old.eligible self.old.holders stage × IsAt run position stage }
+        requires { (stage : Contender) × IsNext self.old.eligible self.old.holders stage ×
+            IsAt run position stage }
         ensures eligible { self.new.eligible ≡ without run position self.old.eligible }
-        ensures holders { (stage : Contender) → Contains self.old.eligible stage → IsAt run position stage →
-            IsPutIn stage self.old.holders self.new.holders }
+        ensures holders { (stage : Contender) → Contains self.old.eligible stage →
+            IsAt run position stage → IsPutIn stage self.old.holders self.new.holders }
     {
         let stage = take_out(&mut self.eligible, run, position);
         match put_in(&mut self.holders, stage) {
@@ -106,10 +110,13 @@ impl Contenders {
 
     /// The run and the position of the stage that may start next, or None where nothing may.
     pub fn next(&self) -> Option<(u64, u32)>
-        ensures next { MatchOption result (All (λ stage. ¬ MayStart self.now.eligible self.now.holders stage) self.now.eligible)
-            (λ told. (stage : Contender) × IsNext self.now.eligible self.now.holders stage × IsAt told.0 told.1 stage) }
+        ensures next { MatchOption result
+            (All (λ stage. ¬ MayStart self.now.eligible self.now.holders stage) self.now.eligible)
+            (λ told. (stage : Contender) × IsNext self.now.eligible self.now.holders stage ×
+            IsAt told.0 told.1 stage) }
 
-        // Some stage may start where nothing stands in its way, and where no resource of an eligible one is held.
+        // There is a next stage where nothing stands in an eligible one's way, and where some stage
+        // is eligible and no holder has a resource of an eligible one.
         ensures some { (stage : Contender) → Contains self.now.eligible stage →
             MayStart self.now.eligible self.now.holders stage → IsSome result }
         ensures progress { self.now.eligible ≢ [] →
@@ -118,17 +125,18 @@ impl Contenders {
         next_of(&self.eligible, &self.holders)
     }
 
-    /// The run and the position of the least stage that is superseded, and the least run to whose stage it
-    /// gives way; or None where none is.
+    /// The run and the position of the least stage that is superseded, and the least run to whose
+    /// stage it gives way; or None where none is.
     pub fn superseded(&self) -> Option<(u64, u32, u64)>
-        ensures { MatchOption result (All (λ stage. ¬ IsSuperseded self.now.eligible stage) self.now.eligible)
+        ensures { MatchOption result
+            (All (λ stage. ¬ IsSuperseded self.now.eligible stage) self.now.eligible)
             (λ told. (stage : Contender) × (IsLeastSuperseded self.now.eligible stage) ×
-                (IsAt told.0 told.1 stage) × (IsLeastSuperseding self.now.eligible stage told.2)) }
+            (IsAt told.0 told.1 stage) × (IsLeastLaterRun self.now.eligible stage told.2)) }
     {
         least_superseded(&self.eligible)
     }
 
-    /// Whether no stage of that run stands in the lists at that position, so that one may be entered.
+    /// Whether no stage of that run stands in the lists at that position, so that one may enter.
     pub fn is_new(&self, run: u64, position: u32) -> bool
         ensures { IsTrue result ↔
             (IsAbsent run position self.now.eligible × IsAbsent run position self.now.holders) }

@@ -1,5 +1,5 @@
-//! Exclusive locks between the stages of runs: which stage may start next, and which one gives way to
-//! a later run.
+//! Exclusive locks between the stages of runs: which stage may start next, and which one gives way
+//! to a later run.
 #![tactic(auto)]
 
 mod choosing;
@@ -7,6 +7,8 @@ mod contender;
 mod contenders;
 mod laws;
 mod ordering;
+#[cfg(test)]
+mod tests;
 
 pub use contender::Contender;
 pub use contenders::Contenders;

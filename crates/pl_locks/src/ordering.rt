@@ -11,8 +11,10 @@ use std::alloc::Global;
 /// How many of the stages precede the given one.
 fn place_of(stages: &[Contender], stage: &Contender) -> usize
     ensures within { result ≤ length stages.now }
-    ensures below { (k : ℕ) (d : Contender) → k < result → Precedes (slice_index_or stages.now k d) stage.now }
-    ensures above { (d : Contender) → result < length stages.now → ¬ Precedes (slice_index_or stages.now result d) stage.now }
+    ensures below { (k : ℕ) (d : Contender) → k < result →
+        Precedes (slice_index_or stages.now k d) stage.now }
+    ensures above { (d : Contender) → result < length stages.now →
+        ¬ Precedes (slice_index_or stages.now result d) stage.now }
 {
     stages
         .iter()
@@ -20,8 +22,8 @@ fn place_of(stages: &[Contender], stage: &Contender) -> usize
         .unwrap_or(stages.len())
 }
 
-/// Puts a stage among the others, in its place by run and position. It takes memory only where there is
-/// no room. After Memory the others are as before, and the stage is dropped.
+/// Puts a stage among the others, in its place by run and position. It takes memory only where
+/// there is no room. After Memory the others are as before, and the stage is dropped.
 pub fn put_in(stages: &mut Vec<Contender>, stage: Contender) -> Result<(), Memory>
     requires ordered { IsOrdered stages.old.items }
     requires absent { IsAbsent stage.run stage.position stages.old.items }
@@ -38,7 +40,8 @@ pub fn put_in(stages: &mut Vec<Contender>, stage: Contender) -> Result<(), Memor
 
 /// The place of the stage of that run at that position.
 fn find_at(stages: &[Contender], run: u64, position: u32) -> Option<usize>
-    ensures { MatchOption result (IsAbsent run position stages.now) (IsFirstAt (IsAt run position) stages.now) }
+    ensures { MatchOption result (IsAbsent run position stages.now)
+        (IsFirstAt (IsAt run position) stages.now) }
 {
     stages.iter().position(|stage| stage.is_at(run, position))
 }

@@ -5,4 +5,6 @@ use Rattle.pl_locks.proofs.choosing.least_superseded.Given as goal
 
 -- no stage before this one is superseded
 abbrev pub invariant-loop-stage : goal.invariant-loop-stage
-invariant-loop-stage l = (k : ℕ) (d : Contender) → k < l.stage-index → IsSuperseded l.eligible (get_or l.eligible k d) → ⊥
+invariant-loop-stage l =
+    (k : ℕ) (d : Contender) → k < l.stage-index → IsSuperseded l.eligible
+    (get_or l.eligible k d) → ⊥

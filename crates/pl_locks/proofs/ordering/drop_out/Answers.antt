@@ -5,4 +5,5 @@ use Rattle.pl_locks.proofs.ordering.drop_out.Goals as goal
 
 pub returns-clause-others : goal.returns-clause-others
 returns-clause-others c =
-    filter_same _ (λ stage. not (is_at c.args.run c.args.position stage)) _ (λ stage b f called. search rules) c.args.stages.now.items _ c.retain.ensures.filtered
+    filter_same _ (λ stage. not (is_at c.args.run c.args.position stage)) _
+    (λ stage b f called. search rules) c.args.stages.now.items _ c.retain.ensures.filtered

@@ -4,6 +4,10 @@ use Rattle.pl_locks.proofs.contenders.Contenders.enter.Goals as goal
 
 pub invariant_of-self-2 : goal.invariant_of-self-2
 invariant_of-self-2 c =
+    let lists = c.self.inside in
     let absent = rw (← c.self.view_is) at c.requires.holders in
-    (rw c.reserve.ensures.items (kept_enter c.self.inside.eligible.items c.self.inside.holders.items c.put_in.new.stages.items c.args.stage c.self.invariant.0 absent c.in_ok-put_in.ensures.ok),
-      let len = c.in_ok-put_in.ensures.len in let room = c.in_ok-reserve.ensures.ok in omega arith)
+    let kept = kept_enter lists.eligible.items lists.holders.items c.put_in.new.stages.items
+    c.args.stage c.self.invariant.0 absent c.in_ok-put_in.ensures.ok in
+    let len = c.in_ok-put_in.ensures.len in
+    let room = c.in_ok-reserve.ensures.ok in
+    (rw c.reserve.ensures.items kept, omega arith)

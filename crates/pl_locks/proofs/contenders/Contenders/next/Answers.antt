@@ -1,10 +1,14 @@
 use Rattle.pl_locks.proofs.contenders.Contenders.next.Goals as goal
 
 pub returns-clause-next : goal.returns-clause-next
-returns-clause-next c = rw (← c.self.view_is, ← c.deref.ensures.value, ← c.deref-2.ensures.value) c.next_of.ensures.next
+returns-clause-next c =
+    rw (← c.self.view_is, ← c.deref.ensures.value, ← c.deref-2.ensures.value) c.next_of.ensures.next
 
 pub returns-clause-some : goal.returns-clause-some
-returns-clause-some c = rw (← c.self.view_is, ← c.deref.ensures.value, ← c.deref-2.ensures.value) c.next_of.ensures.some
+returns-clause-some c =
+    rw (← c.self.view_is, ← c.deref.ensures.value, ← c.deref-2.ensures.value) c.next_of.ensures.some
 
 pub returns-clause-progress : goal.returns-clause-progress
-returns-clause-progress c = rw (← c.self.view_is, ← c.deref.ensures.value, ← c.deref-2.ensures.value) c.next_of.ensures.progress
+returns-clause-progress c =
+    rw (← c.self.view_is, ← c.deref.ensures.value, ← c.deref-2.ensures.value)
+    c.next_of.ensures.progress

@@ -1,0 +1,4 @@
+mod every_list;
+mod plain;
+mod script;
+mod stages;
