@@ -1,0 +1,4 @@
+pub mod Booleans
+pub mod Items
+pub mod Literal
+pub mod Values
