@@ -19,8 +19,8 @@ pub fn boolean_in(text: &Text) -> Option<bool>
     None
 }
 
-/// Whether a text is that word, the case of ASCII's letters aside.
-fn spells(text: &str, word: &str) -> bool
+/// Whether a text is that word, the case of ASCII's letters aside. It takes no memory.
+pub fn spells(text: &str, word: &str) -> bool
     ensures { result ≡ spells text.now word.now }
 {
     text.eq_ignore_ascii_case(word)

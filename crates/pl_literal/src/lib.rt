@@ -7,7 +7,7 @@ mod items;
 mod nodes;
 mod values;
 
-pub use booleans::boolean_in;
+pub use booleans::{boolean_in, spells};
 pub use items::{ItemKind, kind_of_item, kind_of_key};
 pub use nodes::{literal, origin_at};
 pub use values::same_value;

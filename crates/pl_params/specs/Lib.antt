@@ -1,0 +1,10 @@
+pub mod Binding
+pub mod Codes
+pub mod Complaints
+pub mod Declaring
+pub mod Gives
+pub mod Judging
+pub mod Kinds
+pub mod Names
+pub mod Nodes
+pub mod Steps
