@@ -80,9 +80,9 @@ fn bind_all(
 fn given_for<'g>(given: &'g List<Given>, param: &Param) -> Option<&'g Given>
     ensures { option_copied result ≡ given_for given.now param.now }
 {
-    for one in given.as_slice() {
-        if spells(param.name.as_str(), one.name.as_str()) {
-            return Some(one);
+    for named in given.as_slice() {
+        if spells(param.name.as_str(), named.name.as_str()) {
+            return Some(named);
         }
     }
     None

@@ -52,7 +52,7 @@ pub enum ParamProblem {
     #[error("parameter {0:?} is declared twice")]
     Duplicate(Text),
     /// P3: the default isn't of the type, or isn't among the allowed values.
-    #[error("parameter {0:?}: its default {2} is not {1} among its allowed values")]
+    #[error("parameter {0:?}: its default {2} is not {1}, or is not among its allowed values")]
     BadDefault(Text, ParamKind, Found),
     /// P4: nothing is given, and there is no default.
     #[error("parameter {0:?}: {1} is wanted, and nothing is given")]

@@ -5,7 +5,7 @@ ghost use Rattle.pl_params.specs.Judging.{is_value, allows, judged};
 
 use crate::kind::ParamKind;
 use crate::reading::read_as;
-use pl_base::{List, MarkedNode, Memory, Node, Value};
+use pl_base::{List, MarkedNode, Memory, Node, SharedList, Value};
 use pl_literal::{literal, same_value};
 use std::alloc::Global;
 
@@ -42,7 +42,7 @@ pub fn judge(
 pub fn written(alloc: Global, node: &Node) -> Result<MarkedNode, Memory>
     ensures { IfOk result (λ value. value ≡ literal [] node.now) }
 {
-    literal(alloc, node, &List::new(alloc))
+    literal(alloc, node, &SharedList::new(alloc)?)
 }
 
 /// Whether a value is among the allowed ones, or these are none.

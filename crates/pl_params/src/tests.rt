@@ -1,0 +1,6 @@
+mod bindings;
+mod declarations;
+mod messages;
+mod notation;
+mod shown;
+mod table;
