@@ -1,12 +1,13 @@
-ghost use Rattle.std.specs.Prelude.{◌≡◌, map};
-ghost use Rattle.pl_literal.specs.Values.{alike, nodes_alike, pairs_alike, all_pass};
+ghost use Rattle.std.specs.Prelude.{◌≡◌, ◌↔◌, IsTrue, map};
+ghost use Rattle.pl_literal.specs.Values.{alike, nodes_alike, pairs_alike, all_pass, without_origins};
 
 use pl_base::{List, MarkedNode, MarkedPair, Value};
 
 /// Whether two values are the same, wherever they come from: of one type, texts and keys in each
 /// letter, items and pairs in order. It takes no memory.
 pub fn same_value(left: &Value, right: &Value) -> bool
-    ensures { result ≡ alike left.now right.now }
+    ensures same { IsTrue result ↔ (without_origins left.now ≡ without_origins right.now) }
+    ensures test { result ≡ alike left.now right.now }
 {
     values_alike(left, right)
 }
