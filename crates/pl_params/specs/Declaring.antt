@@ -72,7 +72,7 @@ misfit name kind node (judgement.Fits value) = None
 misfit name kind node other = Some (complaint (problem.BadDefault name kind (found_at node)) node.place)
 
 abbrev pub default_complaint : List ℕ → Option ParamKind → List Node → Option Node → Option Complaint
-default_complaint name None values node = None
+default_complaint name None values written = None
 default_complaint name (Some kind) values None = None
 default_complaint name (Some kind) values (Some node) = misfit name kind node (judged kind values (literal [] node))
 

@@ -1,20 +1,20 @@
 ghost use Rattle.std.specs.Prelude.{◌≡◌, [], Some, IfOk};
 ghost use Rattle.std.specs.Option.{option_copied};
 ghost use Rattle.pl_params.specs.declared.fault.ParamProblem.TheVariants.{Missing, NotOfType, NotAllowed};
-ghost use Rattle.pl_params.specs.Binding.{bound, bound_default, bound_from, given_for, bound_param, unexpected, binds};
+ghost use Rattle.pl_params.specs.Binding.{bound, bound_default, bound_from, bound_param, unexpected, binds};
 ghost use Rattle.pl_params.specs.Complaints.{complaint, found_of};
 ghost use Rattle.pl_params.specs.Gives.{Gives};
+ghost use Rattle.pl_params.specs.Names.{Indexes};
 ghost use Rattle.pl_params.specs.Steps.{in_turn};
 
 use crate::complaints::bad_default;
 use crate::fault::{Complaint, ParamFault, ParamProblem};
 use crate::given::{Bound, Given};
 use crate::judging::{Judged, judge, written};
-use crate::names::is_declared;
+use crate::names::{Places, first_named, has_name, places_of_given, places_of_params};
 use crate::param::{Declared, Param};
 use crate::refusing::{complain, found_value};
 use pl_base::{ExactCopy, List, MarkedNode, Memory};
-use pl_literal::spells;
 use std::alloc::Global;
 
 /// What is bound to the declared parameters, in their order (Microsoft Learn, Azure Pipelines, "Template
@@ -38,7 +38,7 @@ pub fn bind(
 ) -> Result<List<Bound>, ParamFault>
     ensures { Gives result (binds declared.now given.now) }
 {
-    match unexpected(declared, given) {
+    match unexpected(alloc, declared, given)? {
         Some(one) => {
             let problem = ParamProblem::Unexpected(one.name.copy(alloc)?);
             Err(ParamFault::Refused(complain(alloc, problem, &one.place)?))
@@ -49,15 +49,20 @@ pub fn bind(
 
 /// The first that is given for no parameter.
 #[tactic(auto, using(crate::proofs::Finding::find_drop_yes, crate::proofs::Finding::find_drop_no))]
-fn unexpected<'g>(declared: &Declared, given: &'g List<Given>) -> Option<&'g Given>
-    ensures { option_copied result ≡ unexpected declared.now given.now }
+fn unexpected<'g>(
+    alloc: Global,
+    declared: &Declared,
+    given: &'g List<Given>,
+) -> Result<Option<&'g Given>, Memory>
+    ensures { IfOk result (λ found. option_copied found ≡ unexpected declared.now given.now) }
 {
+    let places = places_of_params(alloc, declared)?;
     for one in given.as_slice() {
-        if !is_declared(declared, one.name.as_str()) {
-            return Some(one);
+        if !has_name(alloc, declared, &places, &one.name)? {
+            return Ok(Some(one));
         }
     }
-    None
+    Ok(None)
 }
 
 fn bind_all(
@@ -67,32 +72,26 @@ fn bind_all(
 ) -> Result<List<Bound>, ParamFault>
     ensures { Gives result (in_turn (bound_param given.now) [] declared.now) }
 {
+    let places = places_of_given(alloc, given)?;
     let mut all = List::new(alloc);
     for param in declared.as_slice() {
-        let bound = bind_one(alloc, param, given_for(given, param))?;
+        let bound = bind_param(alloc, param, given, &places)?;
         all.push(bound)?;
     }
     Ok(all)
 }
 
-/// The first that is given under the parameter's name.
-#[tactic(auto, using(crate::proofs::Finding::find_drop_yes, crate::proofs::Finding::find_drop_no))]
-fn given_for<'g>(given: &'g List<Given>, param: &Param) -> Option<&'g Given>
-    ensures { option_copied result ≡ given_for given.now param.now }
+/// What is bound to a parameter: what is given under its name, or its default.
+fn bind_param(
+    alloc: Global,
+    param: &Param,
+    given: &List<Given>,
+    places: &Places,
+) -> Result<Bound, ParamFault>
+    requires { Indexes (λ one. one.name) given.now places.now }
+    ensures { Gives result (bound_param given.now [] param.now) }
 {
-    for named in given.as_slice() {
-        if spells(param.name.as_str(), named.name.as_str()) {
-            return Some(named);
-        }
-    }
-    None
-}
-
-/// What is bound to a parameter for which this is given, or nothing.
-fn bind_one(alloc: Global, param: &Param, given: Option<&Given>) -> Result<Bound, ParamFault>
-    ensures { Gives result (bound_from param.now (option_copied given.entry)) }
-{
-    match given {
+    match first_named(alloc, given, places, &param.name)? {
         Some(given) => bind_given(alloc, param, given),
         None => bind_default(alloc, param),
     }
