@@ -92,7 +92,7 @@ fn scalar(alloc: Global, line: u32, text: &str) -> Result<Node, Memory> {
 fn job(alloc: Global, line: u32, text: &str) -> Result<Node, Memory> {
     let key = Text::from_str(alloc, "job")?;
     let key_place = place(alloc, line)?;
-    let item = scalar(alloc, line + 1, text)?;
+    let item = scalar(alloc, line.saturating_add(1), text)?;
     let mut pairs = List::new(alloc);
     pairs.push(NodePair {
         key,
@@ -110,7 +110,7 @@ fn job(alloc: Global, line: u32, text: &str) -> Result<Node, Memory> {
 fn list(alloc: Global, line: u32, text: &str) -> Result<Node, Memory> {
     let mut items = List::new(alloc);
     items.push(job(alloc, line, text)?)?;
-    items.push(scalar(alloc, line + 2, "x")?)?;
+    items.push(scalar(alloc, line.saturating_add(2), "x")?)?;
     let place = place(alloc, line)?;
     Ok(Node {
         place,

@@ -1,5 +1,5 @@
 -- Where names first stand: from a list's end, one name after the other.
-use Rattle.std.proofs.Common.{◌≡◌, ℕ, suc, ◌+◌, ◌<◌, Bool, true, false, Option, Some, None, cond, ltb, ◌||◌, List, [], ◌∷◌, length, get_or, drop, refl, ap, sym, ◌∙◌, arith}
+use Rattle.std.proofs.Common.{◌≡◌, ℕ, ◌+◌, ◌<◌, Bool, true, false, Some, None, cond, ltb, ◌||◌, List, [], ◌∷◌, length, get_or, drop, refl, ap, sym, ◌∙◌}
 use Rattle.std.specs.List.{find, list_any, position_from}
 use Rattle.std.specs.List.{position_or_len}
 use Rattle.std.specs.Option.{is_some}

@@ -1,5 +1,5 @@
 -- What is bound to the parameters of a template (Microsoft Learn, Azure Pipelines, "Template parameters").
-use Rattle.std.specs.Prelude.{ℕ, Bool, true, false, not, List, [], ◌∷◌, find, Option, Some, None, Result, Ok, Err}
+use Rattle.std.specs.Prelude.{Bool, true, false, not, List, [], find, Option, Some, None, Result, Ok, Err}
 use Rattle.pl_base.specs.declared.node.Node.{Node}
 use Rattle.pl_base.specs.declared.value.MarkedNode.{MarkedNode}
 use Rattle.pl_literal.specs.Booleans.{spells}

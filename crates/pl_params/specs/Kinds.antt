@@ -1,6 +1,6 @@
 -- The types of parameters by their names (Microsoft Learn, Azure Pipelines, "YAML schema reference",
 -- parameters.parameter), and what each reads.
-use Rattle.std.specs.Prelude.{ℕ, Bool, true, false, List, [], ◌∷◌, Option, Some, None, codes, if◌then◌else◌}
+use Rattle.std.specs.Prelude.{ℕ, Bool, true, false, List, [], Option, Some, None, codes, if◌then◌else◌}
 use Rattle.std.specs.Option.{option_map}
 use Rattle.std.specs.List.{list_all}
 use Rattle.pl_base.specs.declared.value.Value.{Value, Bool as Truth, Number, Str, Array, out-Value}
