@@ -1,0 +1,6 @@
+mod Beginnings
+mod TwoSeats
+mod Views
+mod Waits
+mod Turns
+mod Seatings
