@@ -93,10 +93,10 @@ module _ {E : Type 0} where
         let rest = entries_of names m xs in
         let none = entries-apart n m xs ne in
         dite (ℕ_discrete (names x) m)
-            (λ is. ap (λ b. entries_of names n (cond b (x ∷ rest) rest)) (eq-eqb (names x) m is)
-            ∙ (ap (λ b. cond b (x ∷ entries_of names n rest) (entries_of names n rest)) (ne_eqb (names x) n (λ e. ne (sym is ∙ e)))
-            ∙ none))
-            (λ other. ap (λ b. entries_of names n (cond b (x ∷ rest) rest)) (ne_eqb (names x) m other) ∙ none)
+        (λ is. ap (λ b. entries_of names n (cond b (x ∷ rest) rest)) (eq-eqb (names x) m is)
+        ∙ (ap (λ b. cond b (x ∷ entries_of names n rest) (entries_of names n rest)) (ne_eqb (names x) n (λ e. ne (sym is ∙ e)))
+        ∙ none))
+        (λ other. ap (λ b. entries_of names n (cond b (x ∷ rest) rest)) (ne_eqb (names x) m other) ∙ none)
 
     -- where all entries name lower numbers, none names this one
     pub entries-below : (n : ℕ) (xs : List E) → All (λ e. names e < n) xs → entries_of names n xs ≡ []

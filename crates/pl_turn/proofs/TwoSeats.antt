@@ -18,8 +18,8 @@ module _ {T E L : Type 0} (history_of : T → List E) (label_of : T → L) (name
       let a = (r.each i v at).beginning.0 in
       let b = (r.each j w there).beginning.0 in
       dite (dec_le (length v.seen) (length w.seen))
-          (λ le. inl (prefix-between v.seen w.seen r.history a b le))
-          (λ more. inr (prefix-between w.seen v.seen r.history b a (omega arith)))
+      (λ le. inl (prefix-between v.seen w.seen r.history a b le))
+      (λ more. inr (prefix-between w.seen v.seen r.history b a (omega arith)))
 
   pub apart : (s : State (Option T) (View E L)) (i j : ℕ) (v w : View E L) → OneHistory history_of label_of names l s
       → get_elem? s.views i ≡ some v → get_elem? s.views j ≡ some w → (i ≡ j → ⊥) → w.drawn ≡ true → entries_of names w.number v.mine ≡ []

@@ -2,8 +2,8 @@
 use Rattle.std.specs.Prelude.{◌≡◌, ◌⊎◌, ℕ, ◌-◌, ◌==◌, max, List, [], ◌∷◌, ◌++◌}
 use Rattle.std.specs.Prelude.{length, filter, ltb, if◌then◌else◌}
 
--- by how much a seat's faults grow in a turn: as much as the count rose since the taking, and by one
--- at least where the count stands at its last value
+-- by how much a seat's faults grow in a turn: as much as the count rose since the taking, and by
+-- one at least where the count stands at its last value
 abbrev pub faults_since : ℕ → ℕ → ℕ
 faults_since taken count =
     if count == 18446744073709551615 then max 1 (count - taken) else count - taken

@@ -1,8 +1,9 @@
 -- What a contract sees of a seat.
-use Rattle.std.specs.Prelude.{◌≡◌, ◌⊎◌, ℕ, Bool, true, false, List, [], ◌∷◌, ◌++◌}
+use Rattle.std.specs.Prelude.{◌≡◌, ◌⊎◌, ℕ, ◌+◌, Bool, true, false, List, [], ◌∷◌, ◌++◌}
 use Rattle.std.specs.Prelude.{Option, Some, refl}
 use Rattle.std.specs.Coded.{Coded, code_by, coded×, coded_ℕ, coded_bool, coded_list, coded_option}
 use Rattle.atomic_table.specs.Seated.{TableId, table_id_coded}
+use Rattle.pl_turn.specs.History.{entries_of, faults_since}
 
 -- A seat tells its lock, its label, what it has seen of the one history, its own entries there, its
 -- number, whether it has the turn, how often it had one, how many faults were counted in its turns,
@@ -22,6 +23,10 @@ pub record Place (E L : Type 0) : Type 0 where
 abbrev PlaceTuple : Type 0 → Type 0 → Type 0
 PlaceTuple E L =
     TableId × (Option L × (List E × (List E × (ℕ × (Bool × (ℕ × (ℕ × ℕ)))))))
+
+-- the table of a lock has three words and one slot
+abbrev pub IsTurnTable : TableId → Type 0
+IsTurnTable table = (table.words ≡ 3) × (table.slots ≡ 1)
 
 module _ {E L : Type 0} where
   abbrev tuple_of : Place E L → PlaceTuple E L
@@ -65,6 +70,20 @@ module _ {E L : Type 0} where
     turns = 0;
     faults = 0;
     taken = 0;
+  }
+
+  -- a seat that took a value with this history and this count
+  abbrev pub after_take : List E → ℕ → Place E L → Place E L
+  after_take history count p =
+      record p { seen = history; turn = true; turns = p.turns + 1; taken = count }
+
+  -- a seat that gave a value with this history and this count back
+  abbrev pub after_give_back : (E → ℕ) → List E → ℕ → Place E L → Place E L
+  after_give_back names history count p = record p {
+    seen = history;
+    mine = entries_of names p.number history;
+    turn = false;
+    faults = p.faults + faults_since p.taken count;
   }
 
   -- a new seat with this number, which was split from another

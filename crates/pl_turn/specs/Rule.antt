@@ -1,7 +1,8 @@
 -- The rule of the turn lock: there is one history, and every seat knows a beginning of it.
--- The lock has three words, which are the ticket that is served, the next ticket and the next number
--- of a seat, and one slot for the value.
-use Rattle.std.specs.Prelude.{◌≡◌, ℕ, ◌+◌, ◌<◌, ◌≤◌, ◌⊎◌, Bool, true, false, List, [], ◌∷◌, Option, Some, None, is_some, All, Contains, count_by, MatchBool}
+-- The lock has three words, which are the ticket that is served, the next ticket and the next
+-- number of a seat, and one slot for the value.
+use Rattle.std.specs.Prelude.{◌≡◌, ◌⊎◌, ℕ, ◌+◌, ◌<◌, ◌≤◌, Bool, true, List, [], ◌∷◌}
+use Rattle.std.specs.Prelude.{Option, Some, None, is_some, All, Contains, count_by, MatchBool}
 use mathlib.Core.List.{IsPrefix}
 use mathlib.Core.Option.{some, none}
 use lib.ListN.{get_elem?}
@@ -71,12 +72,14 @@ module _ {E L : Type 0} (names : E → ℕ) (history : List E) where
   abbrev pub KnowsItsOwn : View E L → Type 0
   KnowsItsOwn v = MatchBool v.drawn (v.mine ≡ entries_of names v.number history) (v.mine ≡ [])
 
-  -- Numbers lie below the word `seats`, and so does the number that a view keeps that hasn't drawn one.
+  -- Numbers lie below the word `seats`, and so does the number that a view keeps that hasn't drawn
+  -- one.
   abbrev pub IsNumberedBelow : ℕ → View E L → Type 0
   IsNumberedBelow seats v =
       (IsLive v → v.number < seats) × ((n : ℕ) → HasNumber v n → n < seats)
 
-  -- The entries of numbers whose seats were joined away stay, and none of these numbers is the seat's own.
+  -- The entries of numbers whose seats were joined away stay. None of these numbers is the seat's
+  -- own.
   abbrev pub KeepsJoined : View E L → Type 0
   KeepsJoined v =
       (n : ℕ) (es : List E) → Contains v.joined (n, es)
@@ -86,8 +89,8 @@ module _ {E L : Type 0} (names : E → ℕ) (history : List E) where
   abbrev pub IsTicketWithin : ℕ → ℕ → View E L → Type 0
   IsTicketWithin serving ticket v = (t : ℕ) → HasTicket v t → (serving ≤ t) × (t < ticket)
 
-  -- The view with the turn is the holder's and no other's, it has the ticket serving, and its seen is
-  -- the one history.
+  -- At most one view has the turn, the holder's. It has the ticket serving, and its seen is the one
+  -- history.
   abbrev pub HoldsTurn : ℕ → Option ℕ → ℕ → View E L → Type 0
   HoldsTurn serving holder i v =
       (t : ℕ) → v.stage ≡ Turn t → (t ≡ serving) × (holder ≡ Some i) × (v.seen ≡ history)
@@ -103,8 +106,8 @@ module _ {E L : Type 0} (names : E → ℕ) (history : List E) where
     pub one_turn : HoldsTurn serving holder i v
 
 module _ {T E L : Type 0} (history_of : T → List E) (label_of : T → L) where
-  -- While no view has the turn, the slot holds a value, which has the one label and stands for the one
-  -- history. While one view has the turn, the slot is out with its seat.
+  -- While no view has the turn, the slot holds a value, which has the one label and stands for the
+  -- one history. While one view has the turn, the slot is out with its seat.
   abbrev pub Slot : L → List E → Option ℕ → State (Option T) (View E L) → Type 0
   Slot label history None s =
       (y : T) × (s.homes ≡ some (Some y) ∷ []) × (history_of y ≡ history) × (label_of y ≡ label)
@@ -112,8 +115,8 @@ module _ {T E L : Type 0} (history_of : T → List E) (label_of : T → L) where
       (s.homes ≡ none ∷ [])
       × ((v : View E L) × (t : ℕ) × (get_elem? s.views i ≡ some v) × (v.stage ≡ Turn t))
 
--- There is one history. It is what the seat that has the turn has seen, and else what the value in the
--- slot stands for. `holder` is the place of the view that has the turn
+-- There is one history. It is what the seat that has the turn has seen, and else what the value in
+-- the slot stands for. `holder` is the place of the view that has the turn
 pub record OneHistory {T E L : Type 0} (history_of : T → List E) (label_of : T → L) (names : E → ℕ) (label : L) (s : State (Option T) (View E L)) : Type 0 where
   pub history : List E
   pub serving : ℕ

@@ -1,5 +1,6 @@
 -- What each step on the words tells the seat that makes it.
-use Rattle.std.specs.Prelude.{◌≡◌, ℕ, ◌+◌, ◌<◌, ◌==◌, Bool, true, false, List, [], ◌∷◌, ◌++◌, Option, Some, None, MatchBool}
+use Rattle.std.specs.Prelude.{◌≡◌, ℕ, ◌+◌, ◌<◌, ◌==◌, true, false, List, [], ◌∷◌, ◌++◌}
+use Rattle.std.specs.Prelude.{Option, Some, None, MatchBool}
 use mathlib.Core.List.{IsPrefix}
 use Rattle.atomic_table.specs.Table.{Me, Step}
 use Rattle.pl_turn.specs.History.{entries_of, longer, faults_since}
@@ -79,8 +80,8 @@ module _ {T E L : Type 0} where
   DrewTicket st m found m' =
       MatchBool (found == st.first) (m' ≡ (waiting found m.0, m.1)) (m' ≡ m)
 
-  -- The seat has drawn the number that the word was, which is above the one that it kept, or the word
-  -- was another and nothing changed.
+  -- The seat has drawn the number that the word was, which is above the one that it kept, or the
+  -- word was another and nothing changed.
   abbrev pub DrewNumber : Step (Option T) → Sat T E L → ℕ → Sat T E L → Type 0
   DrewNumber st m found m' =
       MatchBool (found == st.first)
@@ -92,8 +93,8 @@ module _ {T E L : Type 0} where
       (m' ≡ (learned m.0, m.1)) × IsPrefix m.0.seen m'.0.seen × IsPrefix m.0.told m'.0.seen
 
   module _ (history_of : T → List E) (label_of : T → L) (names : E → ℕ) (count_of : T → ℕ) where
-    -- the seat has the turn and the value, which has its label, and whose history begins with what the
-    -- seat has seen and has its entries
+    -- the seat has the turn and the value, which has its label, and whose history begins with what
+    -- the seat has seen and has its entries
     abbrev pub GotTurn : ℕ → Sat T E L → Sat T E L → Type 0
     GotTurn ticket m m' =
         (y : T) × (m' ≡ (having ticket (history_of y) (count_of y) m.0, (0, Some y) ∷ m.1))
@@ -106,10 +107,13 @@ module _ {T E L : Type 0} where
         (ticket : ℕ) → m.0.stage ≡ Waiting ticket
         → MatchBool (found == ticket) (GotTurn ticket m m') (m' ≡ m)
 
-  -- The value that the seat had in the slot is given back, and the seat has seen its history. Its own
-  -- entries were those of what it had seen.
-  abbrev pub EndedTurn : (T → List E) → (E → ℕ) → (T → ℕ) → Step (Option T) → Sat T E L → ℕ → Sat T E L → Type 0
-  EndedTurn history_of names count_of st m found m' =
-      KnowsItsOwn names m.0.seen m.0
-      × ((y : T) → m.1 ≡ (0, Some y) ∷ []
-      → m' ≡ (rested names (history_of y) (count_of y) m.0, []))
+  module _ (history_of : T → List E) (names : E → ℕ) (count_of : T → ℕ) where
+    -- the turn has ended with this value, and the seat has seen its history
+    abbrev pub Ended : T → Sat T E L → Sat T E L → Type 0
+    Ended y m m' = m' ≡ (rested names (history_of y) (count_of y) m.0, [])
+
+    -- The value that the seat had in the slot is given back. The seat's own entries were those of
+    -- what it had seen.
+    abbrev pub EndedTurn : Step (Option T) → Sat T E L → ℕ → Sat T E L → Type 0
+    EndedTurn st m found m' =
+        KnowsItsOwn names m.0.seen m.0 × ((y : T) → m.1 ≡ (0, Some y) ∷ [] → Ended y m m')

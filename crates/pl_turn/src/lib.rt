@@ -1,4 +1,4 @@
-//! A lock whose holders take turns over one value, and whose seats know that they stand in one history.
+//! A lock over one value. Its seats take the value in turns, and stand in one history of it.
 #![tactic(auto)]
 
 mod laws;

@@ -14,10 +14,12 @@ pub(crate) type Token<T> = TableSeat<
 /// A place at a turn lock, which takes turns with the lock's value, one at a time.
 ///
 /// Contracts see its lock, the label of the lock's value, `seen`, which is the beginning of the one
-/// history that it has seen, `mine`, which is its own entries there, and its number. They see whether
-/// it has the turn, and count its turns and the faults in them. A seat may go to another thread. A
-/// seat that is dropped while it has the turn leaves the lock without a value: each later `take`
-/// waits for ever.
+/// history that it has seen, `mine`, which is its own entries there, and its number. They see
+/// whether it has the turn, how many turns it had, how many faults were counted in them, and the
+/// count of the value that it took last. A seat may go to another thread.
+///
+/// Nothing keeps a seat from being dropped while it has the turn. Then the turn never ends, and each
+/// later `take` of the lock waits for ever.
 #[derive(Drop)]
 pub struct Seat<T: Standing> {
     pub(crate) token: Token<T>,

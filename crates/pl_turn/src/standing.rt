@@ -2,9 +2,8 @@ ghost use Rattle.std.specs.Prelude.{◌≡◌, ℕ, List};
 
 /// A value that threads take turns with.
 ///
-/// It stands for a list of entries, its history, each of which names the number of a seat. Contracts
-/// see besides a label, which never changes, and the number that the label gives to the history's
-/// first entry.
+/// It stands for a list of entries, its history, and for the number of the first of them. Each entry
+/// names the number of a seat. Contracts see besides a label, which never changes.
 pub trait Standing {
     /// One entry of the history.
     type Entry;
@@ -18,7 +17,7 @@ pub trait Standing {
     /// The label of a value.
     ghost label: { Self → Self.Label };
 
-    /// The number of the first entry of a history, which its label tells.
+    /// The number of the first entry of a history. It never changes, and so the label tells it.
     ghost first: { Self.Label → ℕ };
 
     /// The number of the seat that an entry names.

@@ -2,7 +2,8 @@ ghost use Rattle.std.specs.Prelude.{◌≡◌, ℕ, ◌+◌, ◌<◌, ◌≤◌,
 ghost use mathlib.Core.List.{IsPrefix};
 ghost use Rattle.pl_turn.specs.History.{Adds};
 ghost use Rattle.pl_turn.specs.Rule.{KnowsItsOwn};
-ghost use Rattle.pl_turn.specs.Steps.{waiting, numbered, rested, newcomer, told_of, learned, GotTurn};
+ghost use Rattle.pl_turn.specs.Steps.{waiting, numbered, rested, newcomer, told_of, learned};
+ghost use Rattle.pl_turn.specs.Steps.{GotTurn, Ended};
 ghost use Rattle.pl_turn.specs.declared.view.Stage.TheVariants.{Idle, Waiting, Turn};
 
 use crate::seat::Token;
@@ -133,7 +134,7 @@ pub(crate) fn end_turn<T: Standing + Drop>(
     requires label { token.old.me.0.label ≡ Some (T.label value) }
     requires history { Adds T.names token.old.me.0.number token.old.me.0.seen (T.history value) }
     ensures same { (token.new.table_id ≡ token.old.table_id) × (token.new.id ≡ token.old.id) }
-    ensures ended { token.new.me ≡ (rested T.names (T.history value) (T.counted value) token.old.me.0, []) }
+    ensures ended { Ended T.history T.names T.counted value token.old.me token.new.me }
     ensures mine { KnowsItsOwn T.names token.old.me.0.seen token.old.me.0 }
 {
     put_in(lock, token, value);

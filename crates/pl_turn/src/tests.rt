@@ -147,10 +147,7 @@ fn split_all<R: Wait>(
 }
 
 // Joins all seats into the last one.
-fn join_all(
-    lock: &TurnLock<Notes>,
-    mut seats: Vec<Seat<Notes>>,
-) -> Option<Seat<Notes>>
+fn join_all(lock: &TurnLock<Notes>, mut seats: Vec<Seat<Notes>>) -> Option<Seat<Notes>>
     requires { All (λ s. (s.lock ≡ lock.now) × (s.turn ≡ false)) seats.items }
     ensures { IfSome result (λ s. (s.lock ≡ lock.entry.now) × (s.turn ≡ false)) }
 {
@@ -201,7 +198,7 @@ fn a_thousand_turns_leave_a_thousand_notes(rt: HostRuntime) -> Result<(), Fail> 
     Ok(())
 }
 
-// The notes of three seats, of which the second was split from the first and the third from the second.
+// The notes of three seats: the second is split from the first, and the third from the second.
 fn three_seats<R: Wait>(
     rt: &R,
     alloc: Global,
@@ -237,7 +234,14 @@ fn seats_join_in_either_order(rt: HostRuntime) -> Result<(), Fail> {
             return Err(Fail::from(AllocError));
         };
         assert!(rt; b.seat < c.seat && c.seat < a.seat && d.seat == a.seat);
-        assert_eq!(rt; e.seat, if first_is_joined_first { a.seat } else { b.seat });
+        assert_eq!(rt;
+            e.seat,
+            if first_is_joined_first {
+                a.seat
+            } else {
+                b.seat
+            }
+        );
     }
     Ok(())
 }

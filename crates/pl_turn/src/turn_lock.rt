@@ -1,7 +1,7 @@
-ghost use Rattle.std.specs.Prelude.{◌≡◌, ℕ, ◌+◌, ◌<◌, ◌≤◌, true, false, [], ◌∷◌, ◌++◌, Some, None, IfOk, IfErr, IsOk};
+ghost use Rattle.std.specs.Prelude.{◌≡◌, ◌<◌, ◌≤◌, true, false, [], ◌∷◌, Some, IfOk, IfErr, IsOk};
 ghost use mathlib.Core.List.{IsPrefix};
-ghost use Rattle.pl_turn.specs.History.{entries_of, Adds, longer, faults_since};
-ghost use Rattle.pl_turn.specs.Places.{Grows, first_place, split_place};
+ghost use Rattle.pl_turn.specs.History.{entries_of, Adds, longer};
+ghost use Rattle.pl_turn.specs.Places.{Grows, first_place, after_take, after_give_back, split_place};
 
 use crate::seat::{Seat, Token};
 use crate::standing::Standing;
@@ -39,8 +39,8 @@ pub struct TurnLock<T: Standing + Drop> {
 }
 
 impl<T: Standing + Drop> Model for TurnLock<T> {
-    ghost use Rattle.std.specs.Prelude.{◌≡◌};
     ghost use Rattle.atomic_table.specs.Seated.{TableId, table_id_coded};
+    ghost use Rattle.pl_turn.specs.Places.{IsTurnTable};
 
     ghost Value = { TableId };
 
@@ -48,7 +48,7 @@ impl<T: Standing + Drop> Model for TurnLock<T> {
 
     ghost view = { λ l. l.table.shared.table_id };
 
-    ghost invariant = { λ l. (l.table.shared.table_id.words ≡ 3) × (l.table.shared.table_id.slots ≡ 1) };
+    ghost invariant = { λ l. IsTurnTable l.table.shared.table_id };
 }
 
 impl<T: Standing + Drop> TurnLock<T> {
@@ -77,15 +77,16 @@ impl<T: Standing + Drop> TurnLock<T> {
         }
     }
 
-    /// Waits for a turn and takes the value. Its history begins with what the seat has seen, and then
-    /// is what it has seen. Where the ticket word stands at its last value, it waits for ever.
+    /// Waits for a turn and takes the value, whose history begins with what the seat has seen, and
+    /// from then on is what it has seen. The value has the seat's label. The turn ends with
+    /// `give_back`. After 2^64 - 1 turns of the lock it waits for ever.
     pub fn take<R: Wait>(&self, rt: &R, seat: &mut Seat<T>) -> T
         requires own { seat.old.lock ≡ self.now }
         requires free { seat.old.turn ≡ false }
         ensures label { seat.old.label ≡ Some (T.label result) }
         ensures begins { IsPrefix seat.old.seen (T.history result) }
         ensures mine { seat.old.mine ≡ entries_of T.names seat.old.number (T.history result) }
-        ensures seat { seat.new ≡ record seat.old { seen = T.history result; turn = true; turns = seat.old.turns + 1; taken = T.counted result } }
+        ensures seat { seat.new ≡ after_take (T.history result) (T.counted result) seat.old }
     {
         let ticket = draw_ticket(rt, self, &mut seat.token, seat.next);
         seat.next = ticket + 1;
@@ -93,9 +94,10 @@ impl<T: Standing + Drop> TurnLock<T> {
         take_out(self, &mut seat.token)
     }
 
-    /// Gives the value back and ends the turn. What was seen and the seat's own entries grow by the
-    /// entry that was added, if there is one, and its faults by as much as the value's count rose since
-    /// the value was taken, and by one at least where the count stands at its last value.
+    /// Gives the value back and ends the turn. At most one entry was added, which names this seat:
+    /// what was seen and the seat's own entries grow by it. The seat's faults grow by as much as the
+    /// value's count rose since it was taken, and by one at least where the count stands at its last
+    /// value, 2^64 - 1.
     pub fn give_back(&self, seat: &mut Seat<T>, value: T)
         requires own { seat.old.lock ≡ self.now }
         requires turn { seat.old.turn ≡ true }
@@ -103,14 +105,14 @@ impl<T: Standing + Drop> TurnLock<T> {
         requires label { seat.old.label ≡ Some (T.label value) }
         requires count { seat.old.taken ≤ T.counted value }
         ensures grows { Grows T.names seat.old seat.new }
-        ensures seat { seat.new ≡ record seat.old { seen = T.history value; mine = entries_of T.names seat.old.number (T.history value); turn = false; faults = seat.old.faults + faults_since seat.old.taken (T.counted value) } }
+        ensures seat { seat.new ≡ after_give_back T.names (T.history value) (T.counted value) seat.old }
     {
         end_turn(self, &mut seat.token, seat.next, value);
     }
 
-    /// A new seat, which has the same label, has seen as much and has no entries yet. Its number is a
-    /// new one. It takes no memory, so it never answers Memory. Where the seats word stands at its
-    /// last value, it waits for ever.
+    /// A new seat, which has the same label, has seen as much and has no entries of its own. Its
+    /// number is above the old seat's and no other seat's. It takes no memory, and so never answers
+    /// Memory. After 2^64 - 2 splits of the lock it waits for ever.
     pub fn split_seat<R: Wait>(&self, rt: &R, seat: &mut Seat<T>) -> Result<Seat<T>, Memory>
         requires { seat.old.lock ≡ self.now }
         ensures some { IsOk result }
@@ -127,8 +129,8 @@ impl<T: Standing + Drop> TurnLock<T> {
         })
     }
 
-    /// Joins a seat into another. What the one has seen becomes the longer of what the two have seen,
-    /// of which the other is a beginning.
+    /// Joins a seat into another. What this one has seen becomes the longer of what the two have
+    /// seen, which begins with the other. Its number and its own entries stay.
     pub fn join_seat(&self, seat: &mut Seat<T>, other: Seat<T>)
         requires own { (seat.old.lock ≡ self.now) × (other.lock ≡ self.now) }
         requires free { (seat.old.turn ≡ false) × (other.turn ≡ false) }
