@@ -17,7 +17,8 @@ module _ {E : Type 0} where
   prefix-more xs ys zs p = (p.0 ++ zs, sym (append_assoc xs p.0 zs) ∙ ap (λ l. l ++ zs) p.1)
 
   -- of two beginnings of one list the shorter begins the longer
-  pub prefix-between : (xs ys zs : List E) → IsPrefix xs zs → IsPrefix ys zs → length xs ≤ length ys → IsPrefix xs ys
+  pub prefix-between : (xs ys zs : List E) → IsPrefix xs zs → IsPrefix ys zs
+      → length xs ≤ length ys → IsPrefix xs ys
   prefix-between [] ys zs p q le = (ys, refl)
   prefix-between (x ∷ xs) [] zs p q le = absurd (omega arith)
   prefix-between (x ∷ xs) (y ∷ ys) zs p q le =
@@ -27,11 +28,16 @@ module _ {E : Type 0} where
       let r = prefix-between xs ys (xs ++ p.0) (p.0, refl) (q.0, sym tail) (omega arith) in
       (r.0, λ i. head i ∷ r.1 i)
 
-  by_length : (xs ys zs : List E) → IsPrefix xs zs → IsPrefix ys zs → (b : Bool) → ltb (length xs) (length ys) ≡ b
+  by_length : (xs ys zs : List E) → IsPrefix xs zs → IsPrefix ys zs → (b : Bool) → ltb (length xs)
+      (length ys) ≡ b
       → IsPrefix xs (cond b ys xs) × IsPrefix ys (cond b ys xs) × IsPrefix (cond b ys xs) zs
-  by_length xs ys zs p q true is = (prefix-between xs ys zs p q (omega (arith, ltb→lt (length xs) (length ys) (subst (λ b. T b) (sym is) tt))), prefix-same ys ys refl, q)
+  by_length xs ys zs p q true is =
+      (prefix-between xs ys zs p q (omega
+      (arith, ltb→lt (length xs) (length ys)
+      (subst (λ b. T b) (sym is) tt))), prefix-same ys ys refl, q)
   by_length xs ys zs p q false is =
-      (prefix-same xs xs refl, prefix-between ys xs zs q p (omega (arith, nltb→le (length xs) (length ys) (subst (λ b. T (not b)) (sym is) tt))), p)
+      (prefix-same xs xs refl, prefix-between ys xs zs q p
+          (omega (arith, nltb→le (length xs) (length ys) (subst (λ b. T (not b)) (sym is) tt))), p)
 
   -- two beginnings of one list begin the longer of them, which begins the list
   pub prefix-longer : (xs ys zs : List E) → IsPrefix xs zs → IsPrefix ys zs
@@ -40,7 +46,8 @@ module _ {E : Type 0} where
 
   -- an entry that is the only one of a list
   pub only : (x y : E) → Contains (x ∷ []) y → x ≡ y
-  only x y c = let lt = c.1 in let first : c.0 ≡ 0 = omega arith in subst (λ k. get_or (x ∷ []) k y ≡ y) first c.2
+  only x y c = let lt = c.1 in let first : c.0 ≡ 0 = omega arith in subst
+      (λ k. get_or (x ∷ []) k y ≡ y) first c.2
 
   -- no entry, or one entry that names this number
   abbrev pub IsAtMostOne : (E → ℕ) → ℕ → List E → Type 0
@@ -55,19 +62,25 @@ module _ {E : Type 0} where
       (λ one. (one.0 ∷ [], (omega arith, λ k d lt. first names number one.0 one.1 k d lt), one.2))
       adds
     where
-      first : (names : E → ℕ) (number : ℕ) (e : E) → names e ≡ number → (k : ℕ) (d : E) → k < length (e ∷ []) → names (get_or (e ∷ []) k d) ≡ number
+      first : (names : E → ℕ) (number : ℕ) (e : E) → names e ≡ number → (k : ℕ) (d : E)
+          → k < length (e ∷ []) → names (get_or (e ∷ []) k d) ≡ number
       first names number e is zero d lt = is
       first names number e is (suc k) d lt = absurd (omega arith)
 
   module _ (names : E → ℕ) where
-    of_none : (n m : ℕ) (xs : List E) → length xs ≤ 1 → All (λ e. names e ≡ m) xs → m ≢ n → entries_of names n xs ≡ []
+    of_none : (n m : ℕ) (xs : List E) → length xs ≤ 1 → All (λ e. names e ≡ m) xs → m ≢ n
+        → entries_of names n xs ≡ []
     of_none n m [] le all ne = refl
-    of_none n m (x ∷ []) le all ne = ap (λ b. cond b (x ∷ []) []) (ne_eqb (names x) n (λ e. ne (sym (all 0 x (omega arith)) ∙ e)))
+    of_none n m (x ∷ []) le all ne = ap (λ b. cond b (x ∷ []) [])
+        (ne_eqb (names x) n (λ e. ne (sym (all 0 x (omega arith)) ∙ e)))
     of_none n m (x ∷ y ∷ ys) le all ne = absurd (omega arith)
 
     -- the entries of another number stay where at most one of this number is added
-    pub entries-other : (n m : ℕ) (h added : List E) → IsAtMostOne names m added → m ≢ n → entries_of names n (h ++ added) ≡ entries_of names n h
-    entries-other n m h added one ne = filter-append (λ e. names e == n) h added ∙ ap (λ l. entries_of names n h ++ l) (of_none n m added one.0 one.1 ne) ∙ append-nil (entries_of names n h)
+    pub entries-other : (n m : ℕ) (h added : List E) → IsAtMostOne names m added → m ≢ n
+        → entries_of names n (h ++ added) ≡ entries_of names n h
+    entries-other n m h added one ne = filter-append (λ e. names e == n) h added ∙ ap
+        (λ l. entries_of names n h ++ l) (of_none n m added one.0 one.1 ne) ∙ append-nil
+        (entries_of names n h)
 
     -- a seat's own entries stay where nothing is added
     pub own-stays : (n : ℕ) (before after mine mine' : List E) → after ≡ before
@@ -87,23 +100,28 @@ module _ {E : Type 0} where
         ∙ ap (λ l. l ++ e ∷ []) (sym own))))
 
     -- the entries of one number name no other
-    pub entries-apart : (n m : ℕ) (xs : List E) → m ≢ n → entries_of names n (entries_of names m xs) ≡ []
+    pub entries-apart : (n m : ℕ) (xs : List E) → m ≢ n → entries_of names n
+        (entries_of names m xs) ≡ []
     entries-apart n m [] ne = refl
     entries-apart n m (x ∷ xs) ne =
         let rest = entries_of names m xs in
         let none = entries-apart n m xs ne in
         dite (ℕ_discrete (names x) m)
         (λ is. ap (λ b. entries_of names n (cond b (x ∷ rest) rest)) (eq-eqb (names x) m is)
-        ∙ (ap (λ b. cond b (x ∷ entries_of names n rest) (entries_of names n rest)) (ne_eqb (names x) n (λ e. ne (sym is ∙ e)))
+        ∙ (ap (λ b. cond b (x ∷ entries_of names n rest) (entries_of names n rest))
+            (ne_eqb (names x) n (λ e. ne (sym is ∙ e)))
         ∙ none))
-        (λ other. ap (λ b. entries_of names n (cond b (x ∷ rest) rest)) (ne_eqb (names x) m other) ∙ none)
+        (λ other. ap (λ b. entries_of names n (cond b (x ∷ rest) rest)) (ne_eqb (names x) m other)
+            ∙ none)
 
     -- where all entries name lower numbers, none names this one
-    pub entries-below : (n : ℕ) (xs : List E) → All (λ e. names e < n) xs → entries_of names n xs ≡ []
+    pub entries-below : (n : ℕ) (xs : List E) → All (λ e. names e < n) xs
+        → entries_of names n xs ≡ []
     entries-below n [] all = refl
     entries-below n (x ∷ xs) all =
         let below = all 0 x (omega arith) in
-        ap (λ b. cond b (x ∷ entries_of names n xs) (entries_of names n xs)) (ne_eqb (names x) n (λ e. absurd (omega arith)))
+        ap (λ b. cond b (x ∷ entries_of names n xs) (entries_of names n xs))
+            (ne_eqb (names x) n (λ e. absurd (omega arith)))
         ∙ entries-below n xs (λ k d lt. all (suc k) d (omega arith))
 
 module _ {A : Type 0} where
@@ -120,20 +138,26 @@ module _ {A : Type 0} where
   read-at (x ∷ xs) zero a d e = some-injective x a e
   read-at (x ∷ xs) (suc i) a d e = read-at xs i a d e
 
-  pub set-at : (l : List A) (i : ℕ) (a b : A) → get_elem? l i ≡ some a → get_elem? (set l i b) i ≡ some b
+  pub set-at : (l : List A) (i : ℕ) (a b : A) → get_elem? l i ≡ some a → get_elem?
+      (set l i b) i ≡ some b
   set-at [] i a b e = absurd (some-ne-none a (sym e))
   set-at (x ∷ xs) zero a b e = refl
   set-at (x ∷ xs) (suc i) a b e = set-at xs i a b e
 
   -- what stands at one place is one thing
-  pub same-at : (l : List A) (i j : ℕ) (a b : A) → get_elem? l i ≡ some a → get_elem? l j ≡ some b → i ≡ j → a ≡ b
+  pub same-at : (l : List A) (i j : ℕ) (a b : A) → get_elem? l i ≡ some a → get_elem? l j ≡ some b
+      → i ≡ j → a ≡ b
   same-at l i j a b e f is = some-injective a b (sym e ∙ (ap (get_elem? l) is ∙ f))
 
   abbrev pub one_if : (A → Bool) → A → ℕ
   one_if p a = cond (p a) 1 0
 
-  pub count-set : (p : A → Bool) (l : List A) (i : ℕ) (a b : A) → get_elem? l i ≡ some a → count_by p (set l i b) + one_if p a ≡ count_by p l + one_if p b
-  count-set p l i a b e = ap (λ x. count_by p (set l i b) + one_if p x) (sym (read-at l i a a e)) ∙ sum_by-set (λ x. cond (p x) 1 0) l i b a (length-at l i a e)
+  pub count-set : (p : A → Bool) (l : List A) (i : ℕ) (a b : A) → get_elem? l i ≡ some a
+      → count_by p (set l i b) + one_if p a ≡ count_by p l + one_if p b
+  count-set p l i a b e = ap (λ x. count_by p (set l i b) + one_if p x) (sym (read-at l i a a e))
+      ∙ sum_by-set (λ x. cond (p x) 1 0) l i b a (length-at l i a e)
 
-  pub count-snoc : (p : A → Bool) (l : List A) (a : A) → count_by p (l ++ a ∷ []) ≡ count_by p l + one_if p a
-  count-snoc p l a = sum_by-append (λ x. cond (p x) 1 0) l (a ∷ []) ∙ ap (λ k. count_by p l + k) (zero-add (one_if p a))
+  pub count-snoc : (p : A → Bool) (l : List A) (a : A) → count_by p
+      (l ++ a ∷ []) ≡ count_by p l + one_if p a
+  count-snoc p l a = sum_by-append (λ x. cond (p x) 1 0) l (a ∷ []) ∙ ap (λ k. count_by p l + k)
+      (zero-add (one_if p a))

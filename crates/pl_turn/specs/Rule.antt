@@ -1,6 +1,7 @@
 -- The rule of the turn lock: there is one history, and every seat knows a beginning of it.
--- The lock has three words, which are the ticket that is served, the next ticket and the next
--- number of a seat, and one slot for the value.
+-- It is a ticket lock, as in Mellor-Crummey and Scott, "Algorithms for Scalable Synchronization on
+-- Shared-Memory Multiprocessors", 1991. It has three words, which are the ticket that is served, the
+-- next ticket and the next number of a seat, and one slot for the value.
 use Rattle.std.specs.Prelude.{◌≡◌, ◌⊎◌, ℕ, ◌+◌, ◌<◌, ◌≤◌, Bool, true, List, [], ◌∷◌}
 use Rattle.std.specs.Prelude.{Option, Some, None, is_some, All, Contains, count_by, MatchBool}
 use mathlib.Core.List.{IsPrefix}
@@ -96,7 +97,8 @@ module _ {E L : Type 0} (names : E → ℕ) (history : List E) where
       (t : ℕ) → v.stage ≡ Turn t → (t ≡ serving) × (holder ≡ Some i) × (v.seen ≡ history)
 
   -- what the rule says of the view v at the place i
-  pub record Fits (l : L) (serving ticket seats : ℕ) (holder : Option ℕ) (i : ℕ) (v : View E L) : Type 0 where
+  pub record Fits (l : L) (serving ticket seats : ℕ) (holder : Option ℕ) (i : ℕ) (v : View E L)
+      : Type 0 where
     pub one_label : TellsLabel l v
     pub beginning : SawBeginning v
     pub own : KnowsItsOwn v
@@ -117,7 +119,9 @@ module _ {T E L : Type 0} (history_of : T → List E) (label_of : T → L) where
 
 -- There is one history. It is what the seat that has the turn has seen, and else what the value in
 -- the slot stands for. `holder` is the place of the view that has the turn
-pub record OneHistory {T E L : Type 0} (history_of : T → List E) (label_of : T → L) (names : E → ℕ) (label : L) (s : State (Option T) (View E L)) : Type 0 where
+pub record OneHistory {T E L : Type 0}
+    (history_of : T → List E) (label_of : T → L) (names : E → ℕ) (label : L)
+    (s : State (Option T) (View E L)) : Type 0 where
   pub history : List E
   pub serving : ℕ
   pub ticket : ℕ
@@ -125,7 +129,8 @@ pub record OneHistory {T E L : Type 0} (history_of : T → List E) (label_of : T
   pub holder : Option ℕ
   pub words : s.words ≡ serving ∷ ticket ∷ seats ∷ []
   pub slot : Slot history_of label_of label history holder s
-  pub each : (i : ℕ) (v : View E L) → get_elem? s.views i ≡ some v → Fits names history label serving ticket seats holder i v
+  pub each : (i : ℕ) (v : View E L) → get_elem? s.views i ≡ some v
+      → Fits names history label serving ticket seats holder i v
   -- Numbers differ.
   pub numbers_differ : IsDistinct HasNumber s.views
   -- The views' tickets differ.

@@ -7,5 +7,6 @@ compare_exchange-found-requires g c =
     let i = c.loop.invariant in (
       i.own ∙ (c.requires.own ∙ sym c.lock.view_is),
       search rules,
-      draws _ _ _ g.T.Standing.counted _ _ _ _ _ _ (ap (λ m. m.0.stage) i.same ∙ c.requires.free) refl,
+      draws _ _ _ g.T.Standing.counted _ _ _ _ _ _
+          (ap (λ m. m.0.stage) i.same ∙ c.requires.free) refl,
     )
