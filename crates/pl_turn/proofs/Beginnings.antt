@@ -1,5 +1,5 @@
 -- Beginnings of a history, and the entries in it that name a number.
-use Rattle.std.proofs.Common.{◌≡◌, ℕ, zero, suc, ◌+◌, ◌<◌, ◌≤◌, ◌==◌, ◌≢◌, ◌⊎◌, Bool, true, false, cond, not, T, List, [], ◌∷◌, ◌++◌, length, get_or, drop, set, All, Contains, count_by, filter, if◌then◌else◌, ltb, sym, refl, ap, ◌∙◌, subst, inl, inr, ⊎_elim, append_assoc, append-nil, zero-add, arith, ltb→lt, nltb→le, eq-eqb, ne_eqb}
+use Rattle.std.proofs.Common.{◌≡◌, ℕ, zero, suc, ◌+◌, ◌<◌, ◌≤◌, ◌==◌, ◌≢◌, Bool, true, false, cond, not, T, List, [], ◌∷◌, ◌++◌, length, get_or, drop, set, All, Contains, count_by, ltb, sym, refl, ap, ◌∙◌, subst, ⊎_elim, append_assoc, append-nil, zero-add, arith, ltb→lt, nltb→le, eq-eqb, ne_eqb}
 use Rattle.std.proofs.lemmas.List.Elements.{filter-append}
 use Rattle.std.proofs.lemmas.List.Sums.{sum_by-set, sum_by-append}
 use mathlib.Core.List.{IsPrefix}
@@ -31,13 +31,21 @@ module _ {E : Type 0} where
   by_length : (xs ys zs : List E) → IsPrefix xs zs → IsPrefix ys zs → (b : Bool) → ltb (length xs)
       (length ys) ≡ b
       → IsPrefix xs (cond b ys xs) × IsPrefix ys (cond b ys xs) × IsPrefix (cond b ys xs) zs
-  by_length xs ys zs p q true is =
-      (prefix-between xs ys zs p q (omega
-      (arith, ltb→lt (length xs) (length ys)
-      (subst (λ b. T b) (sym is) tt))), prefix-same ys ys refl, q)
-  by_length xs ys zs p q false is =
-      (prefix-same xs xs refl, prefix-between ys xs zs q p
-          (omega (arith, nltb→le (length xs) (length ys) (subst (λ b. T (not b)) (sym is) tt))), p)
+  by_length xs ys zs p q true is = (
+    prefix-between xs ys zs p q (omega (
+      arith,
+      ltb→lt (length xs) (length ys)
+          (subst (λ b. T b) (sym is) tt),
+    )),
+    prefix-same ys ys refl,
+    q,
+  )
+  by_length xs ys zs p q false is = (
+    prefix-same xs xs refl,
+    prefix-between ys xs zs q p
+        (omega (arith, nltb→le (length xs) (length ys) (subst (λ b. T (not b)) (sym is) tt))),
+    p,
+  )
 
   -- two beginnings of one list begin the longer of them, which begins the list
   pub prefix-longer : (xs ys zs : List E) → IsPrefix xs zs → IsPrefix ys zs
@@ -109,10 +117,10 @@ module _ {E : Type 0} where
         dite (ℕ_discrete (names x) m)
         (λ is. ap (λ b. entries_of names n (cond b (x ∷ rest) rest)) (eq-eqb (names x) m is)
         ∙ (ap (λ b. cond b (x ∷ entries_of names n rest) (entries_of names n rest))
-            (ne_eqb (names x) n (λ e. ne (sym is ∙ e)))
+        (ne_eqb (names x) n (λ e. ne (sym is ∙ e)))
         ∙ none))
         (λ other. ap (λ b. entries_of names n (cond b (x ∷ rest) rest)) (ne_eqb (names x) m other)
-            ∙ none)
+        ∙ none)
 
     -- where all entries name lower numbers, none names this one
     pub entries-below : (n : ℕ) (xs : List E) → All (λ e. names e < n) xs
@@ -121,7 +129,7 @@ module _ {E : Type 0} where
     entries-below n (x ∷ xs) all =
         let below = all 0 x (omega arith) in
         ap (λ b. cond b (x ∷ entries_of names n xs) (entries_of names n xs))
-            (ne_eqb (names x) n (λ e. absurd (omega arith)))
+        (ne_eqb (names x) n (λ e. absurd (omega arith)))
         ∙ entries-below n xs (λ k d lt. all (suc k) d (omega arith))
 
 module _ {A : Type 0} where

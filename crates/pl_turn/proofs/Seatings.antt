@@ -1,22 +1,20 @@
 -- A lock begins, a seat is split off and draws its number, and a seat is joined into another.
 use Rattle.std.proofs.Common.{◌≡◌, ℕ, zero, suc, ◌+◌, ◌<◌, ◌≤◌, ◌≢◌, ◌⊎◌, Bool, true, false, true≢false, cond, List, [], ◌∷◌, ◌++◌, get_or, set, eqb, Option, Some, None, is_some, All, Contains, count_by, MatchBool, sym, refl, ap, ◌∙◌, subst, inl, inr, ⊎_elim, arith, le_refl, eq-eqb, ne_eqb}
 use Rattle.std.proofs.lemmas.List.Elements.{Contains-append_cases}
-use mathlib.Core.List.{IsPrefix}
 use mathlib.Core.Logic.{dite}
 use mathlib.Core.Option.{some, none, some-injective, some-ne-none}
 use native.Mathlib.Decide.{ℕ_discrete}
 use lib.ListN.{get_elem?}
 use prog.Atomic.{either}
-use Rattle.atomic_table.specs.Table.{State, Me, step, keeps, stepped, Allows, Splits, Joins, opening}
+use Rattle.atomic_table.specs.Table.{State, Me, step, keeps, Allows, Splits, Joins, opening}
 use Rattle.atomic_table.proofs.Lists.{at_set, at_snoc, at_longer, set_again, set_else}
-use Rattle.pl_turn.specs.History.{entries_of, longer}
-use Rattle.pl_turn.specs.Rule.{ticket_of, has_ticket, founder, IsLive, HasTicket, HasNumber, IsDistinct, Fits, Slot, OneHistory}
+use Rattle.pl_turn.specs.History.{entries_of}
+use Rattle.pl_turn.specs.Rule.{ticket_of, has_ticket, founder, HasTicket, HasNumber, IsDistinct, Fits, Slot, OneHistory}
 use Rattle.pl_turn.specs.Steps.{newcomer, numbered, told_of, joined_away, learned, DrewNumber, Learned}
-use Rattle.pl_turn.specs.declared.view.Stage.{Stage}
-use Rattle.pl_turn.specs.declared.view.Stage.TheVariants.{Idle, Waiting, Turn}
+use Rattle.pl_turn.specs.declared.view.Stage.TheVariants.{Idle}
 use Rattle.pl_turn.specs.declared.view.View.{View}
 use Rattle.pl_turn.proofs.Beginnings.{prefix-same, prefix-longer, entries-below, only, contains-nothing, set-at, same-at, one_if, count-set, count-snoc}
-use Rattle.pl_turn.proofs.Views.{same_some, none_is_none, idle-no_turn, idle-no_ticket, as_true, as_false, at_true, still_fits, slot_kept, moves, stays}
+use Rattle.pl_turn.proofs.Views.{none_is_none, idle-no_turn, as_true, as_false, at_true, still_fits, slot_kept, moves, stays}
 
 module _ {T E L : Type 0} (history_of : T → List E) (label_of : T → L) (names : E → ℕ) (l : L) where
   abbrev St : Type 0
@@ -59,8 +57,11 @@ module _ {T E L : Type 0} (history_of : T → List E) (label_of : T → L) (name
         one_label = λ x e. sym (ap (λ o. Rattle.std.proofs.Common.unwrap_or o l) e);
         beginning = (prefix-same [] [] refl, prefix-same [] [] refl);
         own = refl;
-        number = ((λ _. omega arith), (λ n has. ⊎_elim (λ a. let z : 0 ≡ n = a.1 in omega arith)
-            (λ c. absurd (contains-nothing (n, c.0) c.1)) has));
+        number = (
+          (λ _. omega arith),
+          (λ n has. ⊎_elim (λ a. let z : 0 ≡ n = a.1 in omega arith)
+              (λ c. absurd (contains-nothing (n, c.0) c.1)) has),
+        );
         joined_stay = λ n es c. absurd (contains-nothing (n, es) c);
         ticket_within = λ t has. absurd (none_is_none t has);
         one_turn = λ t turn. absurd (idle-no_turn Idle t refl turn);
@@ -77,24 +78,24 @@ module _ {T E L : Type 0} (history_of : T → List E) (label_of : T → L) (name
   splits id v live s r at = subst
       (λ vs. Rule record { words = s.words; homes = s.homes; views = vs ++ newcomer v ∷ [] })
       (sym (set_again s.views id v at)) record {
-    history = r.history;
-    serving = r.serving;
-    ticket = r.ticket;
-    seats = r.seats;
-    holder = r.holder;
-    words = r.words;
-    slot = slot_longer r.holder r.slot;
-    each = λ j u e. ⊎_elim (r.each j u)
-        (λ (same : newcomer v ≡ u). subst
-        (λ z. Fits names r.history l r.serving r.ticket r.seats r.holder j z) same (comes j))
-        (at_snoc s.views (newcomer v) u j e);
-    numbers_differ = distinct HasNumber
-        (λ n has. numberless (newcomer v) n refl refl has) r.numbers_differ;
-    tickets_differ = distinct HasTicket (λ t has. none_is_none t has) r.tickets_differ;
-    tickets_counted = let a = r.tickets_counted in let b = count-snoc has_ticket s.views
-        (newcomer v) in omega arith;
-    named_below = r.named_below;
-  }
+        history = r.history;
+        serving = r.serving;
+        ticket = r.ticket;
+        seats = r.seats;
+        holder = r.holder;
+        words = r.words;
+        slot = slot_longer r.holder r.slot;
+        each = λ j u e. ⊎_elim (r.each j u)
+            (λ (same : newcomer v ≡ u). subst
+            (λ z. Fits names r.history l r.serving r.ticket r.seats r.holder j z) same (comes j))
+            (at_snoc s.views (newcomer v) u j e);
+        numbers_differ = distinct HasNumber
+            (λ n has. numberless (newcomer v) n refl refl has) r.numbers_differ;
+        tickets_differ = distinct HasTicket (λ t has. none_is_none t has) r.tickets_differ;
+        tickets_counted = let a = r.tickets_counted in let b = count-snoc has_ticket s.views
+            (newcomer v) in omega arith;
+        named_below = r.named_below;
+      }
     where
       f : Fits names r.history l r.serving r.ticket r.seats r.holder id v
       f = r.each id v at
@@ -104,8 +105,10 @@ module _ {T E L : Type 0} (history_of : T → List E) (label_of : T → L) (name
         one_label = f.one_label;
         beginning = (f.beginning.0, (r.history, refl));
         own = refl;
-        number = ((λ _. f.number.0 live),
-            (λ n has. absurd (numberless (newcomer v) n refl refl has)));
+        number = (
+          (λ _. f.number.0 live),
+          (λ n has. absurd (numberless (newcomer v) n refl refl has)),
+        );
         joined_stay = λ n es c. absurd (contains-nothing (n, es) c);
         ticket_within = λ t has. absurd (none_is_none t has);
         one_turn = λ t turn. absurd (idle-no_turn Idle t refl turn);
@@ -113,25 +116,27 @@ module _ {T E L : Type 0} (history_of : T → List E) (label_of : T → L) (name
 
       slot_longer : (holder : Option ℕ) → Slot history_of label_of l r.history holder s
           → Slot history_of label_of l r.history holder record
-              { words = s.words; homes = s.homes; views = s.views ++ newcomer v ∷ [] }
+          { words = s.words; homes = s.homes; views = s.views ++ newcomer v ∷ [] }
       slot_longer None x = x
-      slot_longer (Some i) x = (x.0,
-          (x.1.0, x.1.1, at_longer s.views (newcomer v ∷ []) i x.1.0 x.1.2, x.1.3))
+      slot_longer (Some i) x = (
+        x.0,
+        (x.1.0, x.1.1, at_longer s.views (newcomer v ∷ []) i x.1.0 x.1.2, x.1.3),
+      )
 
       distinct : (Has : View E L → ℕ → Type 0) → ((n : ℕ) → Has (newcomer v) n → ⊥)
           → IsDistinct Has s.views → IsDistinct Has (s.views ++ newcomer v ∷ [])
       distinct Has nobody d i j a b n ea eb ha hb =
           ⊎_elim
           (λ x. ⊎_elim (λ y. d i j a b n x y ha hb)
-              (λ (same : newcomer v ≡ b). absurd (nobody n (subst (λ u. Has u n) (sym same) hb)))
-              (at_snoc s.views (newcomer v) b j eb))
+          (λ (same : newcomer v ≡ b). absurd (nobody n (subst (λ u. Has u n) (sym same) hb)))
+          (at_snoc s.views (newcomer v) b j eb))
           (λ (same : newcomer v ≡ a). absurd (nobody n (subst (λ u. Has u n) (sym same) ha)))
           (at_snoc s.views (newcomer v) a i ea)
 
   pub draws_number : (slots id : ℕ) (me : M) (expected next : ℕ) → next ≡ expected + 1
       → me.0.drawn ≡ false → me.0.mine ≡ [] → me.0.joined ≡ [] → (x : L) × (me.0.label ≡ Some x)
       → Allows Rule slots id me 2 (λ x. either (eqb x expected) next x)
-          (DrewNumber (step slots 2 expected next none) me)
+      (DrewNumber (step slots 2 expected next none) me)
   draws_number slots id me expected next up off empty nothing live s r _ at _ =
       let found : ℕ = get_or s.words 2 0 in
       let here : found ≡ r.seats = ap (λ ws. get_or ws 2 0) r.words in
@@ -142,12 +147,12 @@ module _ {T E L : Type 0} (history_of : T → List E) (label_of : T → L) (name
       (λ hit. let w : View E L = numbered found v in
       let b = eq-eqb found expected hit in
       let value : either (eqb found expected) next found ≡ r.seats + 1 = ap
-          (λ b. either b next found) b ∙ (up ∙ ap (λ k. k + 1) (sym hit ∙ here)) in
+      (λ b. either b next found) b ∙ (up ∙ ap (λ k. k + 1) (sym hit ∙ here)) in
       let many = count-set has_ticket s.views id v w at in
       let sum = r.tickets_counted in
       let news : (n : ℕ) → HasNumber w n → found ≡ n = λ n has. ⊎_elim (λ a. a.1)
-          (λ c. absurd (contains-nothing (n, c.0)
-          (subst (λ xs. Contains xs (n, c.0)) nothing c.1))) has in (
+      (λ c. absurd (contains-nothing (n, c.0)
+      (subst (λ xs. Contains xs (n, c.0)) nothing c.1))) has in (
         w,
         keeps,
         tt,
@@ -155,7 +160,7 @@ module _ {T E L : Type 0} (history_of : T → List E) (label_of : T → L) (name
             (r.seats + 1) r.holder (set s.words 2 (either (eqb found expected) next found)) s.homes
             (λ i. set (r.words i) 2 (value i))
             (slot_kept names l history_of label_of s r.history r.holder id v w _ at
-                (λ t turn. turn) r.slot)
+            (λ t turn. turn) r.slot)
             record {
               one_label = f.one_label;
               beginning = f.beginning;
@@ -168,11 +173,11 @@ module _ {T E L : Type 0} (history_of : T → List E) (label_of : T → L) (name
               one_turn = f.one_turn;
             }
             (λ j u apart e. still_fits names l r.history r.history r.serving r.serving r.ticket
-                r.ticket r.seats (r.seats + 1) r.holder r.holder j u (λ xs p. p) (λ n _. refl)
-                (omega arith) (λ t _ lo hi. (lo, hi)) (r.each j u e).one_turn (r.each j u e))
+            r.ticket r.seats (r.seats + 1) r.holder r.holder j u (λ xs p. p) (λ n _. refl)
+            (omega arith) (λ t _ lo hi. (lo, hi)) (r.each j u e).one_turn (r.each j u e))
             (λ n has. inr (λ j u e other.
-                let x = (r.each j u e).number.1 n other in
-                let y = news n has in omega arith))
+            let x = (r.each j u e).number.1 n other in
+            let y = news n has in omega arith))
             (λ t has. inl has)
             (omega arith)
             (λ k d lt. let x = r.named_below k d lt in omega arith),
@@ -180,7 +185,7 @@ module _ {T E L : Type 0} (history_of : T → List E) (label_of : T → L) (name
       ))
       (λ miss. let b = ne_eqb found expected miss in
       let value : either (eqb found expected) next found ≡ r.seats = ap
-          (λ b. either b next found) b ∙ here in (
+      (λ b. either b next found) b ∙ here in (
         v,
         keeps,
         tt,
@@ -207,7 +212,7 @@ module _ {T E L : Type 0} (history_of : T → List E) (label_of : T → L) (name
             r.holder (set s.words 0 found) s.homes
             (λ i. set (r.words i) 0 (get_or (r.words i) 0 0))
             (slot_kept names l history_of label_of s r.history r.holder id v w _ at
-                (λ t turn. turn) r.slot)
+            (λ t turn. turn) r.slot)
             record {
               one_label = f.one_label;
               beginning = (p.2, (r.history, refl));
@@ -241,22 +246,22 @@ module _ {T E L : Type 0} (history_of : T → List E) (label_of : T → L) (name
         ((brought ≡ (n, es)) ⊎ Contains w.joined (n, es))
     told n es c = ⊎_elim inl
         (λ x. inr (⊎_elim (λ y. inl (only brought (n, es) y)) inr
-            (Contains-append_cases (brought ∷ []) w.joined (n, es) x)))
+        (Contains-append_cases (brought ∷ []) w.joined (n, es) x)))
         (Contains-append_cases v.joined (brought ∷ w.joined) (n, es) c)
 
     origin : w.drawn ≡ true → (n : ℕ) → HasNumber both n → HasNumber v n ⊎ HasNumber w n
     origin drawn n has = ⊎_elim (λ a. inl (inl a))
         (λ c. ⊎_elim (λ x. inl (inr (c.0, x)))
-            (λ x. inr (⊎_elim (λ e. inl (drawn, ap (λ (z : ℕ × List E). z.0) e))
-            (λ y. inr (c.0, y)) x)) (told n c.0 c.1)) has
+        (λ x. inr (⊎_elim (λ e. inl (drawn, ap (λ (z : ℕ × List E). z.0) e))
+        (λ y. inr (c.0, y)) x)) (told n c.0 c.1)) has
 
     place : (s : St) (k : ℕ) (u : View E L) → get_elem? (after s) k ≡ some u
         → ((k ≡ other) × (joined_away ≡ u)) ⊎
-            (((k ≡ id) × (both ≡ u)) ⊎ ((k ≢ other) × (k ≢ id) × (get_elem? s.views k ≡ some u)))
+        (((k ≡ id) × (both ≡ u)) ⊎ ((k ≢ other) × (k ≢ id) × (get_elem? s.views k ≡ some u)))
     place s k u e = ⊎_elim inl
         (λ (x : (k ≢ other) × (get_elem? (set s.views id both) k ≡ some u)). inr
-            (⊎_elim inl (λ (y : (k ≢ id) × (get_elem? s.views k ≡ some u)). inr (x.0, y.0, y.1))
-            (at_set s.views id k both u x.1)))
+        (⊎_elim inl (λ (y : (k ≢ id) × (get_elem? s.views k ≡ some u)). inr (x.0, y.0, y.1))
+        (at_set s.views id k both u x.1)))
         (at_set (set s.views id both) other k joined_away u e)
 
     joined_distinct : (Has : View E L → ℕ → Type 0) (s : St) → get_elem? s.views id ≡ some v
@@ -268,11 +273,11 @@ module _ {T E L : Type 0} (history_of : T → List E) (label_of : T → L) (name
         (⊎_elim
         (λ x. ⊎_elim (λ y. absurd (nobody n (subst (λ u. Has u n) (sym y.1) hb)))
         (⊎_elim (λ y. x.0 ∙ sym y.0) (λ y. absurd
-            (apart j b y hb (subst (λ u. Has u n) (sym x.1) ha))))
+        (apart j b y hb (subst (λ u. Has u n) (sym x.1) ha))))
         (place s j b eb))
         (λ x. ⊎_elim (λ y. absurd (nobody n (subst (λ u. Has u n) (sym y.1) hb)))
         (⊎_elim (λ y. absurd (apart i a x ha (subst (λ u. Has u n) (sym y.1) hb)))
-            (λ y. d i j a b n x.2 y.2 ha hb))
+        (λ y. d i j a b n x.2 y.2 ha hb))
         (place s j b eb)))
         (place s i a ea)
       where
@@ -284,8 +289,8 @@ module _ {T E L : Type 0} (history_of : T → List E) (label_of : T → L) (name
     joined_slot : (s : St) (h : List E) (holder : Option ℕ) → get_elem? s.views id ≡ some v
         → get_elem? s.views other ≡ some w → w.stage ≡ Idle
         → Slot history_of label_of l h holder s
-            → Slot history_of label_of l h holder record
-                { words = s.words; homes = s.homes; views = after s }
+        → Slot history_of label_of l h holder record
+        { words = s.words; homes = s.homes; views = after s }
     joined_slot s h None at there idle x = x
     joined_slot s h (Some i) at there idle x =
         let u : View E L = x.1.0 in
@@ -293,15 +298,25 @@ module _ {T E L : Type 0} (history_of : T → List E) (label_of : T → L) (name
           x.0,
           dite (ℕ_discrete i other)
               (λ is. absurd (idle-no_turn w.stage t idle
-                  (ap (λ (z : View E L). z.stage)
-                  (same-at s.views other i w u there x.1.2 (sym is)) ∙ x.1.3)))
+              (ap (λ (z : View E L). z.stage)
+              (same-at s.views other i w u there x.1.2 (sym is)) ∙ x.1.3)))
               (λ far. dite (ℕ_discrete i id)
-              (λ is. (both, t, set_else (set s.views id both) other i joined_away far ∙ subst
-                  (λ k. get_elem? (set s.views id both) k ≡ some both) (sym is)
-                  (set-at s.views id v both at), ap (λ (z : View E L). z.stage)
-                  (same-at s.views id i v u at x.1.2 (sym is)) ∙ x.1.3))
-              (λ apart. (u, t, set_else (set s.views id both) other i joined_away far ∙
-                  (set_else s.views id i both apart ∙ x.1.2), x.1.3))),
+              (λ is. (
+                both,
+                t,
+                set_else (set s.views id both) other i joined_away far ∙ subst
+                    (λ k. get_elem? (set s.views id both) k ≡ some both) (sym is)
+                    (set-at s.views id v both at),
+                ap (λ (z : View E L). z.stage)
+                    (same-at s.views id i v u at x.1.2 (sym is)) ∙ x.1.3,
+              ))
+              (λ apart. (
+                u,
+                t,
+                set_else (set s.views id both) other i joined_away far ∙
+                    (set_else s.views id i both apart ∙ x.1.2),
+                x.1.3,
+              ))),
         )
 
     pub joins : w.stage ≡ Idle → w.drawn ≡ true → (x : L) × (v.label ≡ Some x)
@@ -316,11 +331,11 @@ module _ {T E L : Type 0} (history_of : T → List E) (label_of : T → L) (name
       slot = joined_slot s r.history r.holder at theirs idle r.slot;
       each = λ k u e. ⊎_elim
           (λ (x : (k ≡ other) × (joined_away ≡ u)). subst
-              (λ z. Fits names r.history l r.serving r.ticket r.seats r.holder k z) x.1 (away k))
+          (λ z. Fits names r.history l r.serving r.ticket r.seats r.holder k z) x.1 (away k))
           (⊎_elim
           (λ (x : (k ≡ id) × (both ≡ u)). subst
-              (λ (y : ℕ × View E L). Fits names r.history l r.serving r.ticket r.seats r.holder y.0
-                  y.1) (λ i. (sym x.0 i, x.1 i)) joined)
+          (λ (y : ℕ × View E L). Fits names r.history l r.serving r.ticket r.seats r.holder y.0
+          y.1) (λ i. (sym x.0 i, x.1 i)) joined)
           (λ x. r.each k u x.2))
           (place s k u e);
       numbers_differ = joined_distinct HasNumber s at theirs
@@ -331,7 +346,7 @@ module _ {T E L : Type 0} (history_of : T → List E) (label_of : T → L) (name
           let one = count-set has_ticket s.views id v both at in
           let two = count-set has_ticket (set s.views id both) other w joined_away there in
           let none_here : one_if has_ticket w ≡ 0 = ap
-              (λ st. cond (is_some (ticket_of st)) 1 0) idle in
+          (λ st. cond (is_some (ticket_of st)) 1 0) idle in
           let sum = r.tickets_counted in omega arith;
       named_below = r.named_below;
     }
@@ -350,8 +365,10 @@ module _ {T E L : Type 0} (history_of : T → List E) (label_of : T → L) (name
           one_label = λ x e. absurd (no_label x e);
           beginning = ((r.history, refl), (r.history, refl));
           own = refl;
-          number = ((λ live. absurd (no_label live.0 live.1)),
-              (λ n has. absurd (numberless joined_away n refl refl has)));
+          number = (
+            (λ live. absurd (no_label live.0 live.1)),
+            (λ n has. absurd (numberless joined_away n refl refl has)),
+          );
           joined_stay = λ n es c. absurd (contains-nothing (n, es) c);
           ticket_within = λ t has. absurd (none_is_none t has);
           one_turn = λ t turn. absurd (idle-no_turn Idle t refl turn);
@@ -381,8 +398,11 @@ module _ {T E L : Type 0} (history_of : T → List E) (label_of : T → L) (name
           one_label = fv.one_label;
           beginning = (fv.beginning.0, fw.beginning.0);
           own = fv.own;
-          number = (fv.number.0, (λ n has. ⊎_elim (fv.number.1 n) (fw.number.1 n)
-              (origin drawn n has)));
+          number = (
+            fv.number.0,
+            (λ n has. ⊎_elim (fv.number.1 n) (fw.number.1 n)
+                (origin drawn n has)),
+          );
           joined_stay = stay;
           ticket_within = fv.ticket_within;
           one_turn = fv.one_turn;

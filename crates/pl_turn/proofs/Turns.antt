@@ -1,17 +1,15 @@
 -- A turn ends.
-use Rattle.std.proofs.Common.{◌≡◌, ℕ, ◌+◌, ◌<◌, ◌≤◌, ◌≢◌, Bool, true, false, cond, List, [], ◌∷◌, ◌++◌, get_or, set, Option, Some, None, is_some, All, unwrap_or, sym, refl, ap, ◌∙◌, subst, inl, inr, arith, le_refl}
+use Rattle.std.proofs.Common.{◌≡◌, ℕ, ◌+◌, ◌<◌, ◌≢◌, true, cond, List, [], ◌∷◌, ◌++◌, get_or, set, Option, Some, None, is_some, All, unwrap_or, sym, refl, ap, ◌∙◌, subst, inl, arith, le_refl}
 use Rattle.std.proofs.lemmas.List.Elements.{All-append}
 use mathlib.Core.List.{IsPrefix}
 use mathlib.Core.Logic.{dite}
-use mathlib.Core.Option.{some, none}
+use mathlib.Core.Option.{none}
 use native.Mathlib.Decide.{ℕ_discrete}
-use lib.ListN.{get_elem?}
-use Rattle.atomic_table.specs.Table.{State, Me, step, gives, put_back, rest, stepped, Allows}
+use Rattle.atomic_table.specs.Table.{State, Me, step, gives, put_back, rest, Allows}
 use Rattle.pl_turn.specs.History.{entries_of, Adds}
-use Rattle.pl_turn.specs.Rule.{ticket_of, has_ticket, HasTicket, HasNumber, KnowsItsOwn, Fits, Slot, OneHistory}
+use Rattle.pl_turn.specs.Rule.{ticket_of, has_ticket, KnowsItsOwn, Slot, OneHistory}
 use Rattle.pl_turn.specs.Steps.{rested, EndedTurn}
-use Rattle.pl_turn.specs.declared.view.Stage.{Stage}
-use Rattle.pl_turn.specs.declared.view.Stage.TheVariants.{Idle, Waiting, Turn}
+use Rattle.pl_turn.specs.declared.view.Stage.TheVariants.{Idle, Turn}
 use Rattle.pl_turn.specs.declared.view.View.{View}
 use Rattle.pl_turn.proofs.Beginnings.{prefix-same, prefix-more, entries-other, IsAtMostOne, added, one_if, count-set}
 use Rattle.pl_turn.proofs.Views.{same_some, none_is_none, idle-no_turn, as_true, still_fits, moves}
@@ -36,9 +34,9 @@ module _ {T E L : Type 0} (history_of : T → List E) (label_of : T → L) (name
   pub ends : (slots id : ℕ) (me : M) (y : T) (ticket next : ℕ) → me.1 ≡ (0, Some y) ∷ []
       → me.0.stage ≡ Turn ticket → next ≡ ticket + 1
       → me.0.drawn ≡ true → me.0.label ≡ Some (label_of y) → Adds names me.0.number me.0.seen
-          (history_of y)
+      (history_of y)
       → Allows Rule slots id me 0 (λ _. next)
-          (λ _. EndedTurn history_of names count_of (step slots 0 next 0 none) me next)
+      (λ _. EndedTurn history_of names count_of (step slots 0 next 0 none) me next)
   ends slots id me y ticket next held is up drawn label adds s r _ at _ =
       let v : View E L = me.0 in
       let f = r.each id v at in
@@ -48,13 +46,13 @@ module _ {T E L : Type 0} (history_of : T → List E) (label_of : T → L) (name
       let one : IsAtMostOne names v.number new = list.1 in
       let grown : history_of y ≡ r.history ++ new = list.2 ∙ ap (λ h. h ++ new) turn.2 in
       let others : (n : ℕ) → v.number ≢ n → entries_of names n
-          (history_of y) ≡ entries_of names n r.history = λ n ne. ap
-          (λ h. entries_of names n h) grown ∙ entries-other names n v.number r.history new one ne in
+      (history_of y) ≡ entries_of names n r.history = λ n ne. ap
+      (λ h. entries_of names n h) grown ∙ entries-other names n v.number r.history new one ne in
       let longer : (xs : List E) → IsPrefix xs r.history → IsPrefix xs
-          (history_of y) = λ xs p. subst (λ h. IsPrefix xs h) (sym grown)
-          (prefix-more xs r.history new p) in
+      (history_of y) = λ xs p. subst (λ h. IsPrefix xs h) (sym grown)
+      (prefix-more xs r.history new p) in
       let slot : Slot history_of label_of l r.history (Some id) s = subst
-          (λ o. Slot history_of label_of l r.history o s) turn.1 r.slot in
+      (λ o. Slot history_of label_of l r.history o s) turn.1 r.slot in
       let w : View E L = rested names (history_of y) (count_of y) v in
       let before : one_if has_ticket v ≡ 1 = ap (λ st. cond (is_some (ticket_of st)) 1 0) is in
       let many = count-set has_ticket s.views id v w at in
@@ -69,8 +67,11 @@ module _ {T E L : Type 0} (history_of : T → List E) (label_of : T → L) (name
             (y, (λ i. put_back (slot.0 i) (held i)), refl, f.one_label (label_of y) label)
             record {
               one_label = f.one_label;
-              beginning = (prefix-same (history_of y)
-                  (history_of y) refl, longer v.told f.beginning.1);
+              beginning = (
+                prefix-same (history_of y)
+                    (history_of y) refl,
+                longer v.told f.beginning.1,
+              );
               own = as_true _ _ v.drawn drawn refl;
               number = f.number;
               joined_stay = λ n es c. let a = f.joined_stay n es c in
@@ -79,24 +80,24 @@ module _ {T E L : Type 0} (history_of : T → List E) (label_of : T → L) (name
               one_turn = λ t ends. absurd (idle-no_turn Idle t refl ends);
             }
             (λ j u apart e. still_fits names l r.history (history_of y) r.serving
-                (r.serving + 1) r.ticket r.ticket r.seats r.seats r.holder None j u
+            (r.serving + 1) r.ticket r.ticket r.seats r.seats r.holder None j u
             longer
             (λ n has. others n (λ same. apart
-                (sym (r.numbers_differ id j v u n at e (inl (drawn, same)) has))))
+            (sym (r.numbers_differ id j v u n at e (inl (drawn, same)) has))))
             (le_refl r.seats)
             (λ t has lo hi. dite (ℕ_discrete t r.serving)
             (λ first. absurd (apart (sym (r.tickets_differ id j v u t at e
-                (ap ticket_of is ∙ ap Some (turn.0 ∙ sym first)) has))))
+            (ap ticket_of is ∙ ap Some (turn.0 ∙ sym first)) has))))
             (λ later. (omega arith, hi)))
             (λ t theirs. absurd (apart (same_some j id
-                (sym ((r.each j u e).one_turn t theirs).1 ∙ turn.1))))
+            (sym ((r.each j u e).one_turn t theirs).1 ∙ turn.1))))
             (r.each j u e))
             (λ n has. inl has)
             (λ t has. absurd (none_is_none t has))
             (omega arith)
             (subst (λ h. All (λ e. names e < r.seats) h) (sym grown)
-                (All-append (λ e. names e < r.seats) r.history new r.named_below
-                (λ k d lt. let same = one.1 k d lt in omega arith))),
+            (All-append (λ e. names e < r.seats) r.history new r.named_below
+            (λ k d lt. let same = one.1 k d lt in omega arith))),
         (
           subst (λ h. KnowsItsOwn names h v) (sym turn.2) f.own,
           λ z is'. let same : y ≡ z = same_value y z me.1 held is' in

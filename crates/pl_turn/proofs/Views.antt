@@ -1,6 +1,6 @@
 -- What the rule says of the views that a step leaves alone, and of all views where one view
 -- changes.
-use Rattle.std.proofs.Common.{◌≡◌, ℕ, ◌+◌, ◌<◌, ◌≤◌, ◌≢◌, ◌⊎◌, Bool, true, false, true≢false, List, [], ◌∷◌, ◌++◌, set, Option, Some, None, All, Contains, count_by, MatchBool, unwrap_or, sym, refl, ap, ◌∙◌, subst, inl, inr, ⊎_elim, arith}
+use Rattle.std.proofs.Common.{◌≡◌, ℕ, ◌+◌, ◌<◌, ◌≤◌, ◌≢◌, ◌⊎◌, Bool, true, false, true≢false, List, [], ◌∷◌, set, Option, Some, None, All, count_by, MatchBool, unwrap_or, sym, refl, ap, ◌∙◌, subst, inl, inr, ⊎_elim, arith}
 use mathlib.Core.List.{IsPrefix}
 use mathlib.Core.Option.{some, none}
 use lib.ListN.{get_elem?}
@@ -10,7 +10,7 @@ use Rattle.pl_turn.proofs.Beginnings.{set-at, same-at}
 use mathlib.Core.Logic.{dite}
 use native.Mathlib.Decide.{ℕ_discrete}
 use Rattle.pl_turn.specs.History.{entries_of}
-use Rattle.pl_turn.specs.Rule.{ticket_of, has_ticket, IsLive, HasTicket, HasNumber, IsDistinct, TellsLabel, SawBeginning, KnowsItsOwn, IsNumberedBelow, KeepsJoined, IsTicketWithin, HoldsTurn, Fits, Slot, OneHistory}
+use Rattle.pl_turn.specs.Rule.{ticket_of, has_ticket, HasTicket, HasNumber, IsDistinct, HoldsTurn, Fits, Slot, OneHistory}
 use Rattle.pl_turn.specs.Seats.{is_turn, IsSettled}
 use Rattle.pl_turn.specs.declared.view.Stage.{Stage}
 use Rattle.pl_turn.specs.declared.view.Stage.TheVariants.{Idle, Waiting, Turn}
@@ -70,33 +70,35 @@ module _ {E L : Type 0} (names : E → ℕ) (l : L) where
       → Fits names h' l serving' ticket' seats' holder' i v
   still_fits h h' serving serving' ticket ticket' seats seats' holder holder' i v grows same more
       tickets turn f = record {
-    one_label = f.one_label;
-    beginning = (grows v.seen f.beginning.0, grows v.told f.beginning.1);
-    own = both_cases v.drawn (λ drawn e. e ∙ sym (same v.number (inl (drawn, refl))))
-        (λ _ e. e) f.own;
-    number = ((λ live. let a = f.number.0 live in omega arith),
-        (λ n has. let a = f.number.1 n has in omega arith));
-    joined_stay = λ n es c. let a = f.joined_stay n es c in (same n (inr (es, c)) ∙ a.0, a.1);
-    ticket_within = λ t has. let a = f.ticket_within t has in tickets t has a.0 a.1;
-    one_turn = turn;
-  }
+        one_label = f.one_label;
+        beginning = (grows v.seen f.beginning.0, grows v.told f.beginning.1);
+        own = both_cases v.drawn (λ drawn e. e ∙ sym (same v.number (inl (drawn, refl))))
+            (λ _ e. e) f.own;
+        number = (
+          (λ live. let a = f.number.0 live in omega arith),
+          (λ n has. let a = f.number.1 n has in omega arith),
+        );
+        joined_stay = λ n es c. let a = f.joined_stay n es c in (same n (inr (es, c)) ∙ a.0, a.1);
+        ticket_within = λ t has. let a = f.ticket_within t has in tickets t has a.0 a.1;
+        one_turn = turn;
+      }
 
   -- what only one view has stays so where that view changes
   pub still_distinct : (Has : View E L → ℕ → Type 0) (views : List (View E L)) (id : ℕ)
       (v w : View E L) → get_elem? views id ≡ some v
       → ((n : ℕ) → Has w n → Has v n ⊎
-          ((j : ℕ) (u : View E L) → get_elem? views j ≡ some u → Has u n → ⊥))
+      ((j : ℕ) (u : View E L) → get_elem? views j ≡ some u → Has u n → ⊥))
       → IsDistinct Has views → IsDistinct Has (set views id w)
   still_distinct Has views id v w at from d i j a b n ea eb ha hb =
       ⊎_elim
       (λ (x : (i ≡ id) × (w ≡ a)). ⊎_elim
       (λ (y : (j ≡ id) × (w ≡ b)). x.0 ∙ sym y.0)
       (λ (y : (j ≢ id) × (get_elem? views j ≡ some b)). x.0 ∙ meets j b y.1 hb
-          (subst (λ u. Has u n) (sym x.1) ha))
+      (subst (λ u. Has u n) (sym x.1) ha))
       (at_set views id j w b eb))
       (λ (x : (i ≢ id) × (get_elem? views i ≡ some a)). ⊎_elim
       (λ (y : (j ≡ id) × (w ≡ b)). sym (meets i a x.1 ha (subst (λ u. Has u n) (sym y.1) hb))
-          ∙ sym y.0)
+      ∙ sym y.0)
       (λ (y : (j ≢ id) × (get_elem? views j ≡ some b)). d i j a b n x.1 y.1 ha hb)
       (at_set views id j w b eb))
       (at_set views id i w a ea)
@@ -111,16 +113,21 @@ module _ {E L : Type 0} (names : E → ℕ) (l : L) where
         (v w : View E L) (ws : List ℕ) → get_elem? s.views id ≡ some v →
         ((t : ℕ) → v.stage ≡ Turn t → w.stage ≡ Turn t)
         → Slot history_of label_of l h holder s
-            → Slot history_of label_of l h holder record
-                { words = ws; homes = s.homes; views = set s.views id w }
+        → Slot history_of label_of l h holder record
+        { words = ws; homes = s.homes; views = set s.views id w }
     slot_kept s h None id v w ws at keeps x = x
     slot_kept s h (Some i) id v w ws at keeps x = (
       x.0,
       dite (ℕ_discrete i id)
-          (λ is. (w, x.1.1, subst (λ k. get_elem? (set s.views id w) k ≡ some w) (sym is)
-              (set-at s.views id v w at), keeps x.1.1
-              (ap (λ (u : View E L). u.stage) (same-at s.views id i v x.1.0 at x.1.2 (sym is))
-              ∙ x.1.3)))
+          (λ is. (
+            w,
+            x.1.1,
+            subst (λ k. get_elem? (set s.views id w) k ≡ some w) (sym is)
+                (set-at s.views id v w at),
+            keeps x.1.1
+                (ap (λ (u : View E L). u.stage) (same-at s.views id i v x.1.0 at x.1.2 (sym is))
+                ∙ x.1.3),
+          ))
           (λ apart. (x.1.0, x.1.1, set_else s.views id i w apart ∙ x.1.2, x.1.3)),
     )
 
@@ -128,68 +135,72 @@ module _ {E L : Type 0} (names : E → ℕ) (l : L) where
     pub moves : (s : State (Option T) (View E L)) (r : OneHistory history_of label_of names l s)
         (id : ℕ) (v w : View E L) → get_elem? s.views id ≡ some v
         → (h' : List E) (serving' ticket' seats' : ℕ) (holder' : Option ℕ) (ws : List ℕ)
-            (hs : List (mathlib.Core.Option.Option (Option T)))
+        (hs : List (mathlib.Core.Option.Option (Option T)))
         → ws ≡ serving' ∷ ticket' ∷ seats' ∷ []
-        → Slot history_of label_of l h' holder' record { words = ws; homes = hs; views = set
-            s.views id w }
+        → Slot history_of label_of l h' holder' record {
+          words = ws;
+          homes = hs;
+          views = set
+              s.views id w;
+        }
         → Fits names h' l serving' ticket' seats' holder' id w
         → ((j : ℕ) (u : View E L) → j ≢ id → get_elem? s.views j ≡ some u
-            → Fits names h' l serving' ticket' seats' holder' j u)
+        → Fits names h' l serving' ticket' seats' holder' j u)
         → ((n : ℕ) → HasNumber w n → HasNumber v n ⊎
-            ((j : ℕ) (u : View E L) → get_elem? s.views j ≡ some u → HasNumber u n → ⊥))
+        ((j : ℕ) (u : View E L) → get_elem? s.views j ≡ some u → HasNumber u n → ⊥))
         → ((t : ℕ) → HasTicket w t → HasTicket v t ⊎
-            ((j : ℕ) (u : View E L) → get_elem? s.views j ≡ some u → HasTicket u t → ⊥))
+        ((j : ℕ) (u : View E L) → get_elem? s.views j ≡ some u → HasTicket u t → ⊥))
         → serving' + count_by has_ticket (set s.views id w) ≡ ticket'
         → All (λ e. names e < seats') h'
         → OneHistory history_of label_of names l record
-            { words = ws; homes = hs; views = set s.views id w }
+        { words = ws; homes = hs; views = set s.views id w }
     moves s r id v w at h' serving' ticket' seats' holder' ws hs words slot mine others numbers
         tickets counted named = record {
-      history = h';
-      serving = serving';
-      ticket = ticket';
-      seats = seats';
-      holder = holder';
-      words = words;
-      slot = slot;
-      each = λ j u e. ⊎_elim
-          (λ (x : (j ≡ id) × (w ≡ u)). subst
+          history = h';
+          serving = serving';
+          ticket = ticket';
+          seats = seats';
+          holder = holder';
+          words = words;
+          slot = slot;
+          each = λ j u e. ⊎_elim
+              (λ (x : (j ≡ id) × (w ≡ u)). subst
               (λ (y : ℕ × View E L). Fits names h' l serving' ticket' seats' holder' y.0 y.1)
               (λ i. (sym x.0 i, x.1 i)) mine)
-          (λ (x : (j ≢ id) × (get_elem? s.views j ≡ some u)). others j u x.0 x.1)
-          (at_set s.views id j w u e);
-      numbers_differ = still_distinct HasNumber s.views id v w at numbers r.numbers_differ;
-      tickets_differ = still_distinct HasTicket s.views id v w at tickets r.tickets_differ;
-      tickets_counted = counted;
-      named_below = named;
-    }
+              (λ (x : (j ≢ id) × (get_elem? s.views j ≡ some u)). others j u x.0 x.1)
+              (at_set s.views id j w u e);
+          numbers_differ = still_distinct HasNumber s.views id v w at numbers r.numbers_differ;
+          tickets_differ = still_distinct HasTicket s.views id v w at tickets r.tickets_differ;
+          tickets_counted = counted;
+          named_below = named;
+        }
 
     -- a step that changes nothing
     pub stays : (s : State (Option T) (View E L)) (r : OneHistory history_of label_of names l s)
         (id : ℕ) (v : View E L) → get_elem? s.views id ≡ some v
         → (ws : List ℕ) → ws ≡ r.serving ∷ r.ticket ∷ r.seats ∷ []
         → OneHistory history_of label_of names l record
-            { words = ws; homes = s.homes; views = set s.views id v }
+        { words = ws; homes = s.homes; views = set s.views id v }
     stays s r id v at ws words = subst
         (λ vs. OneHistory history_of label_of names l record
-            { words = ws; homes = s.homes; views = vs }) (sym (set_again s.views id v at)) record {
-      history = r.history;
-      serving = r.serving;
-      ticket = r.ticket;
-      seats = r.seats;
-      holder = r.holder;
-      words = words;
-      slot = slot_stays r.holder r.slot;
-      each = r.each;
-      numbers_differ = r.numbers_differ;
-      tickets_differ = r.tickets_differ;
-      tickets_counted = r.tickets_counted;
-      named_below = r.named_below;
-    }
+        { words = ws; homes = s.homes; views = vs }) (sym (set_again s.views id v at)) record {
+          history = r.history;
+          serving = r.serving;
+          ticket = r.ticket;
+          seats = r.seats;
+          holder = r.holder;
+          words = words;
+          slot = slot_stays r.holder r.slot;
+          each = r.each;
+          numbers_differ = r.numbers_differ;
+          tickets_differ = r.tickets_differ;
+          tickets_counted = r.tickets_counted;
+          named_below = r.named_below;
+        }
       where
         slot_stays : (holder : Option ℕ) → Slot history_of label_of l r.history holder s
             → Slot history_of label_of l r.history holder record
-                { words = ws; homes = s.homes; views = s.views }
+            { words = ws; homes = s.homes; views = s.views }
         slot_stays None x = x
         slot_stays (Some i) x = x
 

@@ -73,13 +73,13 @@ module _ {E L : Type 0} where
   }
 
   -- a seat that took a value with this history and this count
-  abbrev pub after_take : List E → ℕ → Place E L → Place E L
-  after_take history count p =
+  abbrev pub having_taken : List E → ℕ → Place E L → Place E L
+  having_taken history count p =
       record p { seen = history; turn = true; turns = p.turns + 1; taken = count }
 
   -- a seat that gave a value with this history and this count back
-  abbrev pub after_give_back : (E → ℕ) → List E → ℕ → Place E L → Place E L
-  after_give_back names history count p = record p {
+  abbrev pub given_back : (E → ℕ) → List E → ℕ → Place E L → Place E L
+  given_back names history count p = record p {
     seen = history;
     mine = entries_of names p.number history;
     turn = false;

@@ -1,7 +1,7 @@
 -- The rule of the turn lock: there is one history, and every seat knows a beginning of it.
 -- It is a ticket lock, as in Mellor-Crummey and Scott, "Algorithms for Scalable Synchronization on
--- Shared-Memory Multiprocessors", 1991. It has three words, which are the ticket that is served, the
--- next ticket and the next number of a seat, and one slot for the value.
+-- Shared-Memory Multiprocessors", 1991. It has three words, which are the ticket that is served,
+-- the next ticket and the next number of a seat, and one slot for the value.
 use Rattle.std.specs.Prelude.{◌≡◌, ◌⊎◌, ℕ, ◌+◌, ◌<◌, ◌≤◌, Bool, true, List, [], ◌∷◌}
 use Rattle.std.specs.Prelude.{Option, Some, None, is_some, All, Contains, count_by, MatchBool}
 use mathlib.Core.List.{IsPrefix}

@@ -5,7 +5,6 @@ use mathlib.Core.List.{IsPrefix}
 use Rattle.atomic_table.specs.Table.{Me, Step}
 use Rattle.pl_turn.specs.History.{entries_of, longer, faults_since}
 use Rattle.pl_turn.specs.Rule.{KnowsItsOwn}
-use Rattle.pl_turn.specs.declared.view.Stage.{Stage}
 use Rattle.pl_turn.specs.declared.view.Stage.TheVariants.{Idle, Waiting, Turn}
 use Rattle.pl_turn.specs.declared.view.View.{View}
 

@@ -18,8 +18,8 @@ pub(crate) type Token<T> = TableSeat<
 /// whether it has the turn, how many turns it had, how many faults were counted in them, and the
 /// count of the value that it took last. A seat may go to another thread.
 ///
-/// Nothing keeps a seat from being dropped while it has the turn. Then the turn never ends, and each
-/// later `take` of the lock waits for ever.
+/// Nothing keeps a seat from being dropped while it has the turn. Then the turn never ends, and
+/// each later `take` of the lock waits for ever.
 #[derive(Drop)]
 pub struct Seat<T: Standing> {
     pub(crate) token: Token<T>,

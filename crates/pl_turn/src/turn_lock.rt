@@ -1,7 +1,7 @@
 ghost use Rattle.std.specs.Prelude.{◌≡◌, ◌<◌, ◌≤◌, true, false, [], ◌∷◌, Some, IfOk, IfErr, IsOk};
 ghost use mathlib.Core.List.{IsPrefix};
 ghost use Rattle.pl_turn.specs.History.{entries_of, Adds, longer};
-ghost use Rattle.pl_turn.specs.Places.{Grows, first_place, after_take, after_give_back, split_place};
+ghost use Rattle.pl_turn.specs.Places.{Grows, first_place, having_taken, given_back, split_place};
 
 use crate::seat::{Seat, Token};
 use crate::standing::Standing;
@@ -86,7 +86,7 @@ impl<T: Standing + Drop> TurnLock<T> {
         ensures label { seat.old.label ≡ Some (T.label result) }
         ensures begins { IsPrefix seat.old.seen (T.history result) }
         ensures mine { seat.old.mine ≡ entries_of T.names seat.old.number (T.history result) }
-        ensures seat { seat.new ≡ after_take (T.history result) (T.counted result) seat.old }
+        ensures seat { seat.new ≡ having_taken (T.history result) (T.counted result) seat.old }
     {
         let ticket = draw_ticket(rt, self, &mut seat.token, seat.next);
         seat.next = ticket + 1;
@@ -95,9 +95,9 @@ impl<T: Standing + Drop> TurnLock<T> {
     }
 
     /// Gives the value back and ends the turn. At most one entry was added, which names this seat:
-    /// what was seen and the seat's own entries grow by it. The seat's faults grow by as much as the
-    /// value's count rose since it was taken, and by one at least where the count stands at its last
-    /// value, 2^64 - 1.
+    /// what was seen and the seat's own entries grow by it. The seat's faults grow by as much as
+    /// the value's count rose since it was taken, and by one at least where the count stands at its
+    /// last value, 2^64 - 1.
     pub fn give_back(&self, seat: &mut Seat<T>, value: T)
         requires own { seat.old.lock ≡ self.now }
         requires turn { seat.old.turn ≡ true }
@@ -105,7 +105,7 @@ impl<T: Standing + Drop> TurnLock<T> {
         requires label { seat.old.label ≡ Some (T.label value) }
         requires count { seat.old.taken ≤ T.counted value }
         ensures grows { Grows T.names seat.old seat.new }
-        ensures seat { seat.new ≡ after_give_back T.names (T.history value) (T.counted value) seat.old }
+        ensures seat { seat.new ≡ given_back T.names (T.history value) (T.counted value) seat.old }
     {
         end_turn(self, &mut seat.token, seat.next, value);
     }

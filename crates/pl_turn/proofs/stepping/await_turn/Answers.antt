@@ -1,4 +1,4 @@
-use Rattle.std.proofs.Common.{◌≡◌, sym, ap, ◌∙◌, refl, subst, rules, eq-eqb, ne_eqb}
+use Rattle.std.proofs.Common.{sym, ap, ◌∙◌, subst, rules, eq-eqb, ne_eqb}
 use Rattle.pl_turn.specs.Steps.{GotTurn}
 use Rattle.pl_turn.proofs.Views.{at_true, at_false}
 use Rattle.pl_turn.proofs.Waits.{awaits}
@@ -18,9 +18,9 @@ pub returns-then-served-ticket-clause-turn : goal.returns-then-served-ticket-cla
 returns-then-served-ticket-clause-turn g c =
     let i = c.loop.invariant in
     let told = c.load-served.ensures.2 c.args.ticket
-        (ap (λ m. m.0.stage) i.same ∙ c.requires.waits) in
+    (ap (λ m. m.0.stage) i.same ∙ c.requires.waits) in
     subst (λ m. GotTurn g.T.Standing.history g.T.Standing.label g.T.Standing.names
-        g.T.Standing.counted c.args.ticket m c.load-served.new.seat.me)
+    g.T.Standing.counted c.args.ticket m c.load-served.new.seat.me)
     i.same
     (at_true _ _ _ (eq-eqb _ _ c.if-served-ticket.true) told)
 

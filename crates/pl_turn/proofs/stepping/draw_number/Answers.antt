@@ -1,4 +1,4 @@
-use Rattle.std.proofs.Common.{◌≡◌, sym, ap, ◌∙◌, refl, rules}
+use Rattle.std.proofs.Common.{sym, ap, ◌∙◌, refl, rules}
 use Rattle.pl_turn.proofs.Seatings.{draws_number}
 use Rattle.pl_turn.proofs.stepping.draw_number.Goals as goal
 

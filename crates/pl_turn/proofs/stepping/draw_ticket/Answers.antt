@@ -1,4 +1,4 @@
-use Rattle.std.proofs.Common.{◌≡◌, sym, ap, ◌∙◌, refl, rules}
+use Rattle.std.proofs.Common.{sym, ap, ◌∙◌, refl, rules}
 use Rattle.pl_turn.proofs.Waits.{draws}
 use Rattle.pl_turn.proofs.stepping.draw_ticket.Goals as goal
 

@@ -1,4 +1,4 @@
-use Rattle.std.proofs.Common.{◌≡◌, sym, ◌∙◌, rules}
+use Rattle.std.proofs.Common.{sym, ◌∙◌, rules}
 use Rattle.pl_turn.proofs.Seatings.{joins}
 use Rattle.pl_turn.proofs.stepping.tell.Goals as goal
 

@@ -1,4 +1,4 @@
-use Rattle.std.proofs.Common.{◌≡◌, sym, ap, ◌∙◌, inl, inr, ⊎_elim}
+use Rattle.std.proofs.Common.{sym, ap, ◌∙◌, inl, inr, ⊎_elim}
 use Rattle.pl_turn.specs.History.{entries_of}
 use Rattle.pl_turn.proofs.Beginnings.{own-stays, own-grows}
 use Rattle.pl_turn.proofs.Views.{at_true}
