@@ -61,7 +61,7 @@ pub(crate) fn await_turn<T: Standing + Drop, R: Wait>(
         if served == ticket {
             return;
         }
-        backoff.snooze();
+        rest(rt, lock, &backoff, served);
     }
     unreachable!()
 }
@@ -94,6 +94,17 @@ pub(crate) fn draw_number<T: Standing + Drop, R: Wait>(
         backoff.snooze();
     }
     unreachable!()
+}
+
+// Yields to other threads, and once it has done so some times, sleeps until another ticket is served.
+fn rest<T: Standing + Drop, R: Wait>(rt: &R, lock: &TurnLock<T>, backoff: &Backoff, served: u64) {
+    if backoff.is_completed() {
+        lock.table
+            .shared
+            .park(rt, SERVING, (served % (1 << 32)) as u32);
+    } else {
+        backoff.snooze();
+    }
 }
 
 // Takes the value out of the slot that the seat has.
@@ -139,6 +150,9 @@ pub(crate) fn end_turn<T: Standing + Drop>(
 {
     put_in(lock, token, value);
     lock.table.shared.store::<EndTurn>(token, SERVING, next);
+    if lock.table.shared.peek(TICKET) != next {
+        lock.table.shared.wake_all(SERVING);
+    }
 }
 
 // Splits a new seat off, which has drawn no number yet.
