@@ -7,6 +7,7 @@ mod scalars;
 use crate::{YamlFault, read};
 use pl_base::{FileKey, List, Memory, Node, NodeBody, NodePair, Place, Text};
 use std::alloc::Global;
+use std::test::Fail;
 
 fn file(alloc: Global) -> Result<FileKey, Memory> {
     Ok(FileKey {
