@@ -1,4 +1,5 @@
-ghost use Rattle.std.specs.Prelude.{◌≡◌, List as list, ℕ, Bool, map};
+ghost use Rattle.std.specs.Prelude.{◌≡◌, List as list, ℕ, Bool, map, IfOk, Some};
+ghost use Rattle.pl_eval.specs.LookUps.{found, member_of};
 ghost use Rattle.std.specs.List.{list_all, list_any};
 ghost use Rattle.std.specs.FinMap as finite;
 ghost use Rattle.pl_base.specs.declared.outcome.Outcome.{Outcome as Ended};
@@ -43,11 +44,8 @@ impl Names for MemNames {
     }
 
     fn member(&self, alloc: Global, root: &Text, at: &Value) -> Result<RootMember, Memory> {
-        match place_of(&self.roots, root) {
-            Some(place) => match find_member(alloc, &self.roots.as_slice()[place].item.value, at)? {
-                Some(node) => Ok(RootMember::Found(node.copy(alloc)?)),
-                None => Ok(RootMember::Missing),
-            },
+        match self.find(alloc, root)? {
+            Some(node) => member_in(alloc, &node.value, at),
             None => Ok(RootMember::NoRoot),
         }
     }
@@ -62,6 +60,15 @@ impl Names for MemNames {
             Function::Failed => one_named_wrong(&self.named, names),
             _ => !self.canceled && (names.is_empty() || one_named_run(&self.named, names)),
         }
+    }
+}
+
+fn member_in(alloc: Global, of: &Value, at: &Value) -> Result<RootMember, Memory>
+    ensures { IfOk result (λ member. member ≡ member_of (Some (found of.now at.now))) }
+{
+    match find_member(alloc, of, at)? {
+        Some(node) => Ok(RootMember::Found(node.copy(alloc)?)),
+        None => Ok(RootMember::Missing),
     }
 }
 
