@@ -23,19 +23,55 @@ fn place(alloc: Global, line: u32, col: u32) -> Result<Place, Memory> {
     Place::at(alloc, &Shared::new(alloc, file)?, line, col)
 }
 
-// An origin with each kind of crossing.
+fn shared_key(
+    alloc: Global,
+    repo: &str,
+    git_ref: &str,
+    path: &str,
+) -> Result<Shared<FileKey>, Memory> {
+    Shared::new(alloc, key(alloc, repo, git_ref, path)?)
+}
+
+fn extends(alloc: Global) -> Result<Crossing, Memory> {
+    Ok(Crossing::Extends(shared_key(alloc, "app", "main", "/top.yml")?))
+}
+
+fn include(alloc: Global, line: u32) -> Result<Crossing, Memory> {
+    let called = shared_key(alloc, "shared", "refs/tags/v1", "/steps.yml")?;
+    Ok(Crossing::Include(called, place(alloc, line, 3)?))
+}
+
+fn of_argument(alloc: Global, line: u32) -> Result<Crossing, Memory> {
+    Ok(Crossing::Argument(Text::from_str(alloc, "size")?, place(alloc, line, 9)?))
+}
+
+// Lists of crossings, each one longer. Each function holds two of them at most: with more of them alive the proof takes
+// minutes.
+fn extended(alloc: Global) -> Result<SharedList<Crossing>, Memory> {
+    let none = SharedList::new(alloc)?;
+    none.with(alloc, extends(alloc)?)
+}
+
+fn included(alloc: Global, line: u32) -> Result<SharedList<Crossing>, Memory> {
+    let before = extended(alloc)?;
+    before.with(alloc, include(alloc, line)?)
+}
+
+fn taken(alloc: Global, line: u32) -> Result<SharedList<Crossing>, Memory> {
+    let before = included(alloc, line)?;
+    before.with(alloc, of_argument(alloc, line)?)
+}
+
+// Each kind of crossing.
+fn crossings(alloc: Global, line: u32) -> Result<SharedList<Crossing>, Memory> {
+    let before = taken(alloc, line)?;
+    before.with(alloc, Crossing::Made)
+}
+
 fn origin(alloc: Global, line: u32) -> Result<Origin, Memory> {
-    let called = key(alloc, "shared", "refs/tags/v1", "/steps.yml")?;
-    let top = Shared::new(alloc, key(alloc, "app", "main", "/top.yml")?)?;
-    let extended = SharedList::new(alloc)?.with(alloc, Crossing::Extends(top))?;
-    let called = Shared::new(alloc, called)?;
-    let included = extended.with(alloc, Crossing::Include(called, place(alloc, line, 3)?))?;
-    let name = Text::from_str(alloc, "size")?;
-    let taken = included.with(alloc, Crossing::Argument(name, place(alloc, line, 9)?))?;
-    let crossings = taken.with(alloc, Crossing::Made)?;
     Ok(Origin {
         source: place(alloc, line, 1)?,
-        crossings,
+        crossings: crossings(alloc, line)?,
     })
 }
 
@@ -465,5 +501,59 @@ fn a_marked_node_takes_64_bytes(rt: HostRuntime) -> Result<(), Fail> {
     assert_eq!(rt; size_of::<Place>(), 16);
     assert_eq!(rt; size_of::<Origin>(), 24);
     assert_eq!(rt; size_of::<MarkedNode>(), 64);
+    Ok(())
+}
+
+/// The items of a list as the digits of a number, the first one in front.
+fn number_of(alloc: Global, list: &SharedList<u32>) -> Result<u32, Memory> {
+    let items = list.to_vec(alloc)?;
+    let mut number: u32 = 0;
+    for item in items {
+        number = number.wrapping_mul(10).wrapping_add(*item);
+    }
+    Ok(number)
+}
+
+/// The digits of a list and one more.
+fn with_digit(alloc: Global, list: &SharedList<u32>, digit: u32) -> Result<u32, Memory> {
+    number_of(alloc, &list.with(alloc, digit)?)
+}
+
+fn one_and_two(alloc: Global) -> Result<SharedList<u32>, Memory> {
+    let one = SharedList::new(alloc)?.with(alloc, 1)?;
+    one.with(alloc, 2)
+}
+
+#[test]
+fn lists_that_share_their_beginning_keep_their_own_end(rt: HostRuntime) -> Result<(), Fail> {
+    let alloc = rt.alloc();
+    let shared = one_and_two(alloc)?;
+    assert_eq!(rt; with_digit(alloc, &shared, 3)?, 123);
+    assert_eq!(rt; with_digit(alloc, &shared, 4)?, 124);
+    assert_eq!(rt; number_of(alloc, &shared)?, 12);
+    Ok(())
+}
+
+/// An array of this value alone.
+fn array_of(alloc: Global, node: MarkedNode) -> Result<MarkedNode, Memory> {
+    let mut items = List::new(alloc);
+    items.push(node)?;
+    marked(alloc, Value::Array(items), 1)
+}
+
+/// A value of so many arrays, one in the other.
+fn nested(alloc: Global, levels: u32) -> Result<MarkedNode, Memory> {
+    let mut node = marked(alloc, Value::Array(List::new(alloc)), 1)?;
+    for _ in 1..levels {
+        node = array_of(alloc, node)?;
+    }
+    Ok(node)
+}
+
+#[test]
+fn copies_go_a_thousand_levels_deep(rt: HostRuntime) -> Result<(), Fail> {
+    let alloc = rt.alloc();
+    assert!(rt; nested(alloc, 1_000)?.copy(alloc).is_ok());
+    assert!(rt; nested(alloc, 1_001)?.copy(alloc).is_err());
     Ok(())
 }
