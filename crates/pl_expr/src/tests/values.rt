@@ -1,7 +1,7 @@
-use crate::{loosely_equal, order, to_bool, to_number, to_text, to_version};
+use super::{Told, first_wrong};
+use crate::{Mode, loosely_equal, order, to_bool, to_number, to_text, to_version};
 use pl_base::{List, MarkedNode, Memory, Text, Value};
 use std::alloc::Global;
-use std::cmp::Ordering;
 use std::test::Fail;
 
 /// The value that a word of the tables below stands for: `text:..`, `version:..`, `number:..` or a name.
@@ -26,144 +26,125 @@ fn value(alloc: Global, word: &str) -> Result<Value, Memory> {
     }
 }
 
+/// What is converted of the value that a word stands for: `BOOLEAN|NUMBER|TEXT|VERSION`.
+pub(super) fn conversions_of(alloc: Global, word: &str) -> Result<Text, Memory> {
+    let value = value(alloc, word)?;
+    let truth = to_bool(&value);
+    let number = match to_number(&value) {
+        Some(number) => format!(in alloc; "{number}")?,
+        None => String::from_str(alloc, "none")?,
+    };
+    let text = to_text(alloc, &value)?;
+    let version = match to_version(alloc, &value)? {
+        Some(version) => to_text(alloc, &version)?,
+        None => Text::new(alloc),
+    };
+    let told = format!(in alloc; "{truth}|{number}|{}|{}", text.as_str(), version.as_str())?;
+    Ok(Text::from_string(told))
+}
+
+/// How two values are compared, of which a line `LEFT|RIGHT` tells: `EQUAL ORDER`.
+pub(super) fn comparison_of(alloc: Global, line: &str) -> Result<Text, Memory> {
+    let (left, right) = line.split_once('|').unwrap_or((line, ""));
+    let left = value(alloc, left)?;
+    let right = value(alloc, right)?;
+    let equal = loosely_equal(alloc, &left, &right)?;
+    let told = match order(alloc, &left, &right)? {
+        Some(order) => format!(in alloc; "{equal} {order:?}")?,
+        None => format!(in alloc; "{equal} None")?,
+    };
+    Ok(Text::from_string(told))
+}
+
+const CONVERTS_EACH_VALUE: &str = r#"true => true|1|True|
+false => false|0|False|
+null => false|0||
+0 => false|0|0|
+1 => true|1|1|
+-7 => true|-7|-7|
+text: => false|0||
+text:x => true|none|x|
+text:0 => true|0|0|
+text: ␉␊+007  => true|7| ␉␊+007 |
+text:-5 => true|-5|-5|
+text:+-5 => true|none|+-5|
+text:5 5 => true|none|5 5|
+text:1␍ => true|none|1␍|
+text:  => true|none| |
+text:- => true|none|-|
+text:9223372036854775807 => true|9223372036854775807|9223372036854775807|
+text:9223372036854775808 => true|none|9223372036854775808|
+text:-9223372036854775808 => true|-9223372036854775808|-9223372036854775808|
+text:-9223372036854775809 => true|none|-9223372036854775809|
+text:18446744073709551617 => true|none|18446744073709551617|
+text:1.2 => true|none|1.2|1.2
+text:1.2.3 => true|none|1.2.3|1.2.3
+text:01.2.3.2147483647 => true|none|01.2.3.2147483647|1.2.3.2147483647
+text:1.2.3.2147483648 => true|none|1.2.3.2147483648|
+text:1.2.3.4.5 => true|none|1.2.3.4.5|
+text: 1.2 => true|none| 1.2|
+text:1. => true|none|1.|
+text:.1.2 => true|none|.1.2|
+text:7 => true|7|7|
+1.2.3 => true|none|1.2.3|1.2.3
+array => true|none||
+object => true|none||"#;
+
 /// Each value as a Boolean, a number, a text and a version.
 #[test]
 fn converts_each_value(rt: HostRuntime) -> Result<(), Fail> {
     let alloc = rt.alloc();
-    let rows = [
-        ("true", true, Some(1), "True", ""),
-        ("false", false, Some(0), "False", ""),
-        ("null", false, Some(0), "", ""),
-        ("0", false, Some(0), "0", ""),
-        ("1", true, Some(1), "1", ""),
-        ("-7", true, Some(-7), "-7", ""),
-        ("text:", false, Some(0), "", ""),
-        ("text:x", true, None, "x", ""),
-        ("text:0", true, Some(0), "0", ""),
-        ("text: \t\n+007 ", true, Some(7), " \t\n+007 ", ""),
-        ("text:-5", true, Some(-5), "-5", ""),
-        ("text:+-5", true, None, "+-5", ""),
-        ("text:5 5", true, None, "5 5", ""),
-        ("text:1\r", true, None, "1\r", ""),
-        ("text: ", true, None, " ", ""),
-        ("text:-", true, None, "-", ""),
-        (
-            "text:9223372036854775807",
-            true,
-            Some(9223372036854775807),
-            "9223372036854775807",
-            "",
-        ),
-        (
-            "text:9223372036854775808",
-            true,
-            None,
-            "9223372036854775808",
-            "",
-        ),
-        (
-            "text:-9223372036854775808",
-            true,
-            Some(i64::MIN),
-            "-9223372036854775808",
-            "",
-        ),
-        (
-            "text:-9223372036854775809",
-            true,
-            None,
-            "-9223372036854775809",
-            "",
-        ),
-        (
-            "text:18446744073709551617",
-            true,
-            None,
-            "18446744073709551617",
-            "",
-        ),
-        ("text:1.2", true, None, "1.2", "1.2"),
-        ("text:1.2.3", true, None, "1.2.3", "1.2.3"),
-        (
-            "text:01.2.3.2147483647",
-            true,
-            None,
-            "01.2.3.2147483647",
-            "1.2.3.2147483647",
-        ),
-        ("text:1.2.3.2147483648", true, None, "1.2.3.2147483648", ""),
-        ("text:1.2.3.4.5", true, None, "1.2.3.4.5", ""),
-        ("text: 1.2", true, None, " 1.2", ""),
-        ("text:1.", true, None, "1.", ""),
-        ("text:.1.2", true, None, ".1.2", ""),
-        ("text:7", true, Some(7), "7", ""),
-        ("1.2.3", true, None, "1.2.3", "1.2.3"),
-        ("array", true, None, "", ""),
-        ("object", true, None, "", ""),
-    ];
-    for (word, truth, number, text, version) in rows {
-        let value = value(alloc, word)?;
-        assert_eq!(rt; to_bool(&value), truth, "{word}");
-        assert_eq!(rt; to_number(&value), number, "{word}");
-        assert_eq!(rt; to_text(alloc, &value)?.as_str(), text, "{word}");
-        let spelled = match to_version(alloc, &value)? {
-            Some(version) => to_text(alloc, &version)?,
-            None => Text::new(alloc),
-        };
-        assert_eq!(rt; spelled.as_str(), version, "{word}");
-    }
+    assert_eq!(rt;
+        first_wrong(alloc, Mode::Compile, Told::Conversions, CONVERTS_EACH_VALUE)?.as_str(),
+        ""
+    );
     Ok(())
 }
+
+const COMPARES_BY_THE_LEFT_TYPE: &str = r#"text:1|1 => true Equal
+1|text:1 => true Equal
+1|text:x => false None
+true|text:False => true Equal
+text:False|true => false Less
+text:|null => true Equal
+null|null => true Equal
+null|text: => true Equal
+null|0 => false None
+0|null => true Equal
+false|null => true Equal
+false|array => false Less
+true|false => false Greater
+1|2 => false Less
+-7|1 => false Less
+1|1.2.3 => false None
+1.2.3|text:1.2.3 => true Equal
+1.2.3|1.2.3.0 => false Less
+1.2.3.0|1.2.3 => false Greater
+1.2.3|1.10.0 => false Less
+1.2.3|1 => false None
+text:1.2.3|1.2.3 => true Equal
+text:abc|text:ABC => true Equal
+text:ab|text:ABC => false Less
+text:a_|text:aB => false Greater
+text:ä|text:Ä => false Greater
+text:x|array => false None
+text:|array => false None
+array|array => false None
+object|null => false None"#;
 
 /// Whether the right value is equal to the left one, and how the left one stands to it.
 #[test]
 fn compares_by_the_left_type(rt: HostRuntime) -> Result<(), Fail> {
     let alloc = rt.alloc();
-    let rows = [
-        ("text:1", "1", true, Some(Ordering::Equal)),
-        ("1", "text:1", true, Some(Ordering::Equal)),
-        ("1", "text:x", false, None),
-        ("true", "text:False", true, Some(Ordering::Equal)),
-        ("text:False", "true", false, Some(Ordering::Less)),
-        ("text:", "null", true, Some(Ordering::Equal)),
-        ("null", "null", true, Some(Ordering::Equal)),
-        ("null", "text:", true, Some(Ordering::Equal)),
-        ("null", "0", false, None),
-        ("0", "null", true, Some(Ordering::Equal)),
-        ("false", "null", true, Some(Ordering::Equal)),
-        ("false", "array", false, Some(Ordering::Less)),
-        ("true", "false", false, Some(Ordering::Greater)),
-        ("1", "2", false, Some(Ordering::Less)),
-        ("-7", "1", false, Some(Ordering::Less)),
-        ("1", "1.2.3", false, None),
-        ("1.2.3", "text:1.2.3", true, Some(Ordering::Equal)),
-        ("1.2.3", "1.2.3.0", false, Some(Ordering::Less)),
-        ("1.2.3.0", "1.2.3", false, Some(Ordering::Greater)),
-        ("1.2.3", "1.10.0", false, Some(Ordering::Less)),
-        ("1.2.3", "1", false, None),
-        ("text:1.2.3", "1.2.3", true, Some(Ordering::Equal)),
-        ("text:abc", "text:ABC", true, Some(Ordering::Equal)),
-        ("text:ab", "text:ABC", false, Some(Ordering::Less)),
-        ("text:a_", "text:aB", false, Some(Ordering::Greater)),
-        ("text:ä", "text:Ä", false, Some(Ordering::Greater)),
-        ("text:x", "array", false, None),
-        ("text:", "array", false, None),
-        ("array", "array", false, None),
-        ("object", "null", false, None),
-    ];
-    for (left, right, equal, ordered) in rows {
-        let left_value = value(alloc, left)?;
-        let right_value = value(alloc, right)?;
-        assert_eq!(rt;
-            loosely_equal(alloc, &left_value, &right_value)?,
-            equal,
-            "{left} {right}"
-        );
-        assert_eq!(rt;
-            order(alloc, &left_value, &right_value)?,
-            ordered,
-            "{left} {right}"
-        );
-    }
+    assert_eq!(rt;
+        first_wrong(
+            alloc,
+            Mode::Compile,
+            Told::Comparison,
+            COMPARES_BY_THE_LEFT_TYPE
+        )?
+        .as_str(),
+        ""
+    );
     Ok(())
 }
