@@ -4,7 +4,8 @@ ghost use Rattle.pl_core.specs.Replies.{member, json_reply, refusal};
 use pl_base::{Bytes, List, Memory, Text};
 use std::alloc::Global;
 
-/// A JSON value (RFC 8259). The members of an object stand in byte order of their names, each once.
+/// A JSON value (RFC 8259). In what order an object's members stand here says nothing: they are
+/// written by way of `serde_json`'s map, whose type keeps its keys once each and in byte order.
 #[cycle(json)]
 #[derive(Debug, Drop)]
 pub enum Json {

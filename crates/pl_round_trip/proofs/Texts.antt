@@ -17,7 +17,7 @@ use Rattle.pl_base.specs.declared.node.NodeBody.TheVariants as bodies
 use Rattle.pl_base.specs.declared.node.NodeBody.TheOpen.{NodeBody-F, Node-F, NodePair-F, Scalar, Seq, Map}
 use Rattle.pl_printing.specs.Printed.{Line, Written, inline, below, indented, quoted, entry, item_entry, pair_entry, sequence_of, mapping_of, lines_of, written, written_body, written_pair, printed}
 use Rattle.pl_printing.proofs.Nodes.{node_written, pair_written, sequence_written, mapping_written}
-use Rattle.pl_round_trip.specs.Trees.{has_texts, texts_in_body, texts_in_node, texts_in_pair}
+use Rattle.pl_round_trip.specs.Trees.{has_texts, texts_of_body, texts_of_pair, texts_in_body, texts_in_node, texts_in_pair}
 use Rattle.pl_round_trip.proofs.RowsTrees.{node_induction}
 use Rattle.pl_round_trip.proofs.TextsEscapes.{quoted_bytes, quoted_scalars, scalars_append}
 
@@ -69,30 +69,19 @@ mapping_recoded recode pairs = search (rules, the_lemmas)
 
 -- ---- whose texts are UTF-8
 
-texts_of_body : NodeBody → Bool
-texts_of_body = fold-NodeBody Bool Bool Bool texts_in_body texts_in_node texts_in_pair
-
-texts_of_pair : NodePair → Bool
-texts_of_pair = fold-NodePair Bool Bool Bool texts_in_body texts_in_node texts_in_pair
-
-node_texts : (node : Node) → has_texts node ≡ texts_of_body node.body
-unfolding texts_of_body
+pub node_texts : (node : Node) → has_texts node ≡ texts_of_body node.body
 node_texts node = search (rules, the_lemmas)
 
-pair_texts : (pair : NodePair) → texts_of_pair pair ≡ (is_utf8 pair.key && has_texts pair.item)
-unfolding texts_of_pair
+pub pair_texts : (pair : NodePair) → texts_of_pair pair ≡ (is_utf8 pair.key && has_texts pair.item)
 pair_texts pair = search (rules, the_lemmas)
 
-scalar_texts : (text : List ℕ) → texts_of_body (bodies.Scalar text) ≡ is_utf8 text
-unfolding texts_of_body
+pub scalar_texts : (text : List ℕ) → texts_of_body (bodies.Scalar text) ≡ is_utf8 text
 scalar_texts text = search (rules, the_lemmas)
 
-sequence_texts : (items : List Node) → texts_of_body (bodies.Seq items) ≡ list_all (λ texts. texts) (map has_texts items)
-unfolding texts_of_body
+pub sequence_texts : (items : List Node) → texts_of_body (bodies.Seq items) ≡ list_all (λ texts. texts) (map has_texts items)
 sequence_texts items = search (rules, the_lemmas)
 
-mapping_texts : (pairs : List NodePair) → texts_of_body (bodies.Map pairs) ≡ list_all (λ texts. texts) (map texts_of_pair pairs)
-unfolding texts_of_body texts_of_pair
+pub mapping_texts : (pairs : List NodePair) → texts_of_body (bodies.Map pairs) ≡ list_all (λ texts. texts) (map texts_of_pair pairs)
 mapping_texts pairs = search (rules, the_lemmas)
 
 -- what holds of each item of a sequence and each pair of a mapping

@@ -7,10 +7,10 @@ use Rattle.pl_base.specs.declared.place.FileKey.{FileKey}
 use Rattle.pl_base.specs.declared.place.Place.{Place}
 use Rattle.pl_base.specs.Places.{place_at}
 use Rattle.pl_base.specs.declared.node.Node.{Node, fold-Node}
-use Rattle.pl_base.specs.declared.node.NodeBody.{NodeBody}
+use Rattle.pl_base.specs.declared.node.NodeBody.{NodeBody, fold-NodeBody}
 use Rattle.pl_base.specs.declared.node.NodeBody.TheVariants as bodies
 use Rattle.pl_base.specs.declared.node.NodeBody.TheOpen.{NodeBody-F, Node-F, NodePair-F, Scalar, Seq, Map}
-use Rattle.pl_base.specs.declared.node.NodePair.{NodePair}
+use Rattle.pl_base.specs.declared.node.NodePair.{NodePair, fold-NodePair}
 use Rattle.pl_line.specs.declared.code.YamlCode.{YamlCode}
 
 -- ---- how many collections are open at one place of a tree, at most
@@ -71,6 +71,12 @@ texts_in_pair pair = is_utf8 pair.key && pair.item
 
 abbrev pub has_texts : Node → Bool
 has_texts = fold-Node Bool Bool Bool texts_in_body texts_in_node texts_in_pair
+
+abbrev pub texts_of_body : NodeBody → Bool
+texts_of_body = fold-NodeBody Bool Bool Bool texts_in_body texts_in_node texts_in_pair
+
+abbrev pub texts_of_pair : NodePair → Bool
+texts_of_pair = fold-NodePair Bool Bool Bool texts_in_body texts_in_node texts_in_pair
 
 -- ---- a tree without its places: each node and each key stands at line 1, column 1
 

@@ -4,5 +4,6 @@
 mod laws;
 #[cfg(test)]
 mod tests;
+mod utf8;
 
 pub use laws::what_is_printed_reads_back;

@@ -18,7 +18,10 @@ unfolding spells
 spelled file node made short text read = rw (le-ltb 262144 (length (printed node)) short, text, read) refl
 
 pub returns : goal.returns
-returns c = λ file node texts shallow differ short.
+returns c = λ shallow differ short.
+    let file = c.args.file.now in
+    let node = c.args.node.now in
+    let texts = c.node_is_text.ensures in
     let back = encoded_decoded node texts in
     let read = document_reads file (decoded node) (subst (λ tree. depth tree ≤ 64) (sym back) shallow) (ap keys_differ back ∙ differ) in
     let rows = ap rows_of (printed_chars node texts) ∙ rows_of_printed (decoded node) in
