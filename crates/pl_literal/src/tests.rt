@@ -2,7 +2,7 @@ use crate::{
     ItemKind, boolean_in, kind_of_item, kind_of_key, literal, origin_at, same_value, spells,
 };
 use pl_base::{
-    Crossing, FileKey, List, MarkedNode, Memory, Node, NodeBody, NodePair, Place, Shared,
+    Crossing, FileKey, List, MarkedNode, Memory, Node, NodeBody, NodePair, Origin, Place, Shared,
     SharedList, Text, Value,
 };
 use std::alloc::Global;
@@ -118,13 +118,28 @@ fn list(alloc: Global, line: u32, text: &str) -> Result<Node, Memory> {
     })
 }
 
-// That list as a value across so many borders.
-fn value(alloc: Global, line: u32, text: &str, borders: u32) -> Result<MarkedNode, Memory> {
+// So many borders.
+fn borders(alloc: Global, count: u32) -> Result<SharedList<Crossing>, Memory> {
     let mut crossings = SharedList::new(alloc)?;
-    for _border in 0..borders {
+    for _border in 0..count {
         crossings = crossings.with(alloc, Crossing::Made)?;
     }
-    literal(alloc, &list(alloc, line, text)?, &crossings)
+    Ok(crossings)
+}
+
+// That list as a value across these borders.
+fn across(
+    alloc: Global,
+    line: u32,
+    text: &str,
+    crossings: &SharedList<Crossing>,
+) -> Result<MarkedNode, Memory> {
+    literal(alloc, &list(alloc, line, text)?, crossings)
+}
+
+// That list as a value across so many borders.
+fn value(alloc: Global, line: u32, text: &str, count: u32) -> Result<MarkedNode, Memory> {
+    across(alloc, line, text, &borders(alloc, count)?)
 }
 
 // The kind of an array's first item.
@@ -138,21 +153,39 @@ fn first_kind(value: &Value) -> Option<ItemKind> {
     }
 }
 
+// Where a line's first node comes from, across these borders.
+fn origin_on(alloc: Global, line: u32, crossings: &SharedList<Crossing>) -> Result<Origin, Memory> {
+    origin_at(alloc, &place(alloc, line)?, crossings)
+}
+
+// Whether a value comes from that line across so many borders.
+fn comes_from(alloc: Global, node: &MarkedNode, line: u32, count: u32) -> Result<bool, Memory> {
+    let wanted = origin_on(alloc, line, &borders(alloc, count)?)?;
+    Ok(node.origin == wanted)
+}
+
+// Whether a value is the same as that list's on another line.
+fn is_same(
+    alloc: Global,
+    node: &MarkedNode,
+    line: u32,
+    text: &str,
+    count: u32,
+) -> Result<bool, Memory> {
+    let other = value(alloc, line, text, count)?;
+    Ok(same_value(&node.value, &other.value))
+}
+
 /// A literal comes from its own place across the given borders, and values are compared without that.
 #[test]
 fn literals_are_compared_without_origins(rt: HostRuntime) -> Result<(), Fail> {
     let alloc = rt.alloc();
-    let value_a = value(alloc, 3, "a", 2)?;
-    let crossings = SharedList::new(alloc)?
-        .with(alloc, Crossing::Made)?
-        .with(alloc, Crossing::Made)?;
-    assert_eq!(rt;
-        value_a.origin,
-        origin_at(alloc, &place(alloc, 3)?, &crossings)?
-    );
-    assert_eq!(rt; first_kind(&value_a.value), Some(ItemKind::Job));
-    assert!(rt; same_value(&value_a.value, &value(alloc, 8, "a", 0)?.value));
-    assert!(rt; !same_value(&value_a.value, &value(alloc, 3, "A", 2)?.value));
-    assert!(rt; !same_value(&value_a.value, &Value::Null));
+    let node = value(alloc, 3, "a", 2)?;
+    assert!(rt; comes_from(alloc, &node, 3, 2)?);
+    assert!(rt; !comes_from(alloc, &node, 3, 1)?);
+    assert_eq!(rt; first_kind(&node.value), Some(ItemKind::Job));
+    assert!(rt; is_same(alloc, &node, 8, "a", 0)?);
+    assert!(rt; !is_same(alloc, &node, 3, "A", 2)?);
+    assert!(rt; !same_value(&node.value, &Value::Null));
     Ok(())
 }
