@@ -1,0 +1,4 @@
+pub mod Blanks
+pub mod Closing
+pub mod Pieces
+pub mod Shapes

@@ -1,0 +1,8 @@
+use Rattle.std.proofs.Common.{ap, ◌∙◌}
+use Rattle.pl_template.specs.Cutting.{opening, holds_opening}
+use Rattle.std.proofs.lemmas.Str.Pattern.{contains_text}
+use Rattle.pl_texts.proofs.Contained.{contained}
+use Rattle.pl_template.proofs.cutting.begins_expression.Goals as goal
+
+pub returns : goal.returns
+returns c = contained c.contains.result _ opening (contains_text c.contains.result opening _ c.contains.ensures.cases) ∙ ap holds_opening c.as_str.ensures

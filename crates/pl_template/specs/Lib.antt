@@ -1,0 +1,5 @@
+pub mod Cutting
+pub mod Forms
+pub mod Splitting
+pub mod Words
+pub mod Keys
