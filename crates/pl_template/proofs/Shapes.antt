@@ -1,5 +1,7 @@
 -- The form of a scalar, by its first expression and its pieces.
-use Rattle.std.proofs.Common.{◌≡◌, ◌≢◌, ℕ, ◌<◌, true, false, Option, Some, None, List, [], ◌∷◌, ◌++◌, length, drop, refl, ap, sym, ◌∙◌, inl, inr, arith, length-append}
+use Rattle.std.proofs.Common.{◌≡◌, ◌≢◌, ◌+◌, ℕ, ◌<◌, true, false, Option, Some, None, List, [], ◌∷◌}
+use Rattle.std.proofs.Common.{◌++◌, length, drop, refl, ap, sym, ◌∙◌, inl, inr, arith}
+use Rattle.std.proofs.Common.{length-append}
 use Rattle.std.specs.Option.{option_map}
 use Rattle.std.specs.Str.Pattern.{FindsText, SplitsAroundMatch}
 use Rattle.std.proofs.lemmas.Bool.{cases_Bool, false≢true}
@@ -19,44 +21,72 @@ use Rattle.pl_template.proofs.Pieces.{at_other, at_opening, no_pieces, through}
 
 holds_none : (text : List ℕ) → FindsText opening text None → holds_opening text ≡ false
 holds_none text finds =
-    sym (contained false text opening ((λ e. absurd (false≢true e)), λ parts. absurd (lacks parts.0 parts.1 parts.2)))
+    sym (contained false text opening
+    ((λ e. absurd (false≢true e)), λ parts. absurd (lacks parts.0 parts.1 parts.2)))
   where
     lacks : (front rest : List ℕ) → text ≡ front ++ (opening ++ rest) → ⊥
     lacks front rest is =
-        finds (length front) (omega (arith, ap length is, length-append front (opening ++ rest))) rest (ap (drop (length front)) is ∙ drop-append_seam front (opening ++ rest))
+        finds (length front) (omega (arith, ap length is, length-append front (opening ++ rest)))
+        rest (ap (drop (length front)) is ∙ drop-append_seam front (opening ++ rest))
 
-holds_some : (text front behind : List ℕ) → SplitsAroundMatch (FindsText opening) text front behind → holds_opening text ≡ true
-holds_some text front behind (at, until, finds, front_is, behind_is, ordered, front_length, behind_length) =
+holds_some : (text front behind : List ℕ) → SplitsAroundMatch (FindsText opening) text front
+    behind → holds_opening text ≡ true
+holds_some text front behind (
+  at,
+  until,
+  finds,
+  front_is,
+  behind_is,
+  ordered,
+  front_length,
+  behind_length,
+) =
     let parts : text ≡ front ++ (opening ++ behind) =
-    sym (take-append-drop at text) ∙ (ap (λ front. front ++ drop at text) (sym front_is) ∙ ap (λ rest. front ++ rest) (finds.1.split ∙ ap (λ rest. opening ++ rest) (sym behind_is))) in
+    sym (take-append-drop at text)
+    ∙ (ap (λ front. front ++ drop at text) (sym front_is)
+    ∙ ap (λ rest. front ++ rest) (finds.1.split
+    ∙ ap (λ rest. opening ++ rest) (sym behind_is))) in
     sym (contained true text opening ((λ _. (front, behind, parts)), λ _. refl))
 
 pub plain : (text : List ℕ) → FindsText opening text None → Plain ≡ form_of text
 plain text finds = rw (holds_none text finds) refl
 
-with_pieces : (text front behind : List ℕ) (found : Option (List Piece)) → SplitsAroundMatch (FindsText opening) text front behind → pieces_of text ≡ found → form_of text ≡ form_of_pieces found
-with_pieces text front behind found cut found_is = rw (holds_some text front behind cut) (ap form_of_pieces found_is)
+with_pieces : (text front behind : List ℕ) (found : Option (List Piece)) →
+    SplitsAroundMatch (FindsText opening) text front behind → pieces_of text ≡ found →
+    form_of text ≡ form_of_pieces found
+with_pieces text front behind found cut found_is =
+    rw (holds_some text front behind cut) (ap form_of_pieces found_is)
 
-first_piece : (text front behind : List ℕ) (parts : Option (List ℕ × List ℕ)) → SplitsAroundMatch (FindsText opening) text front behind → parts ≡ split_of behind → pieces_of text ≡ prefixed (literal front) (continued parts)
-first_piece text front behind parts cut parts_is = (through text front behind cut).0 ∙ ap (λ parts. prefixed (literal front) (continued parts)) (sym parts_is)
+first_piece : (text front behind : List ℕ) (parts : Option (List ℕ × List ℕ)) →
+    SplitsAroundMatch (FindsText opening) text front behind → parts ≡ split_of behind →
+    pieces_of text ≡ prefixed (literal front) (continued parts)
+first_piece text front behind parts cut parts_is = (through text front behind cut).0
+    ∙ ap (λ parts. prefixed (literal front) (continued parts)) (sym parts_is)
 
-pub unclosed : (text front behind : List ℕ) → SplitsAroundMatch (FindsText opening) text front behind → None ≡ split_of behind → Unclosed ≡ form_of text
-unclosed text front behind cut parts = sym (with_pieces text front behind None cut (first_piece text front behind None cut parts))
+pub unclosed : (text front behind : List ℕ) → SplitsAroundMatch (FindsText opening) text front
+    behind → None ≡ split_of behind → Unclosed ≡ form_of text
+unclosed text front behind cut parts =
+    sym (with_pieces text front behind None cut (first_piece text front behind None cut parts))
 
-pub not_cut : (text front behind : List ℕ) → SplitsAroundMatch (FindsText opening) text front behind → None ≡ pieces_of text → Unclosed ≡ form_of text
+pub not_cut : (text front behind : List ℕ) → SplitsAroundMatch (FindsText opening) text front
+    behind → None ≡ pieces_of text → Unclosed ≡ form_of text
 not_cut text front behind cut none = sym (with_pieces text front behind None cut (sym none))
 
 empty : (text : List ℕ) → length text ≡ 0 → text ≡ []
 empty [] e = refl
 empty (byte ∷ text) e = absurd (omega (arith, e))
 
-pub whole : (text front behind inside rest copy : List ℕ) → SplitsAroundMatch (FindsText opening) text front behind → Some (inside, rest) ≡ split_of behind → length front ≡ 0 → length rest ≡ 0 → copy ≡ inside → Whole copy ≡ form_of text
-whole text front behind inside rest copy cut parts no_front no_rest copy_is =
-    let front_is : front ≡ [] = empty front no_front in
-    let rest_is : rest ≡ [] = empty rest no_rest in
+pub whole : (text front behind inside rest copy : List ℕ) →
+    SplitsAroundMatch (FindsText opening) text front behind →
+    Some (inside, rest) ≡ split_of behind → length front + length rest ≡ 0 → copy ≡ inside →
+    Whole copy ≡ form_of text
+whole text front behind inside rest copy cut parts alone copy_is =
+    let front_is : front ≡ [] = empty front (omega (arith, alone)) in
+    let rest_is : rest ≡ [] = empty rest (omega (arith, alone)) in
     let pieces : pieces_of text ≡ Some (Expression inside ∷ []) =
     first_piece text front behind _ cut parts
-    ∙ (ap (λ front. prefixed (literal front) (prefixed (Expression inside ∷ []) (pieces_of rest))) front_is
+    ∙ (ap (λ front. prefixed (literal front) (prefixed (Expression inside ∷ []) (pieces_of rest)))
+    front_is
     ∙ (ap (λ rest. prefixed [] (prefixed (Expression inside ∷ []) (pieces_of rest))) rest_is
     ∙ ap (λ found. prefixed [] (prefixed (Expression inside ∷ []) found)) no_pieces)) in
     ap Whole copy_is ∙ sym (with_pieces text front behind _ cut pieces)
@@ -83,17 +113,29 @@ some_text (byte ∷ text) some e =
     elim (cases_Bool (begins (byte ∷ text) opening)) [
       | inl here ↦
           let rest = drop (length opening) (byte ∷ text) in
-          let split : byte ∷ text ≡ opening ++ rest = (starts_is Decides-eqb (byte ∷ text) opening (begins (byte ∷ text) opening) refl).0 here in
+          let split : byte ∷ text ≡ opening ++ rest =
+          (starts_is Decides-eqb (byte ∷ text) opening (begins (byte ∷ text) opening) refl).0
+          here in
           continued_some (split_of rest) (sym (ap pieces_of split ∙ at_opening rest) ∙ e)
       | inr other ↦ something byte (pieces_of text) (sym (at_other byte text other) ∙ e)
     ]
 
-several : (front inside : List ℕ) (found : Option (List Piece)) (pieces : List Piece) → Some pieces ≡ prefixed (literal front) (prefixed (Expression inside ∷ []) found) → (length front ≡ 0 → found ≢ Some []) → form_of_pieces (Some pieces) ≡ Joined pieces
+several : (front inside : List ℕ) (found : Option (List Piece)) (pieces : List Piece) →
+    Some pieces ≡ prefixed (literal front) (prefixed (Expression inside ∷ []) found) →
+    (length front ≡ 0 → found ≢ Some []) → form_of_pieces (Some pieces) ≡ Joined pieces
 several front inside None pieces e more = absurd (cc)
 several [] inside (Some []) pieces e more = absurd (more refl refl)
-several [] inside (Some (next ∷ rest)) pieces e more = let is : pieces ≡ Expression inside ∷ next ∷ rest = cc in rw is refl
-several (byte ∷ front) inside (Some rest) pieces e more = let is : pieces ≡ Literal (byte ∷ front) ∷ Expression inside ∷ rest = cc in rw is refl
+several [] inside (Some (next ∷ rest)) pieces e more =
+    let is : pieces ≡ Expression inside ∷ next ∷ rest = cc in rw is refl
+several (byte ∷ front) inside (Some rest) pieces e more =
+    let is : pieces ≡ Literal (byte ∷ front) ∷ Expression inside ∷ rest = cc in rw is refl
 
-pub joined : (text front behind inside rest : List ℕ) (pieces : List Piece) → SplitsAroundMatch (FindsText opening) text front behind → Some (inside, rest) ≡ split_of behind → (length front ≡ 0 → 0 < length rest) → Some pieces ≡ pieces_of text → Joined pieces ≡ form_of text
+pub joined : (text front behind inside rest : List ℕ) (pieces : List Piece) →
+    SplitsAroundMatch (FindsText opening) text front behind →
+    Some (inside, rest) ≡ split_of behind → (length front + length rest ≡ 0 → ⊥) →
+    Some pieces ≡ pieces_of text → Joined pieces ≡ form_of text
 joined text front behind inside rest pieces cut parts more pieces_is =
-    sym (with_pieces text front behind (Some pieces) cut (sym pieces_is) ∙ several front inside (pieces_of rest) pieces (pieces_is ∙ first_piece text front behind _ cut parts) (λ no_front. some_text rest (more no_front)))
+    sym (with_pieces text front behind (Some pieces) cut (sym pieces_is)
+    ∙ several front inside (pieces_of rest) pieces (pieces_is
+    ∙ first_piece text front behind _ cut parts)
+    (λ no_front. some_text rest (omega (arith, more, no_front))))

@@ -1,6 +1,8 @@
--- A text cut into literals and expressions, each of which stands between `${{` and `}}` (Microsoft Learn, Azure
+-- A text cut into literals and expressions, each of which stands between `${{` and `}}` (Microsoft
+-- Learn, Azure
 -- Pipelines, "Template expressions").
-use Rattle.std.specs.Prelude.{ℕ, zero, suc, ◌+◌, Bool, false, not, List, [], ◌∷◌, length, drop, codes, Option, Some, None, ◌==◌, ◌&&◌, if◌then◌else◌}
+use Rattle.std.specs.Prelude.{ℕ, zero, suc, ◌+◌, Bool, false, not, List, [], ◌∷◌, length, drop}
+use Rattle.std.specs.Prelude.{codes, Option, Some, None, ◌==◌, ◌&&◌, if◌then◌else◌}
 use Rattle.std.specs.Option.{option_map}
 use Rattle.pl_texts.specs.Matching.{begins, holds}
 use Rattle.pl_template.specs.declared.forms.Piece.{Piece}
@@ -16,7 +18,8 @@ closing = codes "}}"
 abbrev pub holds_opening : List ℕ → Bool
 holds_opening text = holds text opening
 
--- A single quote opens a string and the next one closes it; a doubled one inside closes it and opens it again.
+-- A single quote opens a string and the next one closes it; a doubled one inside closes it and
+-- opens it again.
 abbrev pub is_quoted_behind : ℕ → Bool → Bool
 is_quoted_behind byte quoted = if byte == 39 then not quoted else quoted
 
@@ -24,7 +27,8 @@ is_quoted_behind byte quoted = if byte == 39 then not quoted else quoted
 abbrev pub closes : Bool → List ℕ → Bool
 closes quoted text = not quoted && begins text closing
 
--- What stands before the first `}}` outside single quotes, where a string is open or isn't. None where no such
+-- What stands before the first `}}` outside single quotes, where a string is open or isn't. None
+-- where no such
 -- `}}` stands.
 unfoldable pub before_closing : Bool → List ℕ → Option (List ℕ)
 before_closing quoted [] = None
@@ -41,10 +45,13 @@ onto byte (Expression inside ∷ pieces) = Literal (byte ∷ []) ∷ Expression 
 -- an expression, and what stands behind its four braces
 abbrev pub followed : Option (List ℕ) → (ℕ → Option (List Piece)) → Option (List Piece)
 followed None rest = None
-followed (Some inside) rest = option_map (λ pieces. Expression inside ∷ pieces) (rest (length inside + 4))
+followed (Some inside) rest =
+    option_map (λ pieces. Expression inside ∷ pieces) (rest (length inside + 4))
 
--- From left to right, once so many bytes were passed over: where `${{` stands an expression comes, up to the first
--- `}}` outside single quotes, and those bytes are passed over. Any other byte is a literal's. None where an
+-- From left to right, once so many bytes were passed over: where `${{` stands an expression comes,
+-- up to the first
+-- `}}` outside single quotes, and those bytes are passed over. Any other byte is a literal's. None
+-- where an
 -- expression has no end.
 unfoldable pub pieces_behind : ℕ → List ℕ → Option (List Piece)
 pieces_behind passed [] = Some []

@@ -1,13 +1,16 @@
--- The form of a key (Microsoft Learn, Azure Pipelines, "Template expressions": conditional insertion, iterative
+-- The form of a key (Microsoft Learn, Azure Pipelines, "Template expressions": conditional
+-- insertion, iterative
 -- insertion, the insert directive).
-use Rattle.std.specs.Prelude.{ℕ, Bool, false, List, [], ◌∷◌, codes, Option, Some, None, is_some, ◌&&◌, if◌then◌else◌}
+use Rattle.std.specs.Prelude.{ℕ, Bool, false, List, [], ◌∷◌, codes, Option, Some, None, is_some}
+use Rattle.std.specs.Prelude.{◌&&◌, if◌then◌else◌}
 use Rattle.std.specs.List.{list_any}
 use Rattle.pl_template.specs.declared.forms.Piece.{Piece}
 use Rattle.pl_template.specs.declared.forms.Piece.TheVariants.{Literal, Expression}
 use Rattle.pl_template.specs.declared.forms.ScalarForm.{ScalarForm}
 use Rattle.pl_template.specs.declared.forms.ScalarForm.TheVariants as scalar
 use Rattle.pl_template.specs.declared.forms.KeyForm.{KeyForm}
-use Rattle.pl_template.specs.declared.forms.KeyForm.TheVariants.{Plain, Computed, If, ElseIf, Else, Each, Insert, Bad}
+use Rattle.pl_template.specs.declared.forms.KeyForm.TheVariants.{Plain, Computed, If, ElseIf, Else}
+use Rattle.pl_template.specs.declared.forms.KeyForm.TheVariants.{Each, Insert, Bad}
 use Rattle.pl_template.specs.declared.directive.Directive.{Directive}
 use Rattle.pl_template.specs.declared.directive.Directive.TheVariants as directive
 use Rattle.pl_template.specs.Forms.{form_of}
@@ -42,7 +45,8 @@ abbrev pub each_form : List ℕ → KeyForm
 each_form text =
     let name = first_word text in
     let behind = behind_word text in
-    if is_name name && is (first_word behind) (codes "in") then with_expression (behind_word behind) (Each name)
+    if is_name name && is (first_word behind) (codes "in") then with_expression (behind_word behind)
+    (Each name)
     else Bad
 
 -- what a directive makes of the text behind its word
@@ -66,7 +70,8 @@ is_directive (Expression inside) = is_some (directive_of inside)
 abbrev pub form_of_key : ScalarForm → KeyForm
 form_of_key scalar.Plain = Plain
 form_of_key (scalar.Whole inside) = whole_form (directive_of inside) inside
-form_of_key (scalar.Joined pieces) = if list_any is_directive pieces then Bad else Computed (scalar.Joined pieces)
+form_of_key (scalar.Joined pieces) =
+    if list_any is_directive pieces then Bad else Computed (scalar.Joined pieces)
 form_of_key scalar.Unclosed = Bad
 
 abbrev pub key_form_of : List ℕ → KeyForm

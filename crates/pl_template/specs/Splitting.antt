@@ -7,7 +7,8 @@ use Rattle.pl_template.specs.Cutting.{before_closing, pieces_of}
 
 -- what stands before the first `}}` outside single quotes, and what stands behind it
 abbrev pub split_of : List ℕ → Option (List ℕ × List ℕ)
-split_of text = option_map (λ inside. (inside, drop (length inside + 2) text)) (before_closing false text)
+split_of text =
+    option_map (λ inside. (inside, drop (length inside + 2) text)) (before_closing false text)
 
 -- the literal of a text, where it has a character
 abbrev pub literal : List ℕ → List Piece

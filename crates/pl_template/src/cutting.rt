@@ -1,4 +1,4 @@
-ghost use Rattle.std.specs.Prelude.{◌≡◌, ◌++◌, ◌∷◌, [], IfOk, OnOk};
+ghost use Rattle.std.specs.Prelude.{◌≡◌, ◌↔◌, ◌+◌, ◌++◌, ◌∷◌, [], length, IsTrue, IfOk, OnOk};
 ghost use Rattle.pl_template.specs.declared.forms.Piece.TheVariants.{Expression};
 ghost use Rattle.pl_template.specs.Cutting.{holds_opening, pieces_of};
 ghost use Rattle.pl_template.specs.Forms.{form_of};
@@ -16,9 +16,11 @@ pub fn begins_expression(text: &Text) -> bool
     text.as_str().contains("${{")
 }
 
-/// How expressions stand in a scalar's text (Microsoft Learn, Azure Pipelines, "Template expressions").
+/// How expressions stand in a scalar's text (Microsoft Learn, Azure Pipelines, "Template
+/// expressions").
 ///
-/// An expression begins at `${{` and ends at the first `}}` outside single quotes: a quote opens a string, and the
+/// An expression begins at `${{` and ends at the first `}}` outside single quotes: a quote opens a
+/// string, and the
 /// next one closes it. What stands between is told as it stands. Memory where memory is wanting.
 pub fn scalar_form(alloc: Global, text: &Text) -> Result<ScalarForm, Memory>
     ensures { IfOk result (λ form. form ≡ form_of text.now) }
@@ -30,13 +32,20 @@ pub fn scalar_form(alloc: Global, text: &Text) -> Result<ScalarForm, Memory>
     let Some((inside, rest)) = split_closing(behind) else {
         return Ok(ScalarForm::Unclosed);
     };
-    if front.is_empty() && rest.is_empty() {
+    if is_alone(front, rest) {
         return Ok(ScalarForm::Whole(Text::from_str(alloc, inside)?));
     }
     match pieces_of(alloc, text)? {
         Some(pieces) => Ok(ScalarForm::Joined(pieces)),
         None => Ok(ScalarForm::Unclosed),
     }
+}
+
+/// Whether nothing stands in front of an expression and nothing behind it.
+fn is_alone(front: &str, rest: &str) -> bool
+    ensures { IsTrue result ↔ (length front.now + length rest.now ≡ 0) }
+{
+    front.is_empty() && rest.is_empty()
 }
 
 /// The pieces of a text, or None where an expression has no end.

@@ -1,6 +1,7 @@
 use pl_base::{List, Text};
 
-/// A piece of a text: characters that stand for themselves, or the text between `${{` and `}}`, as it stands.
+/// A piece of a text: characters that stand for themselves, or the text between `${{` and `}}`, as
+/// it stands.
 #[derive(Drop)]
 pub enum Piece {
     Literal(Text),
@@ -14,7 +15,8 @@ pub enum ScalarForm {
     Plain,
     /// The text is one expression, from `${{` to `}}`: the text between.
     Whole(Text),
-    /// The pieces from left to right, of which one is an expression and at least two are there. No literal is empty or
+    /// The pieces from left to right, of which one is an expression and at least two are there. No
+    /// literal is empty or
     /// touches another one.
     Joined(List<Piece>),
     /// An expression has no `}}` outside single quotes.

@@ -1,4 +1,5 @@
-//! Where expressions stand in the texts of templates: the form of a scalar, and the form of a key, which may be a
+//! Where expressions stand in the texts of templates: the form of a scalar, and the form of a key,
+//! which may be a
 //! directive.
 #![tactic(auto)]
 
@@ -7,8 +8,12 @@ mod directive;
 mod ends;
 mod forms;
 mod keys;
+mod laws;
+#[cfg(test)]
+mod tests;
 mod words;
 
 pub use cutting::{begins_expression, scalar_form};
 pub use forms::{KeyForm, Piece, ScalarForm};
 pub use keys::key_form;
+pub use laws::form_laws;

@@ -5,4 +5,7 @@ use Rattle.pl_texts.proofs.Contained.{contained}
 use Rattle.pl_template.proofs.cutting.begins_expression.Goals as goal
 
 pub returns : goal.returns
-returns c = contained c.contains.result _ opening (contains_text c.contains.result opening _ c.contains.ensures.cases) ∙ ap holds_opening c.as_str.ensures
+returns c =
+    contained c.contains.result _ opening
+    (contains_text c.contains.result opening _ c.contains.ensures.cases)
+    ∙ ap holds_opening c.as_str.ensures

@@ -5,4 +5,6 @@ use Rattle.pl_template.proofs.Closing.{end_behind}
 use Rattle.pl_template.proofs.ends.count_inside.Given as goal
 
 abbrev pub invariant-loop-count : goal.invariant-loop-count
-invariant-loop-count l = option_map length (before_closing false l.bytes) ≡ end_behind l.count l.quoted (drop l.count l.bytes)
+invariant-loop-count l =
+    option_map length (before_closing false l.bytes) ≡ end_behind l.count l.quoted
+    (drop l.count l.bytes)

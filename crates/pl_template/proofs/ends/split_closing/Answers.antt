@@ -5,7 +5,9 @@ pub split_at-requires : goal.split_at-requires
 split_at-requires c = may_cut_before _ _ (is_end _ _ c.in_ok-count.ensures)
 
 pub skip_closing-requires : goal.skip_closing-requires
-skip_closing-requires c = begins_closing _ _ _ (is_end _ _ c.in_ok-count.ensures) c.split_at.ensures.back
+skip_closing-requires c =
+    begins_closing _ _ _ (is_end _ _ c.in_ok-count.ensures) c.split_at.ensures.back
 
 pub returns : goal.returns
-returns c = is_split _ _ _ _ _ (is_end _ _ c.in_ok-count.ensures) c.split_at.ensures.front c.split_at.ensures.back c.skip_closing.ensures
+returns c = is_split _ _ _ _ _ (is_end _ _ c.in_ok-count.ensures) c.split_at.ensures.front
+    c.split_at.ensures.back c.skip_closing.ensures

@@ -4,4 +4,5 @@ use Rattle.pl_template.specs.Words.{is_in_word}
 use Rattle.pl_template.proofs.words.count_word.Given as goal
 
 abbrev pub invariant-loop-count : goal.invariant-loop-count
-invariant-loop-count l = prefix_len is_in_word l.bytes ≡ l.count + prefix_len is_in_word (drop l.count l.bytes)
+invariant-loop-count l =
+    prefix_len is_in_word l.bytes ≡ l.count + prefix_len is_in_word (drop l.count l.bytes)
