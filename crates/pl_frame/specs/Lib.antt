@@ -1,8 +1,13 @@
 pub mod Bindings
+pub mod Counting
 pub mod Doubles
 pub mod Expressions
 pub mod Gives
+pub mod Members
+pub mod Moves
 pub mod Names
 pub mod Origins
+pub mod Placing
+pub mod Repeats
 pub mod Trees
 pub mod Variables

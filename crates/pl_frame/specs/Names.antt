@@ -1,13 +1,13 @@
 -- What names stand for in a frame (Microsoft Learn, Azure Pipelines, "Templates" and "Expressions",
 -- Contexts): the loops around, the parameters and the variables.
-use Rattle.std.specs.Prelude.{ℕ, ◌++◌, Bool, true, false, List, [], ◌∷◌, map, reverse, codes}
+use Rattle.std.specs.Prelude.{ℕ, ◌++◌, false, List, [], ◌∷◌, map, reverse, codes}
 use Rattle.std.specs.Prelude.{if◌then◌else◌}
 use Rattle.std.specs.FinMap as finite
 use Rattle.pl_base.specs.Folding.{folded}
 use Rattle.pl_base.specs.declared.origin.Crossing.TheVariants.{Argument}
 use Rattle.pl_base.specs.declared.origin.Origin.{Origin}
 use Rattle.pl_base.specs.declared.place.Place.{Place}
-use Rattle.pl_base.specs.declared.value.Value.{Value, Str, Object}
+use Rattle.pl_base.specs.declared.value.Value.{Str, Object}
 use Rattle.pl_base.specs.declared.value.MarkedNode.{MarkedNode}
 use Rattle.pl_base.specs.declared.value.MarkedPair.{MarkedPair}
 use Rattle.pl_eval.specs.Known.{Known}

@@ -1,5 +1,5 @@
 -- Trees of values: how many nodes they have, and other origins for all of their nodes.
-use Rattle.std.specs.Prelude.{ℕ, ◌+◌, sum, List, Option, Some, None, nat_le, if◌then◌else◌}
+use Rattle.std.specs.Prelude.{ℕ, ◌+◌, sum, Option, Some, None, nat_le, if◌then◌else◌}
 use Rattle.pl_base.specs.declared.origin.Origin.{Origin}
 use Rattle.pl_base.specs.declared.value.Value.{Value, fold-Value}
 use Rattle.pl_base.specs.declared.value.Value as value
@@ -7,7 +7,7 @@ use Rattle.pl_base.specs.declared.value.Value.TheOpen.{Value-F, MarkedNode-F, Ma
 use Rattle.pl_base.specs.declared.value.Value.TheOpen.{Bool as Truth, Number, Version, Str, Array}
 use Rattle.pl_base.specs.declared.value.Value.TheOpen.{Object}
 use Rattle.pl_base.specs.declared.value.MarkedNode.{MarkedNode, fold-MarkedNode}
-use Rattle.pl_base.specs.declared.value.MarkedPair.{MarkedPair, fold-MarkedPair}
+use Rattle.pl_base.specs.declared.value.MarkedPair.{MarkedPair}
 
 -- ---- the number of nodes; keys are none
 

@@ -1,0 +1,9 @@
+pub mod Bound
+pub mod Doubled
+pub mod Found
+pub mod Named
+pub mod Places
+pub mod Refusing
+pub mod Status
+pub mod Varying
+pub mod Walking
