@@ -11,7 +11,8 @@ use Rattle.pl_eval.specs.Means.{means}
 use Rattle.pl_frame.specs.declared.problem.ExpressionProblem.TheVariants.{Undefined}
 use Rattle.pl_frame.specs.Expressions.{defined}
 
-pub refused : (known : Known) (here made : Origin) (expr : Expr) (why : EvalFault) (code : EvalCode) →
+pub refused : (known : Known) (here made : Origin) (expr : Expr) (why : EvalFault)
+    (code : EvalCode) →
     why ≡ fault.Refused code → Refuses why (means known here expr) → here ≡ made →
     defined (means known made expr) ≡ Err (Undefined code)
 refused known here made expr why code why_is refuses here_is =

@@ -53,7 +53,7 @@ abbrev pub variables_at : Frame → Place → MarkedNode
 variables_at frame place =
     made (made_at frame place) (Object (map (variable_pair frame place) frame.variables))
 
--- ---- all names, the case of letters aside: a loop's before the contexts, and an inner loop's before an outer one's
+-- ---- all names, the case aside: an inner loop's, an outer loop's, and then the contexts
 
 abbrev pub loop_entry : Loop → List ℕ × MarkedNode
 loop_entry one = (folded one.name, one.item)

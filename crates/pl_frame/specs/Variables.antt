@@ -58,7 +58,7 @@ run_variables git_ref =
     ∷ variable (codes "Build.Reason") (Str (codes "Manual"))
     ∷ []
 
--- ---- a later one stands in the place of an earlier one of its name, the case aside, and else behind all
+-- ---- a later one stands in the place of an earlier one of its name, and else behind all
 
 abbrev pub placed : List Variable → Variable → List Variable
 placed [] later = later ∷ []

@@ -9,9 +9,9 @@ use pl_base::{Crossing, ExactCopy, List, MarkedNode, Memory, SharedList};
 use pl_params::{Bound, Declared, Param};
 use std::alloc::Global;
 
-/// The parameters of a frame that crossed these borders: each declared one with what is bound to it, in
-/// order, as far as both lists go. What wasn't given is the default, a literal of the frame's file.
-/// Memory comes too where a default is deeper than `DEEPEST`.
+/// The parameters of a frame that crossed these borders: each declared one with what is bound to
+/// it, in order, as far as both lists go. What wasn't given is the default, a literal of the
+/// frame's file. Memory comes too where a default is deeper than `DEEPEST`.
 pub fn parameters_of(
     alloc: Global,
     crossings: &SharedList<Crossing>,
@@ -59,7 +59,8 @@ fn standing(
     value: MarkedNode,
     given: bool,
 ) -> Result<MarkedNode, Memory>
-    ensures { IfOk result (λ node. node ≡ (if given then value else moved (crossed crossings.now) value)) }
+    ensures { IfOk result
+        (λ node. node ≡ (if given then value else moved (crossed crossings.now) value)) }
 {
     if given {
         return Ok(value);

@@ -1,6 +1,7 @@
 ghost use Rattle.std.specs.Prelude.{◌≡◌, map, IfOk};
 ghost use Rattle.pl_eval.specs.LookUps.{made};
-ghost use Rattle.pl_frame.specs.Names.{taken, parameter_pair, parameters_at, variable_pair, variables_at};
+ghost use Rattle.pl_frame.specs.Names.{taken, parameter_pair, parameters_at, variable_pair};
+ghost use Rattle.pl_frame.specs.Names.{variables_at};
 ghost use Rattle.pl_frame.specs.Trees.{all_moved};
 ghost use Rattle.pl_frame.specs.Members.{made_pair};
 
@@ -10,8 +11,8 @@ use crate::origins::{literal_at, made_at};
 use pl_base::{Crossing, ExactCopy, List, MarkedNode, MarkedPair, Memory, Origin, Place, Value};
 use std::alloc::Global;
 
-/// What an expression at a place takes of a parameter: what was given crosses the parameter once more,
-/// and a default stays as it is.
+/// What an expression at a place takes of a parameter: what was given crosses the parameter once
+/// more, and a default stays as it is.
 pub fn taken(alloc: Global, place: &Place, parameter: &Parameter) -> Result<MarkedNode, Memory>
     ensures { IfOk result (λ node. node ≡ taken place.now parameter.now) }
 {
@@ -61,7 +62,8 @@ pub fn variable_node(
     here: &Origin,
     variable: &Variable,
 ) -> Result<MarkedNode, Memory>
-    ensures { IfOk result (λ node. node ≡ made here.now (all_moved (λ _. here.now) variable.now.value)) }
+    ensures { IfOk result
+        (λ node. node ≡ made here.now (all_moved (λ _. here.now) variable.now.value)) }
 {
     let value = move_to(alloc, &variable.value, here)?;
     let origin = here.copy(alloc)?;

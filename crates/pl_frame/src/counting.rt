@@ -4,8 +4,8 @@ ghost use Rattle.pl_frame.specs.Counting.{left_of, nodes_in_value, nodes_in_pair
 
 use pl_base::{List, MarkedNode, MarkedPair, Value};
 
-/// How many nodes a tree has, keys not counted, or None where there are more than `most`. It takes no
-/// memory, and looks at no more than so many nodes.
+/// How many nodes a tree has, keys not counted, or None where there are more than `most`. It takes
+/// no memory, and looks at no more than so many nodes.
 pub fn count_nodes(node: &MarkedNode, most: u32) -> Option<u32>
     ensures { result ≡ at_most most (nodes_in node.now) }
 {

@@ -12,8 +12,8 @@ use std::collections::BTreeSet;
 /// How many pairs are compared one by one before their keys are kept in an ordered set.
 const FEW: usize = 8;
 
-/// Where the first key comes from that stands before it in the list, keys compared exactly. None where
-/// no key stands twice. Memory where memory is wanting.
+/// Where the first key comes from that stands before it in the list, keys compared exactly. None
+/// where no key stands twice. Memory where memory is wanting.
 pub fn first_double(alloc: Global, pairs: &List<MarkedPair>) -> Result<Option<Place>, Memory>
     ensures { IfOk result (λ place. place ≡ first_double pairs.now) }
 {

@@ -11,10 +11,10 @@ use pl_eval::{EvalFault, eval};
 use pl_expr::{Expr, ExprFault, Mode, parse};
 use std::alloc::Global;
 
-/// The value of an expression's text at a place of a frame's file (Microsoft Learn, Azure Pipelines,
-/// "Expressions"): over the frame's loops, parameters and variables, what it makes being made at that
-/// place. Unparsed where the text is no expression of templates, Undefined where it has no value.
-/// Memory may come at any time.
+/// The value of an expression's text at a place of a frame's file (Microsoft Learn, Azure
+/// Pipelines, "Expressions"): over the frame's loops, parameters and variables, what it makes being
+/// made at that place. Unparsed where the text is no expression of templates, Undefined where it
+/// has no value. Memory may come at any time.
 pub fn expression_at(
     alloc: Global,
     frame: &Frame,

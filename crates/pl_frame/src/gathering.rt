@@ -9,8 +9,8 @@ use pl_base::{List, Memory, Text};
 use std::alloc::Global;
 use std::collections::HashMap;
 
-/// Variables, of which no two have one name, the case of ASCII's letters aside, and where each name in
-/// upper case stands.
+/// Variables, of which no two have one name, the case of ASCII's letters aside, and where each name
+/// in upper case stands.
 #[derive(Drop)]
 pub struct Gathered {
     pub variables: List<Variable>,

@@ -64,7 +64,8 @@ fn name_in(alloc: Global, at: &Value) -> Result<Option<Text>, Memory>
 /// The first parameter of that name, the case of letters aside.
 #[tactic(auto, using(crate::proofs::Walking::find_yes, crate::proofs::Walking::find_no))]
 fn parameter_named<'p>(parameters: &'p List<Parameter>, name: &Text) -> Option<&'p Parameter>
-    ensures { option_copied result ≡ find (λ parameter. same_name name.now parameter.name) parameters.now }
+    ensures { option_copied result ≡ find (λ parameter. same_name name.now parameter.name)
+        parameters.now }
 {
     for parameter in parameters.as_slice() {
         if is_named(&parameter.name, name) {
@@ -77,7 +78,8 @@ fn parameter_named<'p>(parameters: &'p List<Parameter>, name: &Text) -> Option<&
 /// The first variable of that name, the case of letters aside.
 #[tactic(auto, using(crate::proofs::Walking::find_yes, crate::proofs::Walking::find_no))]
 fn variable_named<'v>(variables: &'v List<Variable>, name: &Text) -> Option<&'v Variable>
-    ensures { option_copied result ≡ find (λ variable. same_name name.now variable.name) variables.now }
+    ensures { option_copied result ≡ find (λ variable. same_name name.now variable.name)
+        variables.now }
 {
     for variable in variables.as_slice() {
         if is_named(&variable.name, name) {
@@ -94,7 +96,10 @@ pub fn parameter_member(
     place: &Place,
     at: &Value,
 ) -> Result<RootMember, Memory>
-    ensures { IfOk result (λ member. member ≡ member_of (Some (found (object (map (parameter_pair frame.now place.now) frame.now.parameters)) at.now))) }
+    ensures { IfOk result
+        (λ member. member ≡ member_of
+        (Some (found (object (map (parameter_pair frame.now place.now) frame.now.parameters))
+        at.now))) }
 {
     let Some(name) = name_in(alloc, at)? else {
         return Ok(RootMember::Missing);
@@ -112,7 +117,10 @@ pub fn variable_member(
     place: &Place,
     at: &Value,
 ) -> Result<RootMember, Memory>
-    ensures { IfOk result (λ member. member ≡ member_of (Some (found (object (map (variable_pair frame.now place.now) frame.now.variables)) at.now))) }
+    ensures { IfOk result
+        (λ member. member ≡ member_of
+        (Some (found (object (map (variable_pair frame.now place.now) frame.now.variables))
+        at.now))) }
 {
     let Some(name) = name_in(alloc, at)? else {
         return Ok(RootMember::Missing);

@@ -20,8 +20,8 @@ enum Move {
     To(Origin),
 }
 
-/// A tree whose nodes and keys have one crossing more. Memory comes too where the tree is deeper than
-/// `DEEPEST`.
+/// A tree whose nodes and keys have one crossing more. Memory comes too where the tree is deeper
+/// than `DEEPEST`.
 pub fn cross(alloc: Global, node: &MarkedNode, crossing: &Crossing) -> Result<MarkedNode, Memory>
     ensures { IfOk result (λ moved_node. moved_node ≡ moved (across crossing.now) node.now) }
 {
@@ -29,8 +29,8 @@ pub fn cross(alloc: Global, node: &MarkedNode, crossing: &Crossing) -> Result<Ma
     node_by(alloc, node, &by, DEEPEST)
 }
 
-/// A tree whose nodes and keys have the same sources across these borders. Memory comes too where the
-/// tree is deeper than `DEEPEST`.
+/// A tree whose nodes and keys have the same sources across these borders. Memory comes too where
+/// the tree is deeper than `DEEPEST`.
 pub fn reach(
     alloc: Global,
     node: &MarkedNode,
@@ -42,8 +42,8 @@ pub fn reach(
     node_by(alloc, node, &by, DEEPEST)
 }
 
-/// A value whose nodes and keys all have that origin. Memory comes too where the value is deeper than
-/// `DEEPEST`.
+/// A value whose nodes and keys all have that origin. Memory comes too where the value is deeper
+/// than `DEEPEST`.
 pub fn move_to(alloc: Global, value: &Value, here: &Origin) -> Result<Value, Memory>
     ensures { IfOk result (λ moved_value. moved_value ≡ all_moved (λ _. here.now) value.now) }
 {

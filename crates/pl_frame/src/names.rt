@@ -59,7 +59,8 @@ fn context(
     place: &Place,
     root: &Text,
 ) -> Result<Option<MarkedNode>, Memory>
-    ensures { IfOk result (λ node. node ≡ finite.find text_cmp (folded root.now) (contexts_at frame.now place.now)) }
+    ensures { IfOk result
+        (λ node. node ≡ finite.find text_cmp (folded root.now) (contexts_at frame.now place.now)) }
 {
     if spells(root.as_str(), "parameters") {
         return Ok(Some(parameters_at(alloc, frame, place)?));
@@ -78,7 +79,10 @@ fn context_member(
     root: &Text,
     at: &Value,
 ) -> Result<RootMember, Memory>
-    ensures { IfOk result (λ member. member ≡ member_of (option_map (λ node. found node.value at.now) (finite.find text_cmp (folded root.now) (contexts_at frame.now place.now)))) }
+    ensures { IfOk result
+        (λ member. member ≡ member_of
+        (option_map (λ node. found node.value at.now)
+        (finite.find text_cmp (folded root.now) (contexts_at frame.now place.now)))) }
 {
     if spells(root.as_str(), "parameters") {
         return parameter_member(alloc, frame, place, at);

@@ -3,7 +3,9 @@ ghost use Rattle.pl_base.specs.declared.value.Value.{Str, out-Value};
 ghost use Rattle.pl_frame.specs.Placing.{placed_if};
 ghost use Rattle.std.specs.List.{filter_map};
 ghost use Rattle.std.specs.Option.{option_copied};
-ghost use Rattle.pl_frame.specs.Variables.{variable, pair_variable, under, named_variable, item_variable, written_in, last_segment, run_variables, placed, variables_of};
+ghost use Rattle.pl_frame.specs.Variables.{variable, pair_variable, under, named_variable};
+ghost use Rattle.pl_frame.specs.Variables.{item_variable, written_in, last_segment, run_variables};
+ghost use Rattle.pl_frame.specs.Variables.{placed, variables_of};
 
 use crate::frame::Variable;
 use crate::gathering::Gathered;
@@ -12,12 +14,13 @@ use pl_expr::to_text;
 use std::alloc::Global;
 
 /// The variables that templates see (Microsoft Learn, Azure Pipelines, "Define variables" and
-/// "Predefined variables"): those that the root file's `variables` gives, and then the run's ref, its
-/// last segment, and that it was queued by hand.
+/// "Predefined variables"): those that the root file's `variables` gives, and then the run's ref,
+/// its last segment, and that it was queued by hand.
 ///
-/// A mapping gives one for each pair. A list gives one for each item with `name` and `value`, the name
-/// cast to text; its other items give none. Any other value gives none. A later one stands in the place
-/// of an earlier one of its name, the case of ASCII's letters aside. Memory where memory is wanting.
+/// A mapping gives one for each pair. A list gives one for each item with `name` and `value`, the
+/// name cast to text; its other items give none. Any other value gives none. A later one stands in
+/// the place of an earlier one of its name, the case of ASCII's letters aside. Memory where memory
+/// is wanting.
 pub fn variables_of(alloc: Global, git_ref: &Text, value: &Value) -> Result<List<Variable>, Memory>
     ensures { IfOk result (λ all. all ≡ variables_of git_ref.now value.now) }
 {
@@ -28,7 +31,8 @@ pub fn variables_of(alloc: Global, git_ref: &Text, value: &Value) -> Result<List
 
 /// The variables with those that a value gives.
 fn with_written(alloc: Global, before: Gathered, value: &Value) -> Result<Gathered, Memory>
-    ensures { IfOk result (λ all. all.variables ≡ fold placed before.variables (written_in (out-Value value.now))) }
+    ensures { IfOk result
+        (λ all. all.variables ≡ fold placed before.variables (written_in (out-Value value.now))) }
 {
     match value {
         Value::Object(pairs) => with_pairs(alloc, before, pairs),
@@ -39,7 +43,8 @@ fn with_written(alloc: Global, before: Gathered, value: &Value) -> Result<Gather
 
 /// The variables with those of a mapping's pairs.
 fn with_pairs(alloc: Global, before: Gathered, pairs: &List<MarkedPair>) -> Result<Gathered, Memory>
-    ensures { IfOk result (λ all. all.variables ≡ fold placed before.variables (map pair_variable pairs.now)) }
+    ensures { IfOk result
+        (λ all. all.variables ≡ fold placed before.variables (map pair_variable pairs.now)) }
 {
     let mut all = before;
     for pair in pairs.as_slice() {
@@ -51,7 +56,8 @@ fn with_pairs(alloc: Global, before: Gathered, pairs: &List<MarkedPair>) -> Resu
 
 /// The variables with those of a list's items.
 fn with_items(alloc: Global, before: Gathered, items: &List<MarkedNode>) -> Result<Gathered, Memory>
-    ensures { IfOk result (λ all. all.variables ≡ fold placed before.variables (filter_map item_variable items.now)) }
+    ensures { IfOk result
+        (λ all. all.variables ≡ fold placed before.variables (filter_map item_variable items.now)) }
 {
     let mut all = before;
     for item in items.as_slice() {
@@ -62,7 +68,8 @@ fn with_items(alloc: Global, before: Gathered, items: &List<MarkedNode>) -> Resu
 
 /// The variables with that of an item, where it gives one.
 fn with_item(alloc: Global, before: Gathered, item: &MarkedNode) -> Result<Gathered, Memory>
-    ensures { IfOk result (λ all. all.variables ≡ placed_if before.variables (item_variable item.now)) }
+    ensures { IfOk result
+        (λ all. all.variables ≡ placed_if before.variables (item_variable item.now)) }
 {
     match item_variable(alloc, item)? {
         Some(later) => before.with(alloc, later),
@@ -102,7 +109,8 @@ fn under<'p>(key: &str, pairs: &'p List<MarkedPair>) -> Option<&'p Value>
 
 /// The variables with those of the run: its ref, the ref's last segment, and the reason.
 fn with_run(alloc: Global, before: Gathered, git_ref: &str) -> Result<Gathered, Memory>
-    ensures { IfOk result (λ all. all.variables ≡ fold placed before.variables (run_variables git_ref.now)) }
+    ensures { IfOk result
+        (λ all. all.variables ≡ fold placed before.variables (run_variables git_ref.now)) }
 {
     let branch = text_variable(alloc, "Build.SourceBranch", git_ref)?;
     let name = text_variable(alloc, "Build.SourceBranchName", last_segment(git_ref))?;

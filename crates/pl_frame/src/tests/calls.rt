@@ -12,7 +12,8 @@ fn pair_node(alloc: Global) -> Result<MarkedNode, Memory> {
     pair_object(alloc, &frame(alloc)?, &place(alloc, 9)?, pair)
 }
 
-/// A pair's key and value are the object's properties, and a border is crossed by all nodes and keys.
+/// A pair's key and value are the object's properties, and a border is crossed by all nodes and
+/// keys.
 #[test]
 fn pairs_are_objects(rt: HostRuntime) -> Result<(), Fail> {
     let alloc = rt.alloc();

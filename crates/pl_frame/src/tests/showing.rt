@@ -1,5 +1,5 @@
-//! Values with their origins, in short: a value or key, `@` and its line, and a mark for each border:
-//! `+` for a template, `^NAME` for a parameter, `!` where it was made.
+//! Values with their origins, in short: a value or key, `@` and its line, and a mark for each
+//! border: `+` for a template, `^NAME` for a parameter, `!` where it was made.
 use pl_base::{Crossing, List, MarkedNode, MarkedPair, Memory, Origin, Text, Value};
 use pl_expr::to_text;
 use std::alloc::Global;

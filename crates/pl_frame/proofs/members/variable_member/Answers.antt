@@ -12,18 +12,23 @@ use Rattle.pl_frame.proofs.members.variable_member.Goals as goal
 pub returns-in_default-variable_named : goal.returns-in_default-variable_named
 returns-in_default-variable_named c =
     ap (λ found. member_of (Some found))
-    (made_found (variable_pair c.args.frame.now c.args.place.now) c.args.frame.now.variables c.args.at.now _ c.in-Some.name _
+    (made_found (variable_pair c.args.frame.now c.args.place.now) c.args.frame.now.variables
+    c.args.at.now _ c.in-Some.name _
     c.in_ok-name.ensures c.in-Some.is
-    (c.in_default-variable_named.ensures ∙ ap (find (λ variable. same_name c.in-Some.name variable.name)) c.deref.ensures))
+    (c.in_default-variable_named.ensures
+    ∙ ap (find (λ variable. same_name c.in-Some.name variable.name)) c.deref.ensures))
 
 pub returns : goal.returns
 returns c =
     let here = made_at c.args.frame.now c.args.place.now in
     let value = c.in-Some-variable_named.variable.now.value in
     let node : c.in_ok-variable_node.field-0 ≡ made here (all_moved (λ _. here) value) =
-    c.in_ok-variable_node.ensures ∙ ap (λ (here : Origin). made here (all_moved (λ _. here) value)) c.in_ok-here.ensures in
+    c.in_ok-variable_node.ensures ∙ ap (λ (here : Origin). made here (all_moved (λ _. here) value))
+    c.in_ok-here.ensures in
     ap (λ node. Found node) node
     ∙ ap (λ found. member_of (Some found))
-    (made_found (variable_pair c.args.frame.now c.args.place.now) c.args.frame.now.variables c.args.at.now _ c.in-Some.name _
+    (made_found (variable_pair c.args.frame.now c.args.place.now) c.args.frame.now.variables
+    c.args.at.now _ c.in-Some.name _
     c.in_ok-name.ensures c.in-Some.is
-    (c.in-Some-variable_named.ensures ∙ ap (find (λ variable. same_name c.in-Some.name variable.name)) c.deref.ensures))
+    (c.in-Some-variable_named.ensures
+    ∙ ap (find (λ variable. same_name c.in-Some.name variable.name)) c.deref.ensures))

@@ -10,6 +10,8 @@ returns c =
     let run = run_variables c.args.git_ref.now in
     c.into_variables.ensures
     ∙ (c.in_ok-all.ensures
-    ∙ (ap (λ text. fold placed c.in_ok-written.written.variables (run_variables text)) c.as_str.ensures
-    ∙ (ap (λ all. fold placed all run) (c.in_ok-written.ensures ∙ ap (λ none. fold placed none written) c.new.ensures)
+    ∙ (ap (λ text. fold placed c.in_ok-written.written.variables (run_variables text))
+    c.as_str.ensures
+    ∙ (ap (λ all. fold placed all run) (c.in_ok-written.ensures
+    ∙ ap (λ none. fold placed none written) c.new.ensures)
     ∙ sym (fold-append placed [] written run))))

@@ -6,6 +6,8 @@ use Rattle.pl_frame.proofs.variables.with_run.Goals as goal
 
 pub returns : goal.returns
 returns c =
-    three _ _ _ _ _ _ _ _ _ _ c.in_ok-with_branch.ensures c.in_ok-with_name.ensures c.in_ok-all.ensures c.in_ok-branch.ensures
-    (c.in_ok-name.ensures ∙ ap (λ text. variable (codes "Build.SourceBranchName") (Str text)) c.last_segment.ensures)
+    three _ _ _ _ _ _ _ _ _ _ c.in_ok-with_branch.ensures c.in_ok-with_name.ensures
+    c.in_ok-all.ensures c.in_ok-branch.ensures
+    (c.in_ok-name.ensures ∙ ap (λ text. variable (codes "Build.SourceBranchName") (Str text))
+    c.last_segment.ensures)
     c.in_ok-reason.ensures

@@ -7,7 +7,8 @@ set-requires c = there c.args.self.variables c.args.later _ c.requires
 
 pub invariant_of-result : goal.invariant_of-result
 invariant_of-result c = record {
-  indexed = λ upper. c.args.self.indexed upper ∙ replaced_places upper c.args.self.variables _ c.args.later _ c.requires c.set.ensures;
+  indexed = λ upper. c.args.self.indexed upper
+      ∙ replaced_places upper c.args.self.variables _ c.args.later _ c.requires c.set.ensures;
 }
 
 pub returns : goal.returns

@@ -7,7 +7,8 @@ use Rattle.pl_frame.proofs.names.FrameNamesNames.find.Goals as goal
 pub returns-in_ok-copy-in-Some : goal.returns-in_ok-copy-in-Some
 returns-in_ok-copy-in-Some c =
     from_loop c.args.self.now.frame.now c.args.self.now.place.now c.args.root.now _
-    (ap (λ (node : MarkedNode). Some node) c.in_ok-copy-in-Some.ensures ∙ sym (ap option_copied c.in-Some.is) ∙ c.in_ok-found.ensures)
+    (ap (λ (node : MarkedNode). Some node) c.in_ok-copy-in-Some.ensures
+    ∙ sym (ap option_copied c.in-Some.is) ∙ c.in_ok-found.ensures)
 
 pub returns-in-None : goal.returns-in-None
 returns-in-None c =

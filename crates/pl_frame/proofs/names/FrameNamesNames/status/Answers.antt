@@ -10,14 +10,16 @@ returns-in-Failed c =
     let frame = c.args.self.now.frame.now in
     let place = c.args.self.now.place.now in
     failed frame place c.args.names.now
-    ∙ ap (λ (function : Function). status_of (known_at frame place) function c.args.names.now) (sym c.in-Failed.is)
+    ∙ ap (λ (function : Function). status_of (known_at frame place) function c.args.names.now)
+    (sym c.in-Failed.is)
 
 pub returns-in-Succeeded : goal.returns-in-Succeeded
 returns-in-Succeeded c =
     let frame = c.args.self.now.frame.now in
     let place = c.args.self.now.place.now in
     succeeded frame place _ _ c.is_empty.ensures
-    ∙ ap (λ (function : Function). status_of (known_at frame place) function c.args.names.now) (sym c.in-Succeeded.is)
+    ∙ ap (λ (function : Function). status_of (known_at frame place) function c.args.names.now)
+    (sym c.in-Succeeded.is)
 
 pub returns-in-SucceededOrFailed : goal.returns-in-SucceededOrFailed
 returns-in-SucceededOrFailed c =
