@@ -1,12 +1,12 @@
 -- The pieces of a text are those that the rules give.
-use Rattle.std.proofs.Common.{◌≡◌, ◌+◌, ℕ, zero, suc, ◌≤◌, Bool, true, false, ◌&&◌}
-use Rattle.std.proofs.Common.{◌||◌, Option, Some, None, List, [], ◌∷◌, ◌++◌, length, drop, refl, ap}
-use Rattle.std.proofs.Common.{sym, ◌∙◌, inl, inr, arith, length-append, append_assoc, append-nil}
+use Rattle.std.proofs.Common.{◌≡◌, ◌+◌, ℕ, zero, suc, ◌≤◌, Bool, true, false}
+use Rattle.std.proofs.Common.{Option, Some, None, List, [], ◌∷◌, ◌++◌, length, drop, refl, ap}
+use Rattle.std.proofs.Common.{sym, ◌∙◌, inl, inr, arith, length-append, append-nil}
 use Rattle.std.proofs.Common.{subst}
 use Rattle.std.specs.Option.{option_map}
 use Rattle.std.proofs.lemmas.List.{drop-drop}
 use Rattle.std.proofs.Math.Seq.{drop-append_seam}
-use Rattle.std.proofs.lemmas.Bool.{cases_Bool, false≢true}
+use Rattle.std.proofs.lemmas.Bool.{cases_Bool}
 use Rattle.std.proofs.lemmas.Bool.Decides.{Decides-eqb}
 use Rattle.std.proofs.lemmas.Slice.Eq.{starts_is}
 use Rattle.pl_texts.specs.Matching.{begins}
@@ -15,83 +15,10 @@ use Rattle.pl_template.specs.declared.forms.Piece.TheVariants.{Expression}
 use Rattle.pl_template.specs.Cutting.{opening, closing, closes, holds_opening, is_quoted_behind}
 use Rattle.pl_template.specs.Cutting.{before_closing, onto, pieces_of}
 use Rattle.pl_template.specs.Splitting.{split_of, literal, prefixed, continued}
-use Rattle.pl_template.specs.Laws.{IsLiteral, IsInside, IsCut, rest, expression, written}
+use Rattle.pl_template.specs.Laws.{IsInside, IsCut, rest, expression, written}
 use Rattle.pl_template.proofs.Closing.{here, later, longer, round}
 use Rattle.pl_template.proofs.Pieces.{at_opening, at_other, no_pieces, onto_literal, onto_rest}
-
--- ---- literals
-
-neither : (a b : Bool) → (a || b) ≡ false → (a ≡ false) × (b ≡ false)
-neither true b e = absurd (false≢true (sym e))
-neither false b e = (refl, e)
-
-both : (a b : Bool) → a ≡ false → b ≡ false → (a || b) ≡ false
-both true b x y = x
-both false b x y = y
-
-and_false : (a : Bool) → (a && false) ≡ false
-and_false true = refl
-and_false false = refl
-
-and_later : (a b : Bool) → b ≡ false → (a && b) ≡ false
-and_later a b e = rw e (and_false a)
-
--- an opening that stands in front of the rest stands in the literal alone
-begins_longer : (front more : List ℕ) → begins front opening ≡ true →
-    begins (front ++ more) opening ≡ true
-begins_longer front more begun =
-    let whole = (starts_is Decides-eqb front opening (begins front opening) refl).0 begun in
-    (starts_is Decides-eqb (front ++ more) opening (begins (front ++ more) opening) refl).1
-    (drop (length opening) front ++ more)
-    (ap (λ front. front ++ more) whole ∙ append_assoc opening (drop (length opening) front) more)
-
-not_yet : (front more : List ℕ) → begins (front ++ more) opening ≡ false →
-    begins front opening ≡ false
-not_yet front more other =
-    elim (cases_Bool (begins front opening)) [
-      | inl begun ↦ absurd (false≢true (sym other ∙ begins_longer front more begun))
-      | inr other ↦ other
-    ]
-
--- none begins in a literal and ends behind it
-not_across : (byte : ℕ) (front more : List ℕ) → begins (byte ∷ front) opening ≡ false →
-    begins (byte ∷ (front ++ (opening ++ more))) opening ≡ false
-not_across byte [] more other = and_false _
-not_across byte (next ∷ []) more other = and_later _ _ (and_false _)
-not_across byte (next ∷ last ∷ front) more other = other
-
-onto_more : (byte : ℕ) (front : List ℕ) (found : Option (List ℕ × List ℕ)) →
-    option_map (onto byte) (prefixed (literal front) (continued found)) ≡ prefixed
-    (literal (byte ∷ front)) (continued found)
-onto_more byte front None = refl
-onto_more byte front (Some parts) = more (pieces_of parts.1)
-  where
-    more : (found : Option (List Piece)) →
-        option_map (onto byte)
-        (prefixed (literal front) (prefixed (Expression parts.0 ∷ []) found)) ≡ prefixed
-        (literal (byte ∷ front)) (prefixed (Expression parts.0 ∷ []) found)
-    more None = refl
-    more (Some pieces) = ap Some (onto_literal byte front parts.0 pieces)
-
-from_nothing : (found : Option (List Piece)) → found ≡ prefixed [] found
-from_nothing None = refl
-from_nothing (Some pieces) = refl
-
-cut_front : (front more : List ℕ) → IsLiteral front →
-    pieces_of (front ++ (opening ++ more)) ≡ prefixed (literal front) (continued (split_of more))
-cut_front [] more plain = at_opening more ∙ from_nothing (continued (split_of more))
-cut_front (byte ∷ front) more plain =
-    let tests = neither (begins (byte ∷ front) opening) (holds_opening front) plain in
-    at_other byte (front ++ (opening ++ more)) (not_across byte front more tests.0)
-    ∙ (ap (option_map (onto byte)) (cut_front front more tests.1)
-    ∙ onto_more byte front (split_of more))
-
-pub cut_rest : (text : List ℕ) → IsLiteral text → pieces_of text ≡ Some (literal text)
-cut_rest [] plain = no_pieces
-cut_rest (byte ∷ text) plain =
-    let tests = neither (begins (byte ∷ text) opening) (holds_opening text) plain in
-    at_other byte text tests.0
-    ∙ (ap (option_map (onto byte)) (cut_rest text tests.1) ∙ ap Some (onto_rest byte text))
+use Rattle.pl_template.proofs.Pieces.{both, not_yet, cut_front, cut_rest}
 
 -- ---- expressions: what stands behind the `}}` doesn't count
 

@@ -1,6 +1,7 @@
 -- Each form of a scalar, by the rules.
 use Rattle.std.proofs.Common.{◌≡◌, ◌↔◌, ◌⊎◌, ℕ, ◌+◌, length, drop, if◌then◌else◌, true, false}
 use Rattle.std.proofs.Common.{Option, Some, None, List, [], ◌∷◌, ◌++◌, refl, ap, sym, ◌∙◌, inl, inr}
+use Rattle.std.proofs.Common.{subst}
 use Rattle.std.specs.Option.{option_map}
 use Rattle.std.proofs.lemmas.Bool.{cases_Bool}
 use Rattle.pl_template.specs.declared.forms.Piece.{Piece}
@@ -11,8 +12,8 @@ use Rattle.pl_template.specs.Cutting.{opening, closing, holds_opening, before_cl
 use Rattle.pl_template.specs.Splitting.{literal, prefixed, continued}
 use Rattle.pl_template.specs.Forms.{form_of, form_of_pieces}
 use Rattle.pl_template.specs.Laws.{IsLiteral, IsInside, IsCut, rest, expression}
-use Rattle.pl_template.proofs.Pieces.{at_opening}
-use Rattle.pl_template.proofs.Cuts.{cut_rest, is_inside, pieces_are, are_cut, written_again}
+use Rattle.pl_template.proofs.Pieces.{at_opening, cut_rest}
+use Rattle.pl_template.proofs.Cuts.{is_inside, pieces_are, are_cut, written_again}
 
 judged : (text : List ℕ) (form : ScalarForm) → form_of text ≡ form →
     (form_of_pieces (pieces_of text) ≡ form) ⊎ (holds_opening text ≡ false) × (form ≡ Plain)
@@ -33,45 +34,30 @@ opened text some = rw some refl
 
 -- ---- what the form tells of the pieces
 
-never_plain : (found : Option (List Piece)) → form_of_pieces found ≡ Plain → ⊥
-never_plain None e = absurd (cc)
-never_plain (Some []) e = absurd (cc)
-never_plain (Some (Literal text ∷ pieces)) e = absurd (cc)
-never_plain (Some (Expression inside ∷ [])) e = absurd (cc)
-never_plain (Some (Expression inside ∷ next ∷ pieces)) e = absurd (cc)
+abbrev Tells : ScalarForm → Option (List Piece) → Type 0
+Tells Plain found = ⊥
+Tells (Whole inside) found = found ≡ Some (Expression inside ∷ [])
+Tells (Joined pieces) found = found ≡ Some pieces
+Tells Unclosed found = found ≡ None
 
-of_whole : (found : Option (List Piece)) (inside : List ℕ) → form_of_pieces found ≡ Whole inside →
-    found ≡ Some (Expression inside ∷ [])
-of_whole None inside e = absurd (cc)
-of_whole (Some []) inside e = absurd (cc)
-of_whole (Some (Literal text ∷ pieces)) inside e = absurd (cc)
-of_whole (Some (Expression other ∷ [])) inside e = let is : other ≡ inside =
-    cc in ap (λ inside. Some (Expression inside ∷ [])) is
-of_whole (Some (Expression other ∷ next ∷ pieces)) inside e = absurd (cc)
+told : (found : Option (List Piece)) → Tells (form_of_pieces found) found
+told None = refl
+told (Some []) = refl
+told (Some (Literal text ∷ pieces)) = refl
+told (Some (Expression inside ∷ [])) = refl
+told (Some (Expression inside ∷ next ∷ pieces)) = refl
 
-of_joined : (found : Option (List Piece)) (pieces : List Piece) →
-    form_of_pieces found ≡ Joined pieces → found ≡ Some pieces
-of_joined None pieces e = absurd (cc)
-of_joined (Some []) pieces e = let is : [] ≡ pieces = cc in ap Some is
-of_joined (Some (Literal text ∷ more)) pieces e = let is : Literal text ∷ more ≡ pieces =
-    cc in ap Some is
-of_joined (Some (Expression inside ∷ [])) pieces e = absurd (cc)
-of_joined (Some (Expression inside ∷ next ∷ more)) pieces e =
-    let is : Expression inside ∷ next ∷ more ≡ pieces = cc in ap Some is
-
-of_unclosed : (found : Option (List Piece)) → form_of_pieces found ≡ Unclosed → found ≡ None
-of_unclosed None e = refl
-of_unclosed (Some []) e = absurd (cc)
-of_unclosed (Some (Literal text ∷ pieces)) e = absurd (cc)
-of_unclosed (Some (Expression inside ∷ [])) e = absurd (cc)
-of_unclosed (Some (Expression inside ∷ next ∷ pieces)) e = absurd (cc)
+tells : (found : Option (List Piece)) (form : ScalarForm) → form_of_pieces found ≡ form →
+    Tells form found
+tells found form e = let P : ScalarForm → Type 0 =
+    λ form. Tells form found in subst P e (told found)
 
 -- ---- plain
 
 pub plain_iff : (text : List ℕ) → (form_of text ≡ Plain) ↔ IsLiteral text
 plain_iff text = (
   (λ e. elim (judged text Plain e) [
-    | inl found ↦ absurd (never_plain (pieces_of text) found)
+    | inl found ↦ absurd (tells (pieces_of text) Plain found)
     | inr
         none ↦ none.0
   ]),
@@ -118,7 +104,7 @@ whole_iff text inside = (there, back)
         elim (judged text (Whole inside) e) [
           | inl found ↦
               let pieces : pieces_of text ≡ Some (Expression inside ∷ []) =
-              of_whole (pieces_of text) inside found in
+              tells (pieces_of text) (Whole inside) found in
               let whole : text ≡ opening ++ (inside ++ closing) =
               sym (written_again text _ (are_cut text _ pieces)) in (
                 first_inside (inside ++ closing) inside _ [] refl
@@ -141,7 +127,7 @@ pub joined_is : (text : List ℕ) (pieces : List Piece) → form_of text ≡ Joi
     IsCut text pieces
 joined_is text pieces e =
     elim (judged text (Joined pieces) e) [
-      | inl found ↦ are_cut text pieces (of_joined (pieces_of text) pieces found)
+      | inl found ↦ are_cut text pieces (tells (pieces_of text) (Joined pieces) found)
       | inr none ↦ absurd (cc)
     ]
 
@@ -152,7 +138,7 @@ unclosed_iff text = (there, back (pieces_of text) refl)
     there : form_of text ≡ Unclosed → (pieces : List Piece) → ¬ IsCut text pieces
     there e pieces cut =
         elim (judged text Unclosed e) [
-          | inl found ↦ let none = of_unclosed (pieces_of text) found in let some =
+          | inl found ↦ let none = tells (pieces_of text) Unclosed found in let some =
               pieces_are text pieces cut in absurd (cc)
           | inr none ↦ absurd (cc)
         ]

@@ -1,7 +1,8 @@
 -- A text cut into pieces, from one `${{` to the next.
-use Rattle.std.proofs.Common.{◌≡◌, ◌≢◌, ℕ, zero, suc, ◌+◌, ◌<◌, ◌≤◌, Bool, true, false, Option}
-use Rattle.std.proofs.Common.{Some, None, List, [], ◌∷◌, ◌++◌, length, take, drop, refl, ap, sym}
-use Rattle.std.proofs.Common.{◌∙◌, arith, append_assoc}
+use Rattle.std.proofs.Common.{◌≡◌, ◌≢◌, ℕ, zero, suc, ◌+◌, ◌<◌, ◌≤◌, Bool, true, false, ◌&&◌, ◌||◌}
+use Rattle.std.proofs.Common.{Option, Some, None}
+use Rattle.std.proofs.Common.{List, [], ◌∷◌, ◌++◌, length, drop, refl, ap, sym, ◌∙◌, inl, inr}
+use Rattle.std.proofs.Common.{arith, append_assoc}
 use Rattle.std.specs.Option.{option_map}
 use Rattle.std.specs.Str.Pattern.{FindsText, SplitsAroundMatch}
 use Rattle.std.proofs.lemmas.Bool.Decides.{Decides-eqb}
@@ -11,6 +12,10 @@ use Rattle.pl_template.specs.declared.forms.Piece.{Piece}
 use Rattle.pl_template.specs.declared.forms.Piece.TheVariants.{Expression}
 use Rattle.pl_template.specs.Cutting.{opening, before_closing, onto, followed, pieces_behind}
 use Rattle.pl_template.specs.Cutting.{pieces_of}
+use Rattle.std.proofs.lemmas.List.{take-append-drop}
+use Rattle.std.proofs.lemmas.Bool.{cases_Bool, false≢true}
+use Rattle.pl_template.specs.Laws.{IsLiteral}
+use Rattle.pl_template.specs.Cutting.{holds_opening}
 use Rattle.pl_template.specs.Splitting.{split_of, literal, prefixed, continued}
 
 untrue : (b : Bool) → (b ≡ true → ⊥) → b ≡ false
@@ -52,97 +57,141 @@ pub at_opening : (behind : List ℕ) → pieces_of (opening ++ behind) ≡ conti
 unfolding pieces_behind
 at_opening behind = followed_is behind (before_closing false behind)
 
--- bytes in front of pieces
-abbrev pub all_onto : List ℕ → List Piece → List Piece
-all_onto [] pieces = pieces
-all_onto (byte ∷ bytes) pieces = onto byte (all_onto bytes pieces)
-
-onto_twice : (byte : ℕ) (bytes : List ℕ) (found : Option (List Piece)) →
-    option_map (onto byte) (option_map (all_onto bytes) found) ≡ option_map
-    (all_onto (byte ∷ bytes)) found
-onto_twice byte bytes None = refl
-onto_twice byte bytes (Some pieces) = refl
-
-onto_nothing : (found : Option (List Piece)) → found ≡ option_map (all_onto []) found
-onto_nothing None = refl
-onto_nothing (Some pieces) = refl
-
-before_more : (count : ℕ) (text : List ℕ) → count ≤ length text →
-    ((at : ℕ) → at < count → begins (drop at text) opening ≡ false) →
-    pieces_of text ≡ option_map (all_onto (take count text)) (pieces_of (drop count text))
-before_more zero text within none = onto_nothing (pieces_of text)
-before_more (suc count) [] within none = absurd (omega (arith, within))
-before_more (suc count) (byte ∷ text) within none =
-    at_other byte text (none 0 (omega arith))
-    ∙ (ap (option_map (onto byte))
-    (before_more count text (omega (arith, within))
-    (λ at below. none (suc at) (omega (arith, below))))
-    ∙ onto_twice byte (take count text) (pieces_of (drop count text)))
-
 pub onto_literal : (byte : ℕ) (bytes : List ℕ) (inside : List ℕ) (pieces : List Piece) →
     onto byte (literal bytes ++ Expression inside ∷ pieces) ≡ literal (byte ∷ bytes) ++ Expression
     inside ∷ pieces
 onto_literal byte [] inside pieces = refl
 onto_literal byte (next ∷ bytes) inside pieces = refl
 
-all_onto_expression : (bytes inside : List ℕ) (pieces : List Piece) →
-    all_onto bytes (Expression inside ∷ pieces) ≡ literal bytes ++ Expression inside ∷ pieces
-all_onto_expression [] inside pieces = refl
-all_onto_expression (byte ∷ bytes) inside pieces =
-    ap (onto byte) (all_onto_expression bytes inside pieces) ∙ onto_literal byte bytes inside pieces
-
-onto_expression : (bytes inside : List ℕ) (found : Option (List Piece)) →
-    option_map (all_onto bytes) (prefixed (Expression inside ∷ []) found) ≡ prefixed (literal bytes)
-    (prefixed (Expression inside ∷ []) found)
-onto_expression bytes inside None = refl
-onto_expression bytes inside (Some pieces) = ap Some (all_onto_expression bytes inside pieces)
-
-onto_continued : (bytes : List ℕ) (parts : Option (List ℕ × List ℕ)) →
-    option_map (all_onto bytes) (continued parts) ≡ prefixed (literal bytes) (continued parts)
-onto_continued bytes None = refl
-onto_continued bytes (Some parts) = onto_expression bytes parts.0 (pieces_of parts.1)
-
--- up to the first `${{` and through its expression
-pub through : (text front behind : List ℕ) → SplitsAroundMatch (FindsText opening) text front
-    behind → (pieces_of text ≡ prefixed (literal front) (continued (split_of behind))) ×
-    (length behind < length text)
-through text front behind (
-  at,
-  until,
-  finds,
-  front_is,
-  behind_is,
-  ordered,
-  front_length,
-  behind_length,
-) = (
-  before_more at text (omega (arith, behind_length))
-      (λ place below. lacking (drop place text) (finds.0 place below))
-      ∙ (ap (λ bytes. option_map (all_onto bytes) (pieces_of (drop at text))) (sym front_is)
-      ∙ (ap (λ rest. option_map (all_onto front) (pieces_of rest)) (finds.1.split
-      ∙ ap (λ rest. opening ++ rest) (sym behind_is))
-      ∙ (ap (option_map (all_onto front)) (at_opening behind)
-      ∙ onto_continued front (split_of behind)))),
-  omega (arith, behind_length, finds.1.ends),
-)
-
 pub onto_rest : (byte : ℕ) (text : List ℕ) → onto byte (literal text) ≡ literal (byte ∷ text)
 onto_rest byte [] = refl
 onto_rest byte (next ∷ text) = refl
 
-all_literal : (text : List ℕ) →
-    ((at : ℕ) → at ≤ length text → begins (drop at text) opening ≡ false) →
-    pieces_of text ≡ Some (literal text)
-all_literal [] none = no_pieces
-all_literal (byte ∷ text) none =
-    at_other byte text (none 0 (omega arith))
-    ∙ (ap (option_map (onto byte))
-    (all_literal text (λ at within. none (suc at) (omega (arith, within))))
-    ∙ ap Some (onto_rest byte text))
+-- ---- literals
 
-pub without : (text : List ℕ) → FindsText opening text None → pieces_of text ≡ Some (literal text)
-without text finds =
-    all_literal text (λ place within. lacking (drop place text) (finds place within))
+neither : (a b : Bool) → (a || b) ≡ false → (a ≡ false) × (b ≡ false)
+neither true b e = absurd (false≢true (sym e))
+neither false b e = (refl, e)
+
+pub both : (a b : Bool) → a ≡ false → b ≡ false → (a || b) ≡ false
+both true b x y = x
+both false b x y = y
+
+and_false : (a : Bool) → (a && false) ≡ false
+and_false true = refl
+and_false false = refl
+
+and_later : (a b : Bool) → b ≡ false → (a && b) ≡ false
+and_later a b e = rw e (and_false a)
+
+-- an opening that stands in front of the rest stands in the literal alone
+begins_longer : (front more : List ℕ) → begins front opening ≡ true →
+    begins (front ++ more) opening ≡ true
+begins_longer front more begun =
+    let whole = (starts_is Decides-eqb front opening (begins front opening) refl).0 begun in
+    (starts_is Decides-eqb (front ++ more) opening (begins (front ++ more) opening) refl).1
+    (drop (length opening) front ++ more)
+    (ap (λ front. front ++ more) whole ∙ append_assoc opening (drop (length opening) front) more)
+
+pub not_yet : (front more : List ℕ) → begins (front ++ more) opening ≡ false →
+    begins front opening ≡ false
+not_yet front more other =
+    elim (cases_Bool (begins front opening)) [
+      | inl begun ↦ absurd (false≢true (sym other ∙ begins_longer front more begun))
+      | inr other ↦ other
+    ]
+
+-- none begins in a literal and ends behind it
+not_across : (byte : ℕ) (front more : List ℕ) → begins (byte ∷ front) opening ≡ false →
+    begins (byte ∷ (front ++ (opening ++ more))) opening ≡ false
+not_across byte [] more other = and_false _
+not_across byte (next ∷ []) more other = and_later _ _ (and_false _)
+not_across byte (next ∷ last ∷ front) more other = other
+
+onto_more : (byte : ℕ) (front : List ℕ) (found : Option (List ℕ × List ℕ)) →
+    option_map (onto byte) (prefixed (literal front) (continued found)) ≡ prefixed
+    (literal (byte ∷ front)) (continued found)
+onto_more byte front None = refl
+onto_more byte front (Some parts) = more (pieces_of parts.1)
+  where
+    more : (found : Option (List Piece)) →
+        option_map (onto byte)
+        (prefixed (literal front) (prefixed (Expression parts.0 ∷ []) found)) ≡ prefixed
+        (literal (byte ∷ front)) (prefixed (Expression parts.0 ∷ []) found)
+    more None = refl
+    more (Some pieces) = ap Some (onto_literal byte front parts.0 pieces)
+
+no_front : (found : Option (List Piece)) → found ≡ prefixed [] found
+no_front None = refl
+no_front (Some pieces) = refl
+
+pub cut_front : (front more : List ℕ) → IsLiteral front →
+    pieces_of (front ++ (opening ++ more)) ≡ prefixed (literal front) (continued (split_of more))
+cut_front [] more plain = at_opening more ∙ no_front (continued (split_of more))
+cut_front (byte ∷ front) more plain =
+    let tests = neither (begins (byte ∷ front) opening) (holds_opening front) plain in
+    at_other byte (front ++ (opening ++ more)) (not_across byte front more tests.0)
+    ∙ (ap (option_map (onto byte)) (cut_front front more tests.1)
+    ∙ onto_more byte front (split_of more))
+
+pub cut_rest : (text : List ℕ) → IsLiteral text → pieces_of text ≡ Some (literal text)
+cut_rest [] plain = no_pieces
+cut_rest (byte ∷ text) plain =
+    let tests = neither (begins (byte ∷ text) opening) (holds_opening text) plain in
+    at_other byte text tests.0
+    ∙ (ap (option_map (onto byte)) (cut_rest text tests.1) ∙ ap Some (onto_rest byte text))
+
+-- ---- what std's search finds
+
+literal_from : (front more : List ℕ) →
+    ((at : ℕ) → at < length front → begins (drop at (front ++ more)) opening ≡ false) →
+    IsLiteral front
+literal_from [] more none = refl
+literal_from (byte ∷ front) more none =
+    both (begins (byte ∷ front) opening) (holds_opening front)
+    (not_yet (byte ∷ front) more (none 0 (omega arith)))
+    (literal_from front more (λ at below. none (suc at) (omega (arith, below))))
+
+none_in : (text : List ℕ) →
+    ((at : ℕ) → at ≤ length text → begins (drop at text) opening ≡ false) → IsLiteral text
+none_in [] none = refl
+none_in (byte ∷ text) none =
+    both (begins (byte ∷ text) opening) (holds_opening text) (none 0 (omega arith))
+    (none_in text (λ at within. none (suc at) (omega (arith, within))))
+
+pub is_literal : (text : List ℕ) → FindsText opening text None → IsLiteral text
+is_literal text finds = none_in text (λ at within. lacking (drop at text) (finds at within))
+
+pub record Parts (text front behind : List ℕ) : Type 0 where
+  pub whole : text ≡ front ++ (opening ++ behind)
+  pub plain : IsLiteral front
+  pub shorter : length behind < length text
+
+pub parts : (text front behind : List ℕ) →
+    SplitsAroundMatch (FindsText opening) text front behind → Parts text front behind
+parts text front behind (at, until, finds, front_is, behind_is, ordered, size, rest_size) =
+    let whole : text ≡ front ++ (opening ++ behind) =
+    sym (take-append-drop at text)
+    ∙ (ap (λ front. front ++ drop at text) (sym front_is)
+    ∙ ap (λ rest. front ++ rest) (finds.1.split ∙ ap (λ rest. opening ++ rest) (sym behind_is))) in
+    record {
+      whole = whole;
+      plain = literal_from front (opening ++ behind) (λ place below.
+          ap (λ text. begins (drop place text) opening) (sym whole)
+          ∙ lacking (drop place text) (finds.0 place (omega (arith, below, size))));
+      shorter = omega (arith, rest_size, finds.1.ends);
+    }
+
+-- up to the first `${{` and through its expression
+pub through : (text front behind : List ℕ) →
+    SplitsAroundMatch (FindsText opening) text front behind →
+    pieces_of text ≡ prefixed (literal front) (continued (split_of behind))
+through text front behind cut =
+    let split = parts text front behind cut in
+    ap pieces_of split.whole ∙ cut_front front behind split.plain
+
+without : (text : List ℕ) → FindsText opening text None → pieces_of text ≡ Some (literal text)
+without text finds = cut_rest text (is_literal text finds)
 
 -- ---- a turn of the loop, whose invariant is `made`
 
@@ -165,7 +214,7 @@ pub goes_on : (whole : Option (List Piece)) (made longer longest : List Piece)
 goes_on whole made longer longest rest front behind inside after last cut parts longer_is longest_is
     last_is whole_is =
     whole_is
-    ∙ (ap (prefixed made) ((through rest front behind cut).0
+    ∙ (ap (prefixed made) (through rest front behind cut
     ∙ ap (λ parts. prefixed (literal front) (continued parts)) (sym parts))
     ∙ (prefixed_twice made (literal front) (prefixed (Expression inside ∷ []) (pieces_of after))
     ∙ (prefixed_twice (made ++ literal front) (Expression inside ∷ []) (pieces_of after)
@@ -178,7 +227,7 @@ pub breaks_off : (whole : Option (List Piece)) (made : List Piece) (rest front b
     whole ≡ prefixed made (pieces_of rest) → None ≡ whole
 breaks_off whole made rest front behind cut parts whole_is =
     sym (whole_is
-    ∙ ap (prefixed made) ((through rest front behind cut).0
+    ∙ ap (prefixed made) (through rest front behind cut
     ∙ ap (λ parts. prefixed (literal front) (continued parts)) (sym parts)))
 
 pub ends : (whole : Option (List Piece)) (made longer : List Piece) (rest : List ℕ) →

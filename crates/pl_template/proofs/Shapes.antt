@@ -1,12 +1,9 @@
 -- The form of a scalar, by its first expression and its pieces.
-use Rattle.std.proofs.Common.{◌≡◌, ◌≢◌, ◌+◌, ℕ, ◌<◌, true, false, Option, Some, None, List, [], ◌∷◌}
+use Rattle.std.proofs.Common.{◌≡◌, ◌≢◌, ◌+◌, ℕ, ◌<◌, true, Option, Some, None, List, [], ◌∷◌}
 use Rattle.std.proofs.Common.{◌++◌, length, drop, refl, ap, sym, ◌∙◌, inl, inr, arith}
-use Rattle.std.proofs.Common.{length-append}
 use Rattle.std.specs.Option.{option_map}
 use Rattle.std.specs.Str.Pattern.{FindsText, SplitsAroundMatch}
-use Rattle.std.proofs.lemmas.Bool.{cases_Bool, false≢true}
-use Rattle.std.proofs.lemmas.List.{take-append-drop}
-use Rattle.std.proofs.Math.Seq.{drop-append_seam}
+use Rattle.std.proofs.lemmas.Bool.{cases_Bool}
 use Rattle.std.proofs.lemmas.Bool.Decides.{Decides-eqb}
 use Rattle.std.proofs.lemmas.Slice.Eq.{starts_is}
 use Rattle.pl_texts.specs.Matching.{begins}
@@ -17,39 +14,16 @@ use Rattle.pl_template.specs.declared.forms.ScalarForm.TheVariants.{Plain, Whole
 use Rattle.pl_template.specs.Cutting.{opening, holds_opening, onto, pieces_of}
 use Rattle.pl_template.specs.Splitting.{split_of, literal, prefixed, continued}
 use Rattle.pl_template.specs.Forms.{form_of, form_of_pieces}
-use Rattle.pl_template.proofs.Pieces.{at_other, at_opening, no_pieces, through}
-
-holds_none : (text : List ℕ) → FindsText opening text None → holds_opening text ≡ false
-holds_none text finds =
-    sym (contained false text opening
-    ((λ e. absurd (false≢true e)), λ parts. absurd (lacks parts.0 parts.1 parts.2)))
-  where
-    lacks : (front rest : List ℕ) → text ≡ front ++ (opening ++ rest) → ⊥
-    lacks front rest is =
-        finds (length front) (omega (arith, ap length is, length-append front (opening ++ rest)))
-        rest (ap (drop (length front)) is ∙ drop-append_seam front (opening ++ rest))
+use Rattle.pl_template.proofs.Pieces.{at_other, at_opening, no_pieces, through, parts, is_literal}
 
 holds_some : (text front behind : List ℕ) → SplitsAroundMatch (FindsText opening) text front
     behind → holds_opening text ≡ true
-holds_some text front behind (
-  at,
-  until,
-  finds,
-  front_is,
-  behind_is,
-  ordered,
-  front_length,
-  behind_length,
-) =
-    let parts : text ≡ front ++ (opening ++ behind) =
-    sym (take-append-drop at text)
-    ∙ (ap (λ front. front ++ drop at text) (sym front_is)
-    ∙ ap (λ rest. front ++ rest) (finds.1.split
-    ∙ ap (λ rest. opening ++ rest) (sym behind_is))) in
-    sym (contained true text opening ((λ _. (front, behind, parts)), λ _. refl))
+holds_some text front behind cut =
+    sym (contained true text opening
+    ((λ _. (front, behind, (parts text front behind cut).whole)), λ _. refl))
 
 pub plain : (text : List ℕ) → FindsText opening text None → Plain ≡ form_of text
-plain text finds = rw (holds_none text finds) refl
+plain text finds = rw (is_literal text finds) refl
 
 with_pieces : (text front behind : List ℕ) (found : Option (List Piece)) →
     SplitsAroundMatch (FindsText opening) text front behind → pieces_of text ≡ found →
@@ -60,7 +34,7 @@ with_pieces text front behind found cut found_is =
 first_piece : (text front behind : List ℕ) (parts : Option (List ℕ × List ℕ)) →
     SplitsAroundMatch (FindsText opening) text front behind → parts ≡ split_of behind →
     pieces_of text ≡ prefixed (literal front) (continued parts)
-first_piece text front behind parts cut parts_is = (through text front behind cut).0
+first_piece text front behind parts cut parts_is = through text front behind cut
     ∙ ap (λ parts. prefixed (literal front) (continued parts)) (sym parts_is)
 
 pub unclosed : (text front behind : List ℕ) → SplitsAroundMatch (FindsText opening) text front

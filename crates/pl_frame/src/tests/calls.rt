@@ -1,43 +1,67 @@
 use super::showing::shown;
 use super::world::{crossings, frame, pair, place, text};
-use crate::{count_nodes, cross, first_double, literal_at, made_at, pair_object, parameters_of};
-use pl_base::{Crossing, List, MarkedNode, Memory, Text, Value};
+use crate::{
+    Frame, Parameter, count_nodes, cross, first_double, literal_at, made_at, pair_object,
+    parameters_of,
+};
+use pl_base::{Crossing, List, MarkedNode, Memory, Text};
 use pl_params::{Bound, Param, ParamKind};
 use std::alloc::Global;
 use std::test::Fail;
 
-/// A pair of an object that a loop goes over.
-fn pair_node(alloc: Global) -> Result<MarkedNode, Memory> {
+fn pair_in(alloc: Global, frame: &Frame) -> Result<MarkedNode, Memory> {
+    let place = place(alloc, 9)?;
     let pair = pair(alloc, "k", "v", 5)?;
-    pair_object(alloc, &frame(alloc)?, &place(alloc, 9)?, pair)
+    pair_object(alloc, frame, &place, pair)
 }
 
-/// A pair's key and value are the object's properties, and a border is crossed by all nodes and
-/// keys.
+// A pair of an object that a loop goes over.
+fn pair_node(alloc: Global) -> Result<MarkedNode, Memory> {
+    let frame = frame(alloc)?;
+    pair_in(alloc, &frame)
+}
+
+fn shown_across(alloc: Global, node: &MarkedNode) -> Result<Text, Memory> {
+    let crossed = cross(alloc, node, &Crossing::Made)?;
+    shown(alloc, &crossed)
+}
+
+fn shown_pair(alloc: Global, is_crossed: bool) -> Result<Text, Memory> {
+    let node = pair_node(alloc)?;
+    if is_crossed {
+        shown_across(alloc, &node)
+    } else {
+        shown(alloc, &node)
+    }
+}
+
+/// A pair's key and value are properties, and a border is crossed by all nodes and keys.
 #[test]
 fn pairs_are_objects(rt: HostRuntime) -> Result<(), Fail> {
     let alloc = rt.alloc();
-    let node = pair_node(alloc)?;
-    let crossed = cross(alloc, &node, &Crossing::Made)?;
     assert_eq!(rt;
-        shown(alloc, &node)?.as_str(),
+        shown_pair(alloc, false)?.as_str(),
         "{ key@9+!: k@5 value@9+!: v@6 }@9+!"
     );
     assert_eq!(rt;
-        shown(alloc, &crossed)?.as_str(),
+        shown_pair(alloc, true)?.as_str(),
         "{ key@9+!!: k@5! value@9+!!: v@6! }@9+!!"
     );
     Ok(())
+}
+
+fn counted(alloc: Global, most: u32) -> Result<Option<u32>, Memory> {
+    let node = pair_node(alloc)?;
+    Ok(count_nodes(&node, most))
 }
 
 /// Nodes are counted up to a bound, and keys aren't.
 #[test]
 fn nodes_are_counted(rt: HostRuntime) -> Result<(), Fail> {
     let alloc = rt.alloc();
-    let node = pair_node(alloc)?;
-    assert_eq!(rt; count_nodes(&node, 3), Some(3));
-    assert_eq!(rt; count_nodes(&node, 2), None);
-    assert_eq!(rt; count_nodes(&text(alloc, "", 1)?, 0), None);
+    assert_eq!(rt; counted(alloc, 3)?, Some(3));
+    assert_eq!(rt; counted(alloc, 2)?, None);
+    assert_eq!(rt; counted(alloc, 0)?, None);
     Ok(())
 }
 
@@ -84,30 +108,69 @@ fn bound(alloc: Global, name: &str, given: bool) -> Result<Bound, Memory> {
     })
 }
 
-/// The values of two parameters: one that was given, and a default.
-fn values(alloc: Global) -> Result<MarkedNode, Memory> {
+fn declared(alloc: Global) -> Result<List<Param>, Memory> {
     let mut declared = List::new(alloc);
     declared.push(param(alloc, "a")?)?;
     declared.push(param(alloc, "b")?)?;
+    Ok(declared)
+}
+
+fn bounds(alloc: Global) -> Result<List<Bound>, Memory> {
     let mut bounds = List::new(alloc);
     bounds.push(bound(alloc, "a", true)?)?;
     bounds.push(bound(alloc, "b", false)?)?;
-    let all = parameters_of(alloc, &crossings(alloc)?, &declared, bounds)?;
-    let mut items = List::new(alloc);
-    for parameter in all.into_vec() {
-        items.push(parameter.value)?;
+    Ok(bounds)
+}
+
+// Two parameters: one that was given, and a default.
+fn parameters(alloc: Global) -> Result<List<Parameter>, Memory> {
+    let declared = declared(alloc)?;
+    let bounds = bounds(alloc)?;
+    let crossings = crossings(alloc)?;
+    parameters_of(alloc, &crossings, &declared, bounds)
+}
+
+fn show_values(alloc: Global, parameters: &List<Parameter>) -> Result<Text, Memory> {
+    let mut out = Text::new(alloc);
+    for parameter in parameters.as_slice() {
+        out.push_str(shown(alloc, &parameter.value)?.as_str())?;
+        out.push_str(" ")?;
     }
-    let origin = literal_at(alloc, &frame(alloc)?, &place(alloc, 3)?)?;
-    let value = Value::Array(items);
-    Ok(MarkedNode { origin, value })
+    Ok(out)
+}
+
+fn shown_values(alloc: Global) -> Result<Text, Memory> {
+    let parameters = parameters(alloc)?;
+    show_values(alloc, &parameters)
 }
 
 /// A default is written in the frame's file, and what was given keeps its origin.
 #[test]
 fn defaults_are_literals(rt: HostRuntime) -> Result<(), Fail> {
+    assert_eq!(rt; shown_values(rt.alloc())?.as_str(), "a@2 b@2+ ");
+    Ok(())
+}
+
+fn line_in(alloc: Global, frame: &Frame, is_made: bool) -> Result<u32, Memory> {
+    let place = place(alloc, 9)?;
+    let origin = if is_made {
+        made_at(alloc, frame, &place)
+    } else {
+        literal_at(alloc, frame, &place)
+    };
+    Ok(origin?.source.line)
+}
+
+fn line_of(alloc: Global, is_made: bool) -> Result<u32, Memory> {
+    let frame = frame(alloc)?;
+    line_in(alloc, &frame, is_made)
+}
+
+/// What is written and what is made come from their places.
+#[test]
+fn origins_have_places(rt: HostRuntime) -> Result<(), Fail> {
     let alloc = rt.alloc();
-    let here = made_at(alloc, &frame(alloc)?, &place(alloc, 9)?)?;
-    assert_eq!(rt; shown(alloc, &values(alloc)?)?.as_str(), "[ a@2 b@2+ ]@3+");
-    assert_eq!(rt; here.source.line, 9);
+    assert_eq!(rt; line_of(alloc, true)?, 9);
+    assert_eq!(rt; line_of(alloc, false)?, 9);
     Ok(())
 }
