@@ -1,0 +1,8 @@
+pub mod Approvals
+pub mod Branches
+pub mod First
+pub mod Hours
+pub mod Patterns
+pub mod Provenance
+pub mod Templates
+pub mod Verdicts

@@ -1,0 +1,6 @@
+mod approvals;
+mod branches;
+mod hours;
+mod patterns;
+mod shown;
+mod templates;

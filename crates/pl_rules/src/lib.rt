@@ -1,0 +1,15 @@
+//! Why the service refuses, waits or ends something: its rules, and the small types that they and
+//! the checks name.
+#![tactic(auto)]
+
+mod day;
+mod repo_ref;
+mod role;
+mod rule;
+mod state;
+
+pub use day::Day;
+pub use repo_ref::RepoRef;
+pub use role::Role;
+pub use rule::Rule;
+pub use state::State;
