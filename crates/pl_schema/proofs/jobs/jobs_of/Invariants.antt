@@ -1,0 +1,11 @@
+use Rattle.std.proofs.Common.{◌≡◌, [], drop}
+use Rattle.pl_schema.specs.Names.{is_taken, taken}
+use Rattle.pl_schema.specs.Rows.{in_turn}
+use Rattle.pl_schema.specs.Jobs.{job_in, job_names}
+use Rattle.pl_schema.proofs.jobs.jobs_of.Given as goal
+
+abbrev pub invariant-loop-item : goal.invariant-loop-item
+invariant-loop-item l = record {
+  read : in_turn (λ made item. job_in (is_taken (job_names made)) item) [] l.items ≡ in_turn (λ made item. job_in (is_taken (job_names made)) item) l.jobs (drop l.item-index l.items);
+  names : taken l.names ≡ is_taken (job_names l.jobs);
+}

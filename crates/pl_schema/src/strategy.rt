@@ -1,0 +1,86 @@
+ghost use Rattle.std.specs.Prelude.{[], ◌∷◌, codes};
+ghost use Rattle.pl_schema.specs.Gives.{Gives};
+ghost use Rattle.pl_schema.specs.Rows.{sets, read_pair, in_order};
+ghost use Rattle.pl_schema.specs.Steps.{steps_in};
+ghost use Rattle.pl_schema.specs.Jobs.{deploy_in, run_once_in, strategy_in};
+
+use crate::fault::{SchemaCode, SchemaFault};
+use crate::pipeline::StepSpec;
+use crate::rows::{at_key, at_node, has};
+use crate::scalars::pairs_in;
+use crate::steps::steps_in;
+use pl_base::{List, MarkedNode, MarkedPair};
+use std::alloc::Global;
+
+/// The steps of a deployment, under `runOnce`, `deploy` and `steps` of its strategy.
+#[tactic(auto, unfolding(crate::specs::Jobs::strategy_in))]
+pub fn strategy_in(alloc: Global, node: &MarkedNode) -> Result<List<StepSpec>, SchemaFault>
+    ensures { Gives result (strategy_in node.now) }
+{
+    let pairs = pairs_in(alloc, node)?;
+    if !has(pairs, "runOnce") {
+        return Err(at_node(alloc, SchemaCode::MissingKey, node));
+    }
+    strategy_of(alloc, pairs)
+}
+
+fn strategy_of(alloc: Global, pairs: &[MarkedPair]) -> Result<List<StepSpec>, SchemaFault>
+    ensures { Gives result (in_order (read_pair ((codes "runOnce", sets run_once_in (λ before steps. steps)) ∷ [])) [] pairs.now) }
+{
+    let mut steps = List::new(alloc);
+    for pair in pairs {
+        if pair.key.as_str() != "runOnce" {
+            return Err(at_key(alloc, SchemaCode::UnknownKey, pair));
+        }
+        steps = run_once_in(alloc, &pair.item)?;
+    }
+    Ok(steps)
+}
+
+#[tactic(auto, unfolding(crate::specs::Jobs::run_once_in))]
+fn run_once_in(alloc: Global, node: &MarkedNode) -> Result<List<StepSpec>, SchemaFault>
+    ensures { Gives result (run_once_in node.now) }
+{
+    let pairs = pairs_in(alloc, node)?;
+    if !has(pairs, "deploy") {
+        return Err(at_node(alloc, SchemaCode::MissingKey, node));
+    }
+    run_once_of(alloc, pairs)
+}
+
+fn run_once_of(alloc: Global, pairs: &[MarkedPair]) -> Result<List<StepSpec>, SchemaFault>
+    ensures { Gives result (in_order (read_pair ((codes "deploy", sets deploy_in (λ before steps. steps)) ∷ [])) [] pairs.now) }
+{
+    let mut steps = List::new(alloc);
+    for pair in pairs {
+        if pair.key.as_str() != "deploy" {
+            return Err(at_key(alloc, SchemaCode::UnknownKey, pair));
+        }
+        steps = deploy_in(alloc, &pair.item)?;
+    }
+    Ok(steps)
+}
+
+#[tactic(auto, unfolding(crate::specs::Jobs::deploy_in))]
+fn deploy_in(alloc: Global, node: &MarkedNode) -> Result<List<StepSpec>, SchemaFault>
+    ensures { Gives result (deploy_in node.now) }
+{
+    let pairs = pairs_in(alloc, node)?;
+    if !has(pairs, "steps") {
+        return Err(at_node(alloc, SchemaCode::MissingKey, node));
+    }
+    deploy_of(alloc, pairs)
+}
+
+fn deploy_of(alloc: Global, pairs: &[MarkedPair]) -> Result<List<StepSpec>, SchemaFault>
+    ensures { Gives result (in_order (read_pair ((codes "steps", sets steps_in (λ before steps. steps)) ∷ [])) [] pairs.now) }
+{
+    let mut steps = List::new(alloc);
+    for pair in pairs {
+        if pair.key.as_str() != "steps" {
+            return Err(at_key(alloc, SchemaCode::UnknownKey, pair));
+        }
+        steps = steps_in(alloc, &pair.item)?;
+    }
+    Ok(steps)
+}
