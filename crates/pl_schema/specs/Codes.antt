@@ -1,7 +1,10 @@
 -- The codes of what is wrong with a pipeline.
 use Rattle.std.specs.Prelude.{ℕ, List, codes}
 use Rattle.pl_schema.specs.declared.fault.SchemaCode.{SchemaCode}
-use Rattle.pl_schema.specs.declared.fault.SchemaCode.TheVariants.{UnknownKey, MissingKey, WrongShape, BadName, FirstKey, NameTwice, TwoForms, BadNumber, BadCondition}
+use Rattle.pl_schema.specs.declared.fault.SchemaCode.TheVariants.{UnknownKey, MissingKey}
+use Rattle.pl_schema.specs.declared.fault.SchemaCode.TheVariants.{WrongShape, BadName, FirstKey}
+use Rattle.pl_schema.specs.declared.fault.SchemaCode.TheVariants.{NameTwice, TwoForms, BadNumber}
+use Rattle.pl_schema.specs.declared.fault.SchemaCode.TheVariants.{BadCondition}
 
 abbrev pub code_of : SchemaCode → List ℕ
 code_of UnknownKey = codes "S1"

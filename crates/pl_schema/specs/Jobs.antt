@@ -1,5 +1,6 @@
 -- Jobs and deployments (Microsoft Learn, "YAML schema reference", jobs.job and jobs.deployment).
-use Rattle.std.specs.Prelude.{ℕ, Bool, true, false, ◌&&◌, List, [], ◌∷◌, map, codes, Option, Some, None, Result, Ok}
+use Rattle.std.specs.Prelude.{ℕ, Bool, true, false, ◌&&◌, List, [], ◌∷◌, map, codes, Option, Some}
+use Rattle.std.specs.Prelude.{None, Result, Ok}
 use Rattle.pl_base.specs.declared.place.Place.{Place}
 use Rattle.pl_base.specs.declared.value.MarkedNode.{MarkedNode}
 use Rattle.pl_base.specs.declared.value.MarkedPair.{MarkedPair}
@@ -14,8 +15,10 @@ use Rattle.pl_schema.specs.Gives.{Fault}
 use Rattle.pl_schema.specs.Legs.{legs_in}
 use Rattle.pl_schema.specs.Names.{is_taken, name_in}
 use Rattle.pl_schema.specs.Pools.{pool_in, environment_in}
-use Rattle.pl_schema.specs.Rows.{◌>>=◌, at_node, Row, sets, ignored, has, read_object, in_turn, some_items}
-use Rattle.pl_schema.specs.Scalars.{pairs_in, items_in, truth_in, limited_in, condition_in, depends_in}
+use Rattle.pl_schema.specs.Rows.{◌>>=◌, at_node, Row, sets, ignored, has, read_object, in_turn}
+use Rattle.pl_schema.specs.Rows.{some_items}
+use Rattle.pl_schema.specs.Scalars.{pairs_in, items_in, truth_in, limited_in, condition_in}
+use Rattle.pl_schema.specs.Scalars.{depends_in}
 use Rattle.pl_schema.specs.Steps.{steps_in}
 use Rattle.pl_schema.specs.Variables.{variables_in}
 
@@ -43,12 +46,28 @@ abbrev pub job_row : (List ℕ → Bool) → Row JobSpec
 job_row taken =
     (codes "job", sets (name_in taken) (λ job name. record job { name = name }))
     ∷ (codes "dependsOn", sets depends_in (λ job depends. record job { depends = Some depends }))
-    ∷ (codes "condition", sets condition_in (λ job condition. record job { condition = Some condition }))
-    ∷ (codes "strategy", sets legs_in (λ job read. record job { legs = read.legs; max_parallel = read.max_parallel }))
+    ∷ (
+      codes "condition",
+      sets condition_in
+          (λ job condition. record job { condition = Some condition }),
+    )
+    ∷ (
+      codes "strategy",
+      sets legs_in
+          (λ job read. record job { legs = read.legs; max_parallel = read.max_parallel }),
+    )
     ∷ (codes "continueOnError", sets truth_in (λ job go_on. record job { go_on = go_on }))
     ∷ (codes "pool", sets pool_in (λ job pool. record job { pool = Some pool }))
-    ∷ (codes "timeoutInMinutes", sets (limited_in 0 525600) (λ job minutes. record job { timeout = Some minutes }))
-    ∷ (codes "variables", sets variables_in (λ job read. record job { variables = read.variables; groups = read.groups }))
+    ∷ (
+      codes "timeoutInMinutes",
+      sets (limited_in 0 525600)
+          (λ job minutes. record job { timeout = Some minutes }),
+    )
+    ∷ (
+      codes "variables",
+      sets variables_in
+          (λ job read. record job { variables = read.variables; groups = read.groups }),
+    )
     ∷ (codes "steps", sets steps_in (λ job steps. record job { steps = steps }))
     ∷ (codes "displayName", ignored)
     ∷ (codes "workspace", ignored)
@@ -57,9 +76,13 @@ job_row taken =
     ∷ []
 
 -- a mapping with one key alone, which must be there
-abbrev pub holding : List ℕ → (MarkedNode → Result (List StepSpec) Fault) → MarkedNode → Result (List StepSpec) Fault
+abbrev pub held_row : List ℕ → (MarkedNode → Result (List StepSpec) Fault) → Row (List StepSpec)
+held_row key read = (key, sets read (λ before steps. steps)) ∷ []
+
+abbrev pub holding : List ℕ → (MarkedNode → Result (List StepSpec) Fault) → MarkedNode →
+    Result (List StepSpec) Fault
 holding key read node =
-    pairs_in node >>= λ pairs. read_object node (has pairs key) ((key, sets read (λ before steps. steps)) ∷ []) [] pairs
+    pairs_in node >>= λ pairs. read_object node (has pairs key) (held_row key read) [] pairs
 
 -- a deployment's strategy holds its steps three levels down
 unfoldable pub deploy_in : MarkedNode → Result (List StepSpec) Fault
@@ -75,12 +98,28 @@ abbrev pub deployment_row : (List ℕ → Bool) → Row JobSpec
 deployment_row taken =
     (codes "deployment", sets (name_in taken) (λ job name. record job { name = name }))
     ∷ (codes "dependsOn", sets depends_in (λ job depends. record job { depends = Some depends }))
-    ∷ (codes "condition", sets condition_in (λ job condition. record job { condition = Some condition }))
+    ∷ (
+      codes "condition",
+      sets condition_in
+          (λ job condition. record job { condition = Some condition }),
+    )
     ∷ (codes "continueOnError", sets truth_in (λ job go_on. record job { go_on = go_on }))
     ∷ (codes "pool", sets pool_in (λ job pool. record job { pool = Some pool }))
-    ∷ (codes "timeoutInMinutes", sets (limited_in 0 525600) (λ job minutes. record job { timeout = Some minutes }))
-    ∷ (codes "variables", sets variables_in (λ job read. record job { variables = read.variables; groups = read.groups }))
-    ∷ (codes "environment", sets environment_in (λ job environment. record job { environment = Some environment }))
+    ∷ (
+      codes "timeoutInMinutes",
+      sets (limited_in 0 525600)
+          (λ job minutes. record job { timeout = Some minutes }),
+    )
+    ∷ (
+      codes "variables",
+      sets variables_in
+          (λ job read. record job { variables = read.variables; groups = read.groups }),
+    )
+    ∷ (
+      codes "environment",
+      sets environment_in
+          (λ job environment. record job { environment = Some environment }),
+    )
     ∷ (codes "strategy", sets strategy_in (λ job steps. record job { steps = steps }))
     ∷ (codes "displayName", ignored)
     ∷ (codes "workspace", ignored)
@@ -91,16 +130,19 @@ deployment_row taken =
 -- a job must have its steps, a deployment its environment and its strategy
 unfoldable pub job_of : (List ℕ → Bool) → MarkedNode → List MarkedPair → Result JobSpec Fault
 job_of taken node pairs =
-    read_object node (has pairs (codes "steps")) (job_row taken) (new_job false node.origin.source) pairs
+    read_object node (has pairs (codes "steps")) (job_row taken) (new_job false node.origin.source)
+    pairs
 
 abbrev pub is_whole_deployment : List MarkedPair → Bool
 is_whole_deployment pairs = has pairs (codes "environment") && has pairs (codes "strategy")
 
 unfoldable pub deployment_of : (List ℕ → Bool) → MarkedNode → List MarkedPair → Result JobSpec Fault
 deployment_of taken node pairs =
-    read_object node (is_whole_deployment pairs) (deployment_row taken) (new_job true node.origin.source) pairs
+    read_object node (is_whole_deployment pairs) (deployment_row taken)
+    (new_job true node.origin.source) pairs
 
-abbrev pub job_by : Option ItemKind → (List ℕ → Bool) → MarkedNode → List MarkedPair → Result JobSpec Fault
+abbrev pub job_by : Option ItemKind → (List ℕ → Bool) → MarkedNode → List MarkedPair →
+    Result JobSpec Fault
 job_by (Some item.Job) taken node pairs = job_of taken node pairs
 job_by (Some item.Deployment) taken node pairs = deployment_of taken node pairs
 job_by other taken node pairs = at_node FirstKey node
@@ -116,4 +158,5 @@ abbrev pub job_names : List JobSpec → List (List ℕ)
 job_names jobs = map (λ job. job.name) jobs
 
 unfoldable pub jobs_in : MarkedNode → Result (List JobSpec) Fault
-jobs_in node = items_in node >>= some_items node >>= in_turn (λ jobs item. job_in (is_taken (job_names jobs)) item) []
+jobs_in node = items_in node >>= some_items node >>= in_turn
+    (λ jobs item. job_in (is_taken (job_names jobs)) item) []

@@ -1,5 +1,6 @@
 -- The legs of a job (Microsoft Learn, "YAML schema reference", jobs.job.strategy).
-use Rattle.std.specs.Prelude.{ℕ, Bool, true, false, List, [], ◌∷◌, codes, Option, Some, None, Result, Ok}
+use Rattle.std.specs.Prelude.{ℕ, Bool, true, false, List, [], ◌∷◌, codes, Option, Some, None}
+use Rattle.std.specs.Prelude.{Result, Ok}
 use Rattle.pl_base.specs.declared.value.Value.{out-Value}
 use Rattle.pl_base.specs.declared.value.Value.TheOpen as layer
 use Rattle.pl_base.specs.declared.value.MarkedNode.{MarkedNode}
@@ -15,7 +16,8 @@ use Rattle.pl_schema.specs.Rows.{◌>>=◌, Reading, Row, sets, alone, read_pair
 use Rattle.pl_schema.specs.Scalars.{pairs_in, limited_in}
 use Rattle.pl_schema.specs.Variables.{late_in}
 
--- ---- a matrix is kept as it is written; of its legs the values that are expressions alone are judged here
+-- ---- a matrix is kept as it is written; of its legs the values that are expressions alone are
+-- judged here
 
 abbrev pub judge_scalar : MarkedNode → Option (List ℕ) → Result (Unit {0}) Fault
 judge_scalar node None = Ok tt
@@ -48,17 +50,23 @@ is_cut legs = true
 
 -- legs are made in one way alone
 abbrev pub set_matrix : Reading Legs
-set_matrix = alone (λ made. is_cut made.legs) WrongShape (sets matrix_in (λ made matrix. record made { legs = Matrix matrix }))
+set_matrix = alone (λ made. is_cut made.legs) WrongShape (sets matrix_in
+    (λ made matrix. record made { legs = Matrix matrix }))
 
 abbrev pub set_parallel : Reading Legs
-set_parallel = alone (λ made. is_cut made.legs) WrongShape (sets (limited_in 1 100) (λ made count. record made { legs = Parallel count }))
+set_parallel = alone (λ made. is_cut made.legs) WrongShape (sets (limited_in 1 100)
+    (λ made count. record made { legs = Parallel count }))
 
 -- the greatest numbers are this project's own
 abbrev pub legs_row : Row Legs
 legs_row =
     (codes "matrix", set_matrix)
     ∷ (codes "parallel", set_parallel)
-    ∷ (codes "maxParallel", sets (limited_in 1 256) (λ made count. record made { max_parallel = Some count }))
+    ∷ (
+      codes "maxParallel",
+      sets (limited_in 1 256)
+          (λ made count. record made { max_parallel = Some count }),
+    )
     ∷ []
 
 unfoldable pub legs_in : MarkedNode → Result Legs Fault

@@ -1,5 +1,6 @@
 -- Pipelines (Microsoft Learn, "YAML schema reference", pipeline).
-use Rattle.std.specs.Prelude.{ℕ, Bool, true, false, ◌||◌, List, [], ◌∷◌, map, codes, Option, Some, None, Result, Ok}
+use Rattle.std.specs.Prelude.{ℕ, Bool, true, false, ◌||◌, List, [], ◌∷◌, map, codes, Option, Some}
+use Rattle.std.specs.Prelude.{None, Result, Ok}
 use Rattle.pl_base.specs.declared.expanded.Expanded.{Expanded}
 use Rattle.pl_base.specs.declared.expanded.Repository.{Repository}
 use Rattle.pl_base.specs.declared.place.FileKey.{FileKey}
@@ -20,7 +21,8 @@ use Rattle.pl_schema.specs.Gives.{Fault}
 use Rattle.pl_schema.specs.Jobs.{new_job, jobs_in}
 use Rattle.pl_schema.specs.Legs.{no_legs, legs_in}
 use Rattle.pl_schema.specs.Pools.{pool_in}
-use Rattle.pl_schema.specs.Rows.{◌>>=◌, Row, Reading, sets, ignored, alone, only_if, has, read_object}
+use Rattle.pl_schema.specs.Rows.{◌>>=◌, Row, Reading, sets, ignored, alone, only_if, has}
+use Rattle.pl_schema.specs.Rows.{read_object}
 use Rattle.pl_schema.specs.Scalars.{pairs_in, truth_in, behaviour_in}
 use Rattle.pl_schema.specs.Stages.{new_stage, stages_in}
 use Rattle.pl_schema.specs.Steps.{steps_in}
@@ -44,7 +46,8 @@ has_form form = true
 
 -- a form of the root, of which one alone may stand
 abbrev pub forms : {X : Type 0} → (MarkedNode → Result X Fault) → (X → Form) → Reading Root
-forms read keep = alone (λ root. has_form root.form) TwoForms (sets read (λ root form. record root { form = keep form }))
+forms read keep = alone (λ root. has_form root.form) TwoForms (sets read
+    (λ root form. record root { form = keep form }))
 
 abbrev pub set_stages : Reading Root
 set_stages = forms stages_in Stages
@@ -67,9 +70,17 @@ root_row steps =
     (codes "stages", set_stages)
     ∷ (codes "jobs", set_jobs)
     ∷ (codes "steps", set_steps)
-    ∷ (codes "variables", sets variables_in (λ root read. record root { variables = read.variables; groups = read.groups }))
+    ∷ (
+      codes "variables",
+      sets variables_in
+          (λ root read. record root { variables = read.variables; groups = read.groups }),
+    )
     ∷ (codes "pool", sets pool_in (λ root pool. record root { pool = Some pool }))
-    ∷ (codes "lockBehavior", sets behaviour_in (λ root behaviour. record root { behaviour = Some behaviour }))
+    ∷ (
+      codes "lockBehavior",
+      sets behaviour_in
+          (λ root behaviour. record root { behaviour = Some behaviour }),
+    )
     ∷ (codes "strategy", set_strategy steps)
     ∷ (codes "continueOnError", set_go_on steps)
     ∷ (codes "name", ignored)
@@ -83,11 +94,13 @@ root_row steps =
     ∷ []
 
 abbrev pub has_some_form : List MarkedPair → Bool
-has_some_form pairs = has pairs (codes "stages") || (has pairs (codes "jobs") || has pairs (codes "steps"))
+has_some_form pairs = has pairs (codes "stages")
+    || (has pairs (codes "jobs") || has pairs (codes "steps"))
 
 unfoldable pub root_in : MarkedNode → Result Root Fault
 root_in node =
-    pairs_in node >>= λ pairs. read_object node (has_some_form pairs) (root_row (has pairs (codes "steps"))) new_root pairs
+    pairs_in node >>= λ pairs. read_object node (has_some_form pairs)
+    (root_row (has pairs (codes "steps"))) new_root pairs
 
 -- ---- jobs of the root are the jobs of one stage, and steps of the root are those of its one job
 
@@ -107,7 +120,8 @@ abbrev pub stages_of : Place → Legs → Bool → Form → List StageSpec
 stages_of place strategy go_on Nothing = []
 stages_of place strategy go_on (Stages stages) = stages
 stages_of place strategy go_on (Jobs jobs) = only_stage place jobs ∷ []
-stages_of place strategy go_on (Steps steps) = only_stage place (only_job place strategy go_on steps ∷ []) ∷ []
+stages_of place strategy go_on (Steps steps) =
+    only_stage place (only_job place strategy go_on steps ∷ []) ∷ []
 
 -- ---- the pipeline
 

@@ -1,4 +1,5 @@
--- Pools and environments (Microsoft Learn, "YAML schema reference", pool; jobs.deployment.environment).
+-- Pools and environments (Microsoft Learn, "YAML schema reference", pool;
+-- jobs.deployment.environment).
 use Rattle.std.specs.Prelude.{ℕ, List, [], ◌∷◌, codes, Option, None, Result, Ok}
 use Rattle.pl_base.specs.declared.value.Value.{out-Value}
 use Rattle.pl_base.specs.declared.value.Value.TheOpen as layer
@@ -38,7 +39,8 @@ environment_row =
 
 -- a scalar is the environment's name
 abbrev pub environment_from : MarkedNode → Opened → Result (List ℕ) Fault
-environment_from node (layer.Object pairs) = read_object node (has pairs (codes "name")) environment_row [] pairs
+environment_from node (layer.Object pairs) = read_object node (has pairs (codes "name"))
+    environment_row [] pairs
 environment_from node value = filled_in node
 
 unfoldable pub environment_in : MarkedNode → Result (List ℕ) Fault

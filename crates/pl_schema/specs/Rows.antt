@@ -48,7 +48,8 @@ Row S = List (List ℕ × Reading S)
 -- keys are exact, and a key that isn't in the row is refused
 abbrev pub read_pair : {S : Type 0} → Row S → Reading S
 read_pair [] made pair = at_key UnknownKey pair
-read_pair (entry ∷ row) made pair = if is pair.key entry.0 then entry.1 made pair else read_pair row made pair
+read_pair (entry ∷ row) made pair = if is pair.key entry.0 then entry.1 made pair
+    else read_pair row made pair
 
 -- one after the other
 abbrev pub in_order : {S X : Type 0} → (S → X → Result S Fault) → S → List X → Result S Fault
@@ -56,7 +57,8 @@ in_order read made [] = Ok made
 in_order read made (item ∷ items) = read made item >>= λ next. in_order read next items
 
 -- item after item, each beside those before it
-abbrev pub in_turn : {X Y : Type 0} → (List Y → X → Result Y Fault) → List Y → List X → Result (List Y) Fault
+abbrev pub in_turn : {X Y : Type 0} → (List Y → X → Result Y Fault) → List Y → List X →
+    Result (List Y) Fault
 in_turn make made [] = Ok made
 in_turn make made (item ∷ items) = make made item >>= λ one. in_turn make (made ++ one ∷ []) items
 
@@ -65,8 +67,10 @@ abbrev pub has : List MarkedPair → List ℕ → Bool
 has pairs key = list_any (λ pair. is pair.key key) pairs
 
 -- a mapping whose pairs are read by a row, once it has what it must have
-abbrev pub read_object : {S : Type 0} → MarkedNode → Bool → Row S → S → List MarkedPair → Result S Fault
-read_object node is_whole row start pairs = if is_whole then in_order (read_pair row) start pairs else at_node MissingKey node
+abbrev pub read_object : {S : Type 0} → MarkedNode → Bool → Row S → S → List MarkedPair →
+    Result S Fault
+read_object node is_whole row start pairs = if is_whole then in_order (read_pair row) start pairs
+    else at_node MissingKey node
 
 -- a list that must have an item
 abbrev pub some_items : MarkedNode → List MarkedNode → Result (List MarkedNode) Fault

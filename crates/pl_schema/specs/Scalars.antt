@@ -1,5 +1,7 @@
 -- Values that are scalars, and lists of scalars.
-use Rattle.std.specs.Prelude.{ℕ, ◌-◌, Bool, true, false, ◌&&◌, nat_le, nat_eq, List, [], ◌∷◌, length, take, drop, codes, ℤ, pos, negsuc, Option, Some, None, Result, Ok, Err, if◌then◌else◌}
+use Rattle.std.specs.Prelude.{ℕ, ◌-◌, Bool, true, false, ◌&&◌, nat_le, nat_eq, List, [], ◌∷◌}
+use Rattle.std.specs.Prelude.{length, take, drop, codes, ℤ, pos, negsuc, Option, Some, None, Result}
+use Rattle.std.specs.Prelude.{Ok, Err, if◌then◌else◌}
 use Rattle.std.specs.Option.{option_and_then}
 use Rattle.std.specs.Result.{result_ok}
 use Rattle.std.specs.List.{starts_with}
@@ -17,7 +19,8 @@ use Rattle.pl_expr.specs.Numerals.{number_in}
 use Rattle.pl_literal.specs.Booleans.{boolean_in}
 use Rattle.pl_literal.specs.Items.{Opened, is}
 use Rattle.pl_schema.specs.declared.fault.SchemaCode.{SchemaCode}
-use Rattle.pl_schema.specs.declared.fault.SchemaCode.TheVariants.{MissingKey, WrongShape, BadNumber, BadCondition}
+use Rattle.pl_schema.specs.declared.fault.SchemaCode.TheVariants.{MissingKey, WrongShape, BadNumber}
+use Rattle.pl_schema.specs.declared.fault.SchemaCode.TheVariants.{BadCondition}
 use Rattle.pl_schema.specs.declared.pipeline.DependSpec.{DependSpec}
 use Rattle.pl_schema.specs.Gives.{Fault}
 use Rattle.pl_schema.specs.Rows.{◌>>=◌, at_node, in_turn}
@@ -60,7 +63,8 @@ behaviour_in node = text_in node >>= λ text. or_refuse WrongShape node (behavio
 
 -- a number from the first limit to the second one; an empty text is none
 abbrev pub between : ℕ → ℕ → ℤ → Option ℕ
-between low high (pos number) = if nat_le low number && nat_le number high then Some number else None
+between low high (pos number) = if nat_le low number && nat_le number high then Some number
+    else None
 between low high (negsuc number) = None
 
 abbrev pub limited : ℕ → ℕ → List ℕ → Option ℕ
@@ -72,7 +76,8 @@ limited_in low high node = text_in node >>= λ text. or_refuse BadNumber node (l
 
 -- a condition
 unfoldable pub condition_in : MarkedNode → Result Expr Fault
-condition_in node = text_in node >>= λ text. or_refuse BadCondition node (result_ok (parses Condition text))
+condition_in node = text_in node >>= λ text. or_refuse BadCondition node
+    (result_ok (parses Condition text))
 
 -- a mapping's pairs; an empty scalar is an empty mapping
 abbrev pub pairs_from : MarkedNode → Opened → Result (List MarkedPair) Fault
@@ -95,10 +100,12 @@ abbrev pub items_in : MarkedNode → Result (List MarkedNode) Fault
 items_in node = items_from node (out-Value node.value)
 
 -- a list of scalars, each read by itself; one scalar is a list of one
-abbrev pub just_one : {X : Type 0} → (MarkedNode → Result X Fault) → MarkedNode → Result (List X) Fault
+abbrev pub just_one : {X : Type 0} → (MarkedNode → Result X Fault) → MarkedNode →
+    Result (List X) Fault
 just_one read node = read node >>= λ one. Ok (one ∷ [])
 
-abbrev pub scalars_from : {X : Type 0} → (MarkedNode → Result X Fault) → MarkedNode → Opened → Result (List X) Fault
+abbrev pub scalars_from : {X : Type 0} → (MarkedNode → Result X Fault) → MarkedNode → Opened →
+    Result (List X) Fault
 scalars_from read node (layer.Array items) = in_turn (λ before item. read item) [] items
 scalars_from read node layer.Null = Ok []
 scalars_from read node (layer.Str []) = Ok []

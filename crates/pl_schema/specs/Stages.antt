@@ -1,5 +1,6 @@
 -- Stages (Microsoft Learn, "YAML schema reference", stages.stage).
-use Rattle.std.specs.Prelude.{ℕ, Bool, List, [], ◌∷◌, map, codes, Option, Some, None, Result, Ok, if◌then◌else◌}
+use Rattle.std.specs.Prelude.{ℕ, Bool, List, [], ◌∷◌, map, codes, Option, Some, None, Result, Ok}
+use Rattle.std.specs.Prelude.{if◌then◌else◌}
 use Rattle.pl_base.specs.declared.place.Place.{Place}
 use Rattle.pl_base.specs.declared.value.MarkedNode.{MarkedNode}
 use Rattle.pl_base.specs.declared.value.MarkedPair.{MarkedPair}
@@ -10,7 +11,8 @@ use Rattle.pl_schema.specs.Gives.{Fault}
 use Rattle.pl_schema.specs.Jobs.{jobs_in}
 use Rattle.pl_schema.specs.Names.{is_taken, name_in}
 use Rattle.pl_schema.specs.Pools.{pool_in}
-use Rattle.pl_schema.specs.Rows.{◌>>=◌, at_node, Row, sets, ignored, has, read_object, in_turn, some_items}
+use Rattle.pl_schema.specs.Rows.{◌>>=◌, at_node, Row, sets, ignored, has, read_object, in_turn}
+use Rattle.pl_schema.specs.Rows.{some_items}
 use Rattle.pl_schema.specs.Scalars.{pairs_in, items_in, condition_in, behaviour_in, depends_in}
 use Rattle.pl_schema.specs.Variables.{variables_in}
 
@@ -31,24 +33,42 @@ new_stage place = record {
 abbrev pub stage_row : (List ℕ → Bool) → Row StageSpec
 stage_row taken =
     (codes "stage", sets (name_in taken) (λ stage name. record stage { name = name }))
-    ∷ (codes "dependsOn", sets depends_in (λ stage depends. record stage { depends = Some depends }))
-    ∷ (codes "condition", sets condition_in (λ stage condition. record stage { condition = Some condition }))
-    ∷ (codes "variables", sets variables_in (λ stage read. record stage { variables = read.variables; groups = read.groups }))
+    ∷ (
+      codes "dependsOn",
+      sets depends_in
+          (λ stage depends. record stage { depends = Some depends }),
+    )
+    ∷ (
+      codes "condition",
+      sets condition_in
+          (λ stage condition. record stage { condition = Some condition }),
+    )
+    ∷ (
+      codes "variables",
+      sets variables_in
+          (λ stage read. record stage { variables = read.variables; groups = read.groups }),
+    )
     ∷ (codes "jobs", sets jobs_in (λ stage jobs. record stage { jobs = jobs }))
     ∷ (codes "pool", sets pool_in (λ stage pool. record stage { pool = Some pool }))
-    ∷ (codes "lockBehavior", sets behaviour_in (λ stage behaviour. record stage { behaviour = Some behaviour }))
+    ∷ (
+      codes "lockBehavior",
+      sets behaviour_in
+          (λ stage behaviour. record stage { behaviour = Some behaviour }),
+    )
     ∷ (codes "displayName", ignored)
     ∷ (codes "templateContext", ignored)
     ∷ []
 
 -- a stage must have its jobs
 unfoldable pub stage_of : (List ℕ → Bool) → MarkedNode → List MarkedPair → Result StageSpec Fault
-stage_of taken node pairs = read_object node (has pairs (codes "jobs")) (stage_row taken) (new_stage node.origin.source) pairs
+stage_of taken node pairs = read_object node (has pairs (codes "jobs")) (stage_row taken)
+    (new_stage node.origin.source) pairs
 
 abbrev pub stage_from : (List ℕ → Bool) → MarkedNode → List MarkedPair → Result StageSpec Fault
 stage_from taken node [] = at_node FirstKey node
 stage_from taken node (first ∷ pairs) =
-    if is first.key (codes "stage") then stage_of taken node (first ∷ pairs) else at_node FirstKey node
+    if is first.key (codes "stage") then stage_of taken node (first ∷ pairs)
+    else at_node FirstKey node
 
 unfoldable pub stage_in : (List ℕ → Bool) → MarkedNode → Result StageSpec Fault
 stage_in taken node = pairs_in node >>= stage_from taken node
@@ -57,4 +77,5 @@ abbrev pub stage_names : List StageSpec → List (List ℕ)
 stage_names stages = map (λ stage. stage.name) stages
 
 unfoldable pub stages_in : MarkedNode → Result (List StageSpec) Fault
-stages_in node = items_in node >>= some_items node >>= in_turn (λ stages item. stage_in (is_taken (stage_names stages)) item) []
+stages_in node = items_in node >>= some_items node >>= in_turn
+    (λ stages item. stage_in (is_taken (stage_names stages)) item) []

@@ -1,5 +1,6 @@
 -- Steps (Microsoft Learn, "YAML schema reference", steps).
-use Rattle.std.specs.Prelude.{ℕ, Bool, true, false, find, List, [], ◌∷◌, codes, Option, Some, None, Result, Ok, if◌then◌else◌}
+use Rattle.std.specs.Prelude.{ℕ, Bool, true, false, find, List, [], ◌∷◌, codes, Option, Some, None}
+use Rattle.std.specs.Prelude.{Result, Ok, if◌then◌else◌}
 use Rattle.std.specs.Option.{option_and_then}
 use Rattle.std.specs.List.{filter_map}
 use Rattle.pl_base.specs.declared.value.Value.{out-Value}
@@ -28,7 +29,8 @@ is_step_key key = is_step (kind_of_key key)
 -- ---- the names of steps
 
 abbrev pub name_under : Opened → Option (List ℕ)
-name_under (layer.Object pairs) = option_and_then (λ pair. text_of pair.item.value) (find (λ pair. is pair.key (codes "name")) pairs)
+name_under (layer.Object pairs) = option_and_then (λ pair. text_of pair.item.value)
+    (find (λ pair. is pair.key (codes "name")) pairs)
 name_under value = None
 
 abbrev pub step_name : StepSpec → Option (List ℕ)
@@ -37,7 +39,8 @@ step_name step = name_under (out-Value step.body.value)
 abbrev pub step_names : List StepSpec → List (List ℕ)
 step_names steps = filter_map step_name steps
 
--- ---- a step: its step key is the first one and stands alone, and every other key but `name` is passed on
+-- ---- a step: its step key is the first one and stands alone, and every other key but `name` is
+-- passed on
 
 -- a step key, once one has begun the step or not
 abbrev pub read_form : Bool → MarkedPair → Result Bool Fault
@@ -54,7 +57,8 @@ abbrev pub step_from : (List ℕ → Bool) → MarkedNode → List MarkedPair �
 step_from taken node [] = at_node FirstKey node
 step_from taken node (first ∷ pairs) =
     if is_step_key first.key
-    then (in_order (step_pair taken) false (first ∷ pairs) >>= λ begun. Ok (record { form = first.key; place = node.origin.source; body = node }))
+    then (in_order (step_pair taken) false (first ∷ pairs)
+    >>= λ begun. Ok (record { form = first.key; place = node.origin.source; body = node }))
     else at_node FirstKey node
 
 unfoldable pub step_in : (List ℕ → Bool) → MarkedNode → Result StepSpec Fault
@@ -62,4 +66,5 @@ step_in taken node = pairs_in node >>= step_from taken node
 
 -- a job may have no step
 unfoldable pub steps_in : MarkedNode → Result (List StepSpec) Fault
-steps_in node = items_in node >>= in_turn (λ steps item. step_in (is_taken (step_names steps)) item) []
+steps_in node = items_in node >>= in_turn (λ steps item. step_in (is_taken (step_names steps)) item)
+    []

@@ -1,5 +1,7 @@
 -- Variables (Microsoft Learn, "YAML schema reference", variables).
-use Rattle.std.specs.Prelude.{ℕ, ◌-◌, Bool, true, false, ◌&&◌, ◌||◌, nat_eq, List, [], ◌∷◌, ◌++◌, length, take, drop, codes, Option, Some, None, Result, Ok, is_some, if◌then◌else◌}
+use Rattle.std.specs.Prelude.{ℕ, ◌-◌, Bool, true, false, ◌&&◌, ◌||◌, nat_eq, List, [], ◌∷◌, ◌++◌}
+use Rattle.std.specs.Prelude.{length, take, drop, codes, Option, Some, None, Result, Ok, is_some}
+use Rattle.std.specs.Prelude.{if◌then◌else◌}
 use Rattle.std.specs.List.{starts_with, ends_with}
 use Rattle.std.specs.Result.{result_ok}
 use Rattle.pl_base.specs.declared.value.Value.{out-Value}
@@ -10,50 +12,71 @@ use Rattle.pl_expr.specs.declared.expr.Expr.{Expr}
 use Rattle.pl_expr.specs.declared.expr.Mode.TheVariants as mode
 use Rattle.pl_expr.specs.Grammar.{parses}
 use Rattle.pl_literal.specs.Items.{Opened}
-use Rattle.pl_schema.specs.declared.fault.SchemaCode.TheVariants.{MissingKey, WrongShape, TwoForms, BadCondition}
+use Rattle.pl_schema.specs.declared.fault.SchemaCode.TheVariants.{MissingKey, WrongShape, TwoForms}
+use Rattle.pl_schema.specs.declared.fault.SchemaCode.TheVariants.{BadCondition}
 use Rattle.pl_schema.specs.declared.pipeline.Variable.{Variable}
 use Rattle.pl_schema.specs.declared.variables.Variables.{Variables}
 use Rattle.pl_schema.specs.declared.variables.VariableItem.{VariableItem}
 use Rattle.pl_schema.specs.Gives.{Fault}
-use Rattle.pl_schema.specs.Rows.{◌>>=◌, at_node, Reading, Row, sets, ignored, alone, read_pair, in_order, has, read_object}
+use Rattle.pl_schema.specs.Rows.{◌>>=◌, at_node, Reading, Row, sets, ignored, alone, read_pair}
+use Rattle.pl_schema.specs.Rows.{in_order, has, read_object}
 use Rattle.pl_schema.specs.Scalars.{or_refuse, text_in, pairs_in}
 
 -- ---- a value that is an expression as a whole
 
 -- what stands between `$[` at the text's beginning and `]` at its end
 abbrev pub before_bracket : List ℕ → Option (List ℕ)
-before_bracket text = if ends_with nat_eq text (codes "]") then Some (take (length text - 1) text) else None
+before_bracket text = if ends_with nat_eq text (codes "]") then Some (take (length text - 1) text)
+    else None
 
 abbrev pub expression_in : List ℕ → Option (List ℕ)
-expression_in text = if starts_with nat_eq text (codes "$[") then before_bracket (drop 2 text) else None
+expression_in text = if starts_with nat_eq text (codes "$[") then before_bracket (drop 2 text)
+    else None
 
 abbrev pub late_from : MarkedNode → Option (List ℕ) → Result (Option Expr) Fault
 late_from node None = Ok None
-late_from node (Some inner) = or_refuse BadCondition node (result_ok (parses mode.Variable inner)) >>= λ late. Ok (Some late)
+late_from node (Some inner) = or_refuse BadCondition node (result_ok (parses mode.Variable inner))
+    >>= λ late. Ok (Some late)
 
 unfoldable pub late_in : MarkedNode → List ℕ → Result (Option Expr) Fault
 late_in node text = late_from node (expression_in text)
 
 unfoldable pub variable_in : List ℕ → MarkedNode → Result Variable Fault
-variable_in name node = text_in node >>= λ text. late_in node text >>= λ late. Ok (record { name = name; value = text; late = late })
+variable_in name node = text_in node >>= λ text. late_in node text
+    >>= λ late. Ok (record { name = name; value = text; late = late })
 
 -- ---- a list of variables and groups
 
 -- an item before its first key: no name, no value, no group
 abbrev pub new_item : VariableItem
-new_item = record { written = record { name = []; value = []; late = None }; is_written = false; group = None }
+new_item = record {
+  written = record { name = []; value = []; late = None };
+  is_written =
+      false;
+  group = None;
+}
 
 -- a name and a value may not stand beside a group
 abbrev pub item_name : Reading VariableItem
-item_name = alone (λ item. is_some item.group) TwoForms (sets text_in (λ item name. record item { written = record item.written { name = name }; is_written = true }))
+item_name = alone (λ item. is_some item.group) TwoForms (sets text_in
+    (λ item name. record item { written = record item.written { name = name }; is_written = true }))
 
 abbrev pub item_value : Reading VariableItem
 item_value =
     alone (λ item. is_some item.group) TwoForms
-    (sets (variable_in []) (λ item read. record item { written = record item.written { value = read.value; late = read.late }; is_written = true }))
+    (sets (variable_in [])
+    (λ item read. record item {
+      written = record item.written {
+        value = read.value;
+        late =
+            read.late;
+      };
+      is_written = true;
+    }))
 
 abbrev pub item_group : Reading VariableItem
-item_group = alone (λ item. item.is_written) TwoForms (sets text_in (λ item group. record item { group = Some group }))
+item_group = alone (λ item. item.is_written) TwoForms (sets text_in
+    (λ item group. record item { group = Some group }))
 
 abbrev pub item_row : Row VariableItem
 item_row =
@@ -65,7 +88,8 @@ item_row =
 
 -- a group, or a name with its value
 abbrev pub is_whole_item : List MarkedPair → Bool
-is_whole_item pairs = has pairs (codes "group") || (has pairs (codes "name") && has pairs (codes "value"))
+is_whole_item pairs = has pairs (codes "group")
+    || (has pairs (codes "name") && has pairs (codes "value"))
 
 abbrev pub put_variable : Variables → Variable → Variables
 put_variable all variable = record all { variables = all.variables ++ variable ∷ [] }
@@ -83,7 +107,8 @@ read_item all node =
 
 -- in a mapping each key is a variable's name
 abbrev pub read_variable : Reading Variables
-read_variable all pair = variable_in pair.key pair.item >>= λ variable. Ok (put_variable all variable)
+read_variable all pair = variable_in pair.key pair.item
+    >>= λ variable. Ok (put_variable all variable)
 
 abbrev pub no_variables : Variables
 no_variables = record { variables = []; groups = [] }

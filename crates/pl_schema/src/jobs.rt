@@ -35,7 +35,8 @@ pub fn jobs_in(alloc: Global, node: &MarkedNode) -> Result<List<JobSpec>, Schema
 }
 
 fn jobs_of(alloc: Global, items: &[MarkedNode]) -> Result<List<JobSpec>, SchemaFault>
-    ensures { Gives result (in_turn (λ jobs item. spec.job_in (is_taken (spec.job_names jobs)) item) [] items.now) }
+    ensures { Gives result (in_turn (λ jobs item. spec.job_in (is_taken (spec.job_names jobs)) item)
+        [] items.now) }
 {
     let mut names = no_names(alloc);
     let mut jobs = List::new(alloc);
@@ -109,7 +110,8 @@ fn read_job(
     job: &mut JobSpec,
     pairs: &[MarkedPair],
 ) -> Result<(), SchemaFault>
-    ensures { Makes result job.new (in_order (read_pair (spec.job_row (taken names.now))) job.old pairs.now) }
+    ensures { Makes result job.new (in_order (read_pair (spec.job_row (taken names.now))) job.old
+        pairs.now) }
 {
     for pair in pairs {
         job_pair(alloc, names, job, pair)?;
@@ -179,7 +181,8 @@ fn new_deployment(
     place: &Place,
     pairs: &[MarkedPair],
 ) -> Result<JobSpec, SchemaFault>
-    ensures { Gives result (in_order (read_pair (spec.deployment_row (taken names.now))) (spec.new_job true place.now) pairs.now) }
+    ensures { Gives result (in_order (read_pair (spec.deployment_row (taken names.now)))
+        (spec.new_job true place.now) pairs.now) }
 {
     let mut job = new_job(alloc, true, place)?;
     read_deployment(alloc, names, &mut job, pairs)?;
@@ -192,7 +195,8 @@ fn read_deployment(
     job: &mut JobSpec,
     pairs: &[MarkedPair],
 ) -> Result<(), SchemaFault>
-    ensures { Makes result job.new (in_order (read_pair (spec.deployment_row (taken names.now))) job.old pairs.now) }
+    ensures { Makes result job.new (in_order (read_pair (spec.deployment_row (taken names.now)))
+        job.old pairs.now) }
 {
     for pair in pairs {
         deployment_pair(alloc, names, job, pair)?;
@@ -207,7 +211,8 @@ fn deployment_pair(
     job: &mut JobSpec,
     pair: &MarkedPair,
 ) -> Result<(), SchemaFault>
-    ensures { Makes result job.new (read_pair (spec.deployment_row (taken names.now)) job.old pair.now) }
+    ensures { Makes result job.new (read_pair (spec.deployment_row (taken names.now)) job.old
+        pair.now) }
 {
     let node = &pair.item;
     match pair.key.as_str() {

@@ -1,5 +1,5 @@
-//! Pipelines as they are written, read from an expanded tree (Microsoft Learn, Azure Pipelines, "YAML
-//! schema reference").
+//! Pipelines as they are written, read from an expanded tree (Microsoft Learn, Azure Pipelines,
+//! "YAML schema reference").
 #![tactic(auto)]
 
 mod copying;

@@ -1,7 +1,8 @@
 ghost use Rattle.std.specs.Prelude.{◌≡◌, []};
 ghost use Rattle.pl_schema.specs.Gives.{Gives, Makes};
 ghost use Rattle.pl_schema.specs.Rows.{read_pair, in_order};
-ghost use Rattle.pl_schema.specs.Pools.{no_pool, pool_row, pool_in, environment_row, environment_in};
+ghost use Rattle.pl_schema.specs.Pools.{no_pool, pool_row, pool_in, environment_row};
+ghost use Rattle.pl_schema.specs.Pools.{environment_in};
 
 use crate::fault::{SchemaCode, SchemaFault};
 use crate::lists::demands_in;

@@ -1,6 +1,8 @@
 ghost use Rattle.std.specs.Prelude.{◌≡◌, IfOk, MatchResult};
 ghost use Rattle.pl_schema.specs.Gives.{Gives, Refuses};
-ghost use Rattle.pl_schema.specs.Scalars.{text_in, filled_in, some_text, truth_in, behaviour_named, behaviour_in, limited, limited_in, condition_in, pairs_in, items_in};
+ghost use Rattle.pl_schema.specs.Scalars.{text_in, filled_in, some_text, truth_in, behaviour_named};
+ghost use Rattle.pl_schema.specs.Scalars.{behaviour_in, limited, limited_in, condition_in};
+ghost use Rattle.pl_schema.specs.Scalars.{pairs_in, items_in};
 
 use crate::fault::{SchemaCode, SchemaFault};
 use crate::rows::at_node;
@@ -115,7 +117,8 @@ pub fn condition_in(alloc: Global, node: &MarkedNode) -> Result<Expr, SchemaFaul
 
 /// A mapping's pairs; an empty scalar has none.
 pub fn pairs_in(alloc: Global, node: &MarkedNode) -> Result<&[MarkedPair], SchemaFault>
-    ensures { MatchResult result (λ pairs. Gives (Ok pairs.now) (pairs_in node.now)) (λ fault. Refuses fault (pairs_in node.now)) }
+    ensures { MatchResult result (λ pairs. Gives (Ok pairs.now) (pairs_in node.now))
+        (λ fault. Refuses fault (pairs_in node.now)) }
 {
     match &node.value {
         Value::Object(pairs) => Ok(pairs.as_slice()),
@@ -127,7 +130,8 @@ pub fn pairs_in(alloc: Global, node: &MarkedNode) -> Result<&[MarkedPair], Schem
 
 /// A list's items; an empty scalar has none.
 pub fn items_in(alloc: Global, node: &MarkedNode) -> Result<&[MarkedNode], SchemaFault>
-    ensures { MatchResult result (λ items. Gives (Ok items.now) (items_in node.now)) (λ fault. Refuses fault (items_in node.now)) }
+    ensures { MatchResult result (λ items. Gives (Ok items.now) (items_in node.now))
+        (λ fault. Refuses fault (items_in node.now)) }
 {
     match &node.value {
         Value::Array(items) => Ok(items.as_slice()),

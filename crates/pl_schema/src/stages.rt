@@ -29,7 +29,8 @@ pub fn stages_in(alloc: Global, node: &MarkedNode) -> Result<List<StageSpec>, Sc
 }
 
 fn stages_of(alloc: Global, items: &[MarkedNode]) -> Result<List<StageSpec>, SchemaFault>
-    ensures { Gives result (in_turn (λ stages item. spec.stage_in (is_taken (spec.stage_names stages)) item) [] items.now) }
+    ensures { Gives result (in_turn
+        (λ stages item. spec.stage_in (is_taken (spec.stage_names stages)) item) [] items.now) }
 {
     let mut names = no_names(alloc);
     let mut stages = List::new(alloc);
@@ -97,7 +98,8 @@ fn read_stage(
     stage: &mut StageSpec,
     pairs: &[MarkedPair],
 ) -> Result<(), SchemaFault>
-    ensures { Makes result stage.new (in_order (read_pair (spec.stage_row (taken names.now))) stage.old pairs.now) }
+    ensures { Makes result stage.new (in_order (read_pair (spec.stage_row (taken names.now)))
+        stage.old pairs.now) }
 {
     for pair in pairs {
         stage_pair(alloc, names, stage, pair)?;
@@ -112,7 +114,8 @@ fn stage_pair(
     stage: &mut StageSpec,
     pair: &MarkedPair,
 ) -> Result<(), SchemaFault>
-    ensures { Makes result stage.new (read_pair (spec.stage_row (taken names.now)) stage.old pair.now) }
+    ensures { Makes result stage.new (read_pair (spec.stage_row (taken names.now)) stage.old
+        pair.now) }
 {
     let node = &pair.item;
     match pair.key.as_str() {

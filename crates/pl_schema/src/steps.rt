@@ -5,7 +5,8 @@ ghost use Rattle.pl_expr.specs.Conversions.{text_of};
 ghost use Rattle.pl_schema.specs.Gives.{Gives, Makes};
 ghost use Rattle.pl_schema.specs.Names.{is_taken, taken, also_taken};
 ghost use Rattle.pl_schema.specs.Rows.{in_order, in_turn};
-ghost use Rattle.pl_schema.specs.Steps.{is_step_key, step_name, step_names, read_form, step_pair, step_from, step_in, steps_in};
+ghost use Rattle.pl_schema.specs.Steps.{is_step_key, step_name, step_names, read_form, step_pair};
+ghost use Rattle.pl_schema.specs.Steps.{step_from, step_in, steps_in};
 
 use crate::fault::{SchemaCode, SchemaFault};
 use crate::names::{Names, name_in, no_names, take};
@@ -27,7 +28,8 @@ pub fn steps_in(alloc: Global, node: &MarkedNode) -> Result<List<StepSpec>, Sche
 }
 
 fn steps_of(alloc: Global, items: &[MarkedNode]) -> Result<List<StepSpec>, SchemaFault>
-    ensures { Gives result (in_turn (λ steps item. step_in (is_taken (step_names steps)) item) [] items.now) }
+    ensures { Gives result (in_turn (λ steps item. step_in (is_taken (step_names steps)) item) []
+        items.now) }
 {
     let mut names = no_names(alloc);
     let mut steps = List::new(alloc);

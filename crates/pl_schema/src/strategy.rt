@@ -1,8 +1,8 @@
-ghost use Rattle.std.specs.Prelude.{[], ◌∷◌, codes};
+ghost use Rattle.std.specs.Prelude.{[], codes};
 ghost use Rattle.pl_schema.specs.Gives.{Gives};
-ghost use Rattle.pl_schema.specs.Rows.{sets, read_pair, in_order};
+ghost use Rattle.pl_schema.specs.Rows.{read_pair, in_order};
 ghost use Rattle.pl_schema.specs.Steps.{steps_in};
-ghost use Rattle.pl_schema.specs.Jobs.{deploy_in, run_once_in, strategy_in};
+ghost use Rattle.pl_schema.specs.Jobs.{held_row, deploy_in, run_once_in, strategy_in};
 
 use crate::fault::{SchemaCode, SchemaFault};
 use crate::pipeline::StepSpec;
@@ -25,7 +25,8 @@ pub fn strategy_in(alloc: Global, node: &MarkedNode) -> Result<List<StepSpec>, S
 }
 
 fn strategy_of(alloc: Global, pairs: &[MarkedPair]) -> Result<List<StepSpec>, SchemaFault>
-    ensures { Gives result (in_order (read_pair ((codes "runOnce", sets run_once_in (λ before steps. steps)) ∷ [])) [] pairs.now) }
+    ensures { Gives result
+        (in_order (read_pair (held_row (codes "runOnce") run_once_in)) [] pairs.now) }
 {
     let mut steps = List::new(alloc);
     for pair in pairs {
@@ -49,7 +50,8 @@ fn run_once_in(alloc: Global, node: &MarkedNode) -> Result<List<StepSpec>, Schem
 }
 
 fn run_once_of(alloc: Global, pairs: &[MarkedPair]) -> Result<List<StepSpec>, SchemaFault>
-    ensures { Gives result (in_order (read_pair ((codes "deploy", sets deploy_in (λ before steps. steps)) ∷ [])) [] pairs.now) }
+    ensures { Gives result
+        (in_order (read_pair (held_row (codes "deploy") deploy_in)) [] pairs.now) }
 {
     let mut steps = List::new(alloc);
     for pair in pairs {
@@ -73,7 +75,8 @@ fn deploy_in(alloc: Global, node: &MarkedNode) -> Result<List<StepSpec>, SchemaF
 }
 
 fn deploy_of(alloc: Global, pairs: &[MarkedPair]) -> Result<List<StepSpec>, SchemaFault>
-    ensures { Gives result (in_order (read_pair ((codes "steps", sets steps_in (λ before steps. steps)) ∷ [])) [] pairs.now) }
+    ensures { Gives result
+        (in_order (read_pair (held_row (codes "steps") steps_in)) [] pairs.now) }
 {
     let mut steps = List::new(alloc);
     for pair in pairs {

@@ -48,8 +48,8 @@ pub fn pipeline_in(alloc: Global, text: &str) -> Result<Option<Pipeline>, Memory
     Ok(pipeline_of(alloc, &expanded(alloc, &node)?).ok())
 }
 
-fn said(alloc: Global, result: &Result<Pipeline, SchemaFault>) -> Result<String, Memory> {
-    match result {
+fn said(alloc: Global, given: &Result<Pipeline, SchemaFault>) -> Result<String, Memory> {
+    match given {
         Ok(_) => Ok(String::from_str(alloc, "ok")?),
         Err(SchemaFault::Refused(code, place)) => {
             Ok(format!(in alloc; "{} {}:{}", code.code(), place.line, place.col)?)

@@ -10,8 +10,8 @@ fn between(alloc: Global, begin: &str, text: &str, end: &str) -> Result<String, 
     Ok(whole)
 }
 
-/// What is said of a text in which `^` marks the place of its fault: the code, then the place. Without
-/// a mark the text is a pipeline.
+/// What is said of a text in which `^` marks the place of its fault: the code, then the place.
+/// Without a mark the text is a pipeline.
 fn wanted(alloc: Global, code: &str, marked: &str) -> Result<String, Memory> {
     match marked.split_once('^') {
         Some((before, _)) => {

@@ -1,4 +1,4 @@
-use super::outcomes::{file, pipeline_in};
+use super::outcomes::{file, outcome, pipeline_in};
 use super::shown::shown;
 use pl_base::{Memory, Text};
 use std::alloc::Global;
@@ -127,5 +127,23 @@ fn what_the_tree_tells_is_kept(rt: HostRuntime) -> Result<(), Fail> {
     assert!(rt; pipeline.root == file(alloc)?);
     assert!(rt; pipeline.extends == Some(file(alloc)?));
     assert_eq!(rt; pipeline.repositories.len(), 1);
+    Ok(())
+}
+
+/// What is said of a job whose name has so many letters.
+fn said_of_name(alloc: Global, letters: usize) -> Result<String, Memory> {
+    let mut text = String::from_str(alloc, "{jobs: [{job: ")?;
+    for _letter in 0..letters {
+        text.push_str("a")?;
+    }
+    text.push_str(", steps: []}]}")?;
+    outcome(alloc, text.as_str())
+}
+
+/// A name has at most 100 bytes.
+#[test]
+fn names_have_a_hundred_bytes(rt: HostRuntime) -> Result<(), Fail> {
+    assert_eq!(rt; said_of_name(rt.alloc(), 100)?.as_str(), "ok");
+    assert_eq!(rt; said_of_name(rt.alloc(), 101)?.as_str(), "S4 1:15");
     Ok(())
 }

@@ -6,6 +6,7 @@ use Rattle.pl_schema.proofs.jobs.jobs_of.Given as goal
 
 abbrev pub invariant-loop-item : goal.invariant-loop-item
 invariant-loop-item l = record {
-  read : in_turn (λ made item. job_in (is_taken (job_names made)) item) [] l.items ≡ in_turn (λ made item. job_in (is_taken (job_names made)) item) l.jobs (drop l.item-index l.items);
+  read : in_turn (λ made item. job_in (is_taken (job_names made)) item) [] l.items ≡ in_turn
+      (λ made item. job_in (is_taken (job_names made)) item) l.jobs (drop l.item-index l.items);
   names : taken l.names ≡ is_taken (job_names l.jobs);
 }

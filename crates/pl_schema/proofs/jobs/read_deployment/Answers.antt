@@ -7,8 +7,14 @@ use Rattle.pl_schema.proofs.jobs.read_deployment.Goals as goal
 
 pub returns-in_err-deployment_pair : goal.returns-in_err-deployment_pair
 returns-in_err-deployment_pair c =
-    let stopped = stop (read_pair (deployment_row (taken c.args.names.now))) c.args.job.now c.loop-pair.job c.args.pairs.now c.loop-pair.pair-index c.pair-item.result c.in_err-deployment_pair.field-0.0 c.loop-pair.invariant c.loop-pair-test.true c.pair-item.is c.in_err-deployment_pair.ensures in
+    let stopped = stop (read_pair (deployment_row (taken c.args.names.now))) c.args.job.now
+    c.loop-pair.job c.args.pairs.now c.loop-pair.pair-index c.pair-item.result
+    c.in_err-deployment_pair.field-0.0 c.loop-pair.invariant c.loop-pair-test.true
+    c.pair-item.is c.in_err-deployment_pair.ensures in
     search (rules, stopped)
 
 pub loop-pair-preserved : goal.loop-pair-preserved
-loop-pair-preserved c = go_on (read_pair (deployment_row (taken c.args.names.now))) c.args.job.now c.loop-pair.job c.deployment_pair.new.job c.args.pairs.now c.loop-pair.pair-index c.pair-item.result c.loop-pair.invariant c.loop-pair-test.true c.pair-item.is c.in_ok-deployment_pair.ensures
+loop-pair-preserved c = go_on (read_pair (deployment_row (taken c.args.names.now))) c.args.job.now
+    c.loop-pair.job c.deployment_pair.new.job c.args.pairs.now c.loop-pair.pair-index
+    c.pair-item.result c.loop-pair.invariant c.loop-pair-test.true c.pair-item.is
+    c.in_ok-deployment_pair.ensures

@@ -4,4 +4,5 @@ use Rattle.pl_schema.specs.Scalars.{depend_in}
 use Rattle.pl_schema.proofs.lists.depends_of.Given as goal
 
 abbrev pub invariant-loop-item : goal.invariant-loop-item
-invariant-loop-item l = in_turn (λ before item. depend_in item) [] l.items ≡ in_turn (λ before item. depend_in item) l.depends (drop l.item-index l.item-items)
+invariant-loop-item l = in_turn (λ before item. depend_in item) [] l.items ≡ in_turn
+    (λ before item. depend_in item) l.depends (drop l.item-index l.item-items)

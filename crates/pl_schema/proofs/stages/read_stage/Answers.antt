@@ -7,8 +7,14 @@ use Rattle.pl_schema.proofs.stages.read_stage.Goals as goal
 
 pub returns-in_err-stage_pair : goal.returns-in_err-stage_pair
 returns-in_err-stage_pair c =
-    let stopped = stop (read_pair (stage_row (taken c.args.names.now))) c.args.stage.now c.loop-pair.stage c.args.pairs.now c.loop-pair.pair-index c.pair-item.result c.in_err-stage_pair.field-0.0 c.loop-pair.invariant c.loop-pair-test.true c.pair-item.is c.in_err-stage_pair.ensures in
+    let stopped = stop (read_pair (stage_row (taken c.args.names.now))) c.args.stage.now
+    c.loop-pair.stage c.args.pairs.now c.loop-pair.pair-index c.pair-item.result
+    c.in_err-stage_pair.field-0.0 c.loop-pair.invariant c.loop-pair-test.true c.pair-item.is
+    c.in_err-stage_pair.ensures in
     search (rules, stopped)
 
 pub loop-pair-preserved : goal.loop-pair-preserved
-loop-pair-preserved c = go_on (read_pair (stage_row (taken c.args.names.now))) c.args.stage.now c.loop-pair.stage c.stage_pair.new.stage c.args.pairs.now c.loop-pair.pair-index c.pair-item.result c.loop-pair.invariant c.loop-pair-test.true c.pair-item.is c.in_ok-stage_pair.ensures
+loop-pair-preserved c = go_on (read_pair (stage_row (taken c.args.names.now))) c.args.stage.now
+    c.loop-pair.stage c.stage_pair.new.stage c.args.pairs.now c.loop-pair.pair-index
+    c.pair-item.result c.loop-pair.invariant c.loop-pair-test.true c.pair-item.is
+    c.in_ok-stage_pair.ensures

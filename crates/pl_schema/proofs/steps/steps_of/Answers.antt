@@ -12,7 +12,12 @@ loop-item-preserved c =
     record {
       read =
           loop.invariant.read
-          ∙ next_turn step_in step_names (taken loop.names) loop.steps c.args.items.now loop.item-index c.item-item.result c.in_ok-step.step loop.invariant.names c.loop-item-test.true c.item-item.is c.in_ok-step.ensures
-          ∙ ap (λ made. in_turn (λ made item. step_in (is_taken (step_names made)) item) made (drop (loop.item-index + 1) c.args.items.now)) (sym c.in_ok-push.ensures.ok);
-      names = c.in_ok-take_name.ensures ∙ step_more (taken loop.names) loop.steps c.in_ok-step.step loop.invariant.names ∙ ap (λ made. is_taken (step_names made)) (sym c.in_ok-push.ensures.ok);
+          ∙ next_turn step_in step_names (taken loop.names) loop.steps c.args.items.now
+          loop.item-index c.item-item.result c.in_ok-step.step loop.invariant.names
+          c.loop-item-test.true c.item-item.is c.in_ok-step.ensures
+          ∙ ap (λ made. in_turn (λ made item. step_in (is_taken (step_names made)) item) made
+          (drop (loop.item-index + 1) c.args.items.now)) (sym c.in_ok-push.ensures.ok);
+      names = c.in_ok-take_name.ensures ∙ step_more (taken loop.names) loop.steps c.in_ok-step.step
+          loop.invariant.names ∙ ap (λ made. is_taken (step_names made))
+          (sym c.in_ok-push.ensures.ok);
     }

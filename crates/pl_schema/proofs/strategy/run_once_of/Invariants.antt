@@ -1,8 +1,10 @@
-use Rattle.std.proofs.Common.{◌≡◌, [], ◌∷◌, false, drop}
-use Rattle.pl_schema.specs.Rows.{in_order, read_pair, sets}
+use Rattle.std.proofs.Common.{◌≡◌, [], drop}
 use Rattle.std.specs.Prelude.{codes}
-use Rattle.pl_schema.specs.Jobs.{job_row, deployment_row, deploy_in, run_once_in}
+use Rattle.pl_schema.specs.Jobs.{held_row, deploy_in}
+use Rattle.pl_schema.specs.Rows.{in_order, read_pair}
 use Rattle.pl_schema.proofs.strategy.run_once_of.Given as goal
 
 abbrev pub invariant-loop-pair : goal.invariant-loop-pair
-invariant-loop-pair l = in_order (read_pair ((codes "deploy", sets deploy_in (λ before steps. steps)) ∷ [])) [] l.pairs ≡ in_order (read_pair ((codes "deploy", sets deploy_in (λ before steps. steps)) ∷ [])) l.steps (drop l.pair-index l.pairs)
+invariant-loop-pair l =
+    in_order (read_pair (held_row (codes "deploy") deploy_in)) [] l.pairs
+    ≡ in_order (read_pair (held_row (codes "deploy") deploy_in)) l.steps (drop l.pair-index l.pairs)
