@@ -1,6 +1,6 @@
 -- Jobs and deployments (Microsoft Learn, "YAML schema reference", jobs.job and jobs.deployment).
 use Rattle.std.specs.Prelude.{ℕ, Bool, true, false, ◌&&◌, List, [], ◌∷◌, map, codes, Option, Some}
-use Rattle.std.specs.Prelude.{None, Result, Ok}
+use Rattle.std.specs.Prelude.{None, Result}
 use Rattle.pl_base.specs.declared.place.Place.{Place}
 use Rattle.pl_base.specs.declared.value.MarkedNode.{MarkedNode}
 use Rattle.pl_base.specs.declared.value.MarkedPair.{MarkedPair}
@@ -8,14 +8,17 @@ use Rattle.pl_literal.specs.declared.items.ItemKind.{ItemKind}
 use Rattle.pl_literal.specs.declared.items.ItemKind.TheVariants as item
 use Rattle.pl_literal.specs.Items.{kind_of_key}
 use Rattle.pl_schema.specs.declared.fault.SchemaCode.TheVariants.{FirstKey}
+use Rattle.pl_schema.specs.declared.legs.Legs.{Legs}
 use Rattle.pl_schema.specs.declared.pipeline.JobSpec.{JobSpec}
 use Rattle.pl_schema.specs.declared.pipeline.LegSpec.TheVariants.{One}
 use Rattle.pl_schema.specs.declared.pipeline.StepSpec.{StepSpec}
+use Rattle.pl_schema.specs.declared.variables.Variables.{Variables}
 use Rattle.pl_schema.specs.Gives.{Fault}
 use Rattle.pl_schema.specs.Legs.{legs_in}
 use Rattle.pl_schema.specs.Names.{is_taken, name_in}
 use Rattle.pl_schema.specs.Pools.{pool_in, environment_in}
-use Rattle.pl_schema.specs.Rows.{◌>>=◌, at_node, Row, sets, ignored, has, read_object, in_turn}
+use Rattle.pl_schema.specs.Rows.{reads, passed}
+use Rattle.pl_schema.specs.Rows.{◌>>=◌, at_node, Row, sets, has, read_object, in_turn}
 use Rattle.pl_schema.specs.Rows.{some_items}
 use Rattle.pl_schema.specs.Scalars.{pairs_in, items_in, truth_in, limited_in, condition_in}
 use Rattle.pl_schema.specs.Scalars.{depends_in}
@@ -42,37 +45,30 @@ new_job deployment place = record {
 }
 
 -- a job's time ends after 525,600 minutes at most, which is this project's own limit
+abbrev pub minutes_in : MarkedNode → Result ℕ Fault
+minutes_in node = limited_in 0 525600 node
+
+abbrev pub job_legs : JobSpec → Legs → JobSpec
+job_legs job read = record job { legs = read.legs; max_parallel = read.max_parallel }
+
+abbrev pub job_variables : JobSpec → Variables → JobSpec
+job_variables job read = record job { variables = read.variables; groups = read.groups }
+
 abbrev pub job_row : (List ℕ → Bool) → Row JobSpec
 job_row taken =
-    (codes "job", sets (name_in taken) (λ job name. record job { name = name }))
-    ∷ (codes "dependsOn", sets depends_in (λ job depends. record job { depends = Some depends }))
-    ∷ (
-      codes "condition",
-      sets condition_in
-          (λ job condition. record job { condition = Some condition }),
-    )
-    ∷ (
-      codes "strategy",
-      sets legs_in
-          (λ job read. record job { legs = read.legs; max_parallel = read.max_parallel }),
-    )
-    ∷ (codes "continueOnError", sets truth_in (λ job go_on. record job { go_on = go_on }))
-    ∷ (codes "pool", sets pool_in (λ job pool. record job { pool = Some pool }))
-    ∷ (
-      codes "timeoutInMinutes",
-      sets (limited_in 0 525600)
-          (λ job minutes. record job { timeout = Some minutes }),
-    )
-    ∷ (
-      codes "variables",
-      sets variables_in
-          (λ job read. record job { variables = read.variables; groups = read.groups }),
-    )
-    ∷ (codes "steps", sets steps_in (λ job steps. record job { steps = steps }))
-    ∷ (codes "displayName", ignored)
-    ∷ (codes "workspace", ignored)
-    ∷ (codes "cancelTimeoutInMinutes", ignored)
-    ∷ (codes "templateContext", ignored)
+    reads (codes "job") (name_in taken) (λ job name. record job { name = name })
+    ∷ reads (codes "dependsOn") depends_in (λ job names. record job { depends = Some names })
+    ∷ reads (codes "condition") condition_in (λ job e. record job { condition = Some e })
+    ∷ reads (codes "strategy") legs_in job_legs
+    ∷ reads (codes "continueOnError") truth_in (λ job truth. record job { go_on = truth })
+    ∷ reads (codes "pool") pool_in (λ job pool. record job { pool = Some pool })
+    ∷ reads (codes "timeoutInMinutes") minutes_in (λ job n. record job { timeout = Some n })
+    ∷ reads (codes "variables") variables_in job_variables
+    ∷ reads (codes "steps") steps_in (λ job steps. record job { steps = steps })
+    ∷ passed (codes "displayName")
+    ∷ passed (codes "workspace")
+    ∷ passed (codes "cancelTimeoutInMinutes")
+    ∷ passed (codes "templateContext")
     ∷ []
 
 -- a mapping with one key alone, which must be there
@@ -96,35 +92,19 @@ strategy_in node = holding (codes "runOnce") run_once_in node
 
 abbrev pub deployment_row : (List ℕ → Bool) → Row JobSpec
 deployment_row taken =
-    (codes "deployment", sets (name_in taken) (λ job name. record job { name = name }))
-    ∷ (codes "dependsOn", sets depends_in (λ job depends. record job { depends = Some depends }))
-    ∷ (
-      codes "condition",
-      sets condition_in
-          (λ job condition. record job { condition = Some condition }),
-    )
-    ∷ (codes "continueOnError", sets truth_in (λ job go_on. record job { go_on = go_on }))
-    ∷ (codes "pool", sets pool_in (λ job pool. record job { pool = Some pool }))
-    ∷ (
-      codes "timeoutInMinutes",
-      sets (limited_in 0 525600)
-          (λ job minutes. record job { timeout = Some minutes }),
-    )
-    ∷ (
-      codes "variables",
-      sets variables_in
-          (λ job read. record job { variables = read.variables; groups = read.groups }),
-    )
-    ∷ (
-      codes "environment",
-      sets environment_in
-          (λ job environment. record job { environment = Some environment }),
-    )
-    ∷ (codes "strategy", sets strategy_in (λ job steps. record job { steps = steps }))
-    ∷ (codes "displayName", ignored)
-    ∷ (codes "workspace", ignored)
-    ∷ (codes "cancelTimeoutInMinutes", ignored)
-    ∷ (codes "templateContext", ignored)
+    reads (codes "deployment") (name_in taken) (λ job name. record job { name = name })
+    ∷ reads (codes "dependsOn") depends_in (λ job names. record job { depends = Some names })
+    ∷ reads (codes "condition") condition_in (λ job e. record job { condition = Some e })
+    ∷ reads (codes "continueOnError") truth_in (λ job truth. record job { go_on = truth })
+    ∷ reads (codes "pool") pool_in (λ job pool. record job { pool = Some pool })
+    ∷ reads (codes "timeoutInMinutes") minutes_in (λ job n. record job { timeout = Some n })
+    ∷ reads (codes "variables") variables_in job_variables
+    ∷ reads (codes "environment") environment_in (λ job e. record job { environment = Some e })
+    ∷ reads (codes "strategy") strategy_in (λ job steps. record job { steps = steps })
+    ∷ passed (codes "displayName")
+    ∷ passed (codes "workspace")
+    ∷ passed (codes "cancelTimeoutInMinutes")
+    ∷ passed (codes "templateContext")
     ∷ []
 
 -- a job must have its steps, a deployment its environment and its strategy

@@ -12,6 +12,7 @@ use Rattle.pl_schema.specs.declared.legs.Legs.{Legs}
 use Rattle.pl_schema.specs.declared.pipeline.LegSpec.{LegSpec}
 use Rattle.pl_schema.specs.declared.pipeline.LegSpec.TheVariants.{One, Parallel, Matrix}
 use Rattle.pl_schema.specs.Gives.{Fault}
+use Rattle.pl_schema.specs.Rows.{reads}
 use Rattle.pl_schema.specs.Rows.{◌>>=◌, Reading, Row, sets, alone, read_pair, in_order}
 use Rattle.pl_schema.specs.Scalars.{pairs_in, limited_in}
 use Rattle.pl_schema.specs.Variables.{late_in}
@@ -57,16 +58,15 @@ abbrev pub set_parallel : Reading Legs
 set_parallel = alone (λ made. is_cut made.legs) WrongShape (sets (limited_in 1 100)
     (λ made count. record made { legs = Parallel count }))
 
--- the greatest numbers are this project's own
+-- how many legs may run at once; this number and the one of `parallel` are this project's own
+abbrev pub most_in : MarkedNode → Result ℕ Fault
+most_in node = limited_in 1 256 node
+
 abbrev pub legs_row : Row Legs
 legs_row =
     (codes "matrix", set_matrix)
     ∷ (codes "parallel", set_parallel)
-    ∷ (
-      codes "maxParallel",
-      sets (limited_in 1 256)
-          (λ made count. record made { max_parallel = Some count }),
-    )
+    ∷ reads (codes "maxParallel") most_in (λ made n. record made { max_parallel = Some n })
     ∷ []
 
 unfoldable pub legs_in : MarkedNode → Result Legs Fault

@@ -1,5 +1,5 @@
 -- Pipelines (Microsoft Learn, "YAML schema reference", pipeline).
-use Rattle.std.specs.Prelude.{ℕ, Bool, true, false, ◌||◌, List, [], ◌∷◌, map, codes, Option, Some}
+use Rattle.std.specs.Prelude.{ℕ, Bool, true, false, ◌||◌, List, [], ◌∷◌, map, codes, Some}
 use Rattle.std.specs.Prelude.{None, Result, Ok}
 use Rattle.pl_base.specs.declared.expanded.Expanded.{Expanded}
 use Rattle.pl_base.specs.declared.expanded.Repository.{Repository}
@@ -17,11 +17,13 @@ use Rattle.pl_schema.specs.declared.pipeline.StepSpec.{StepSpec}
 use Rattle.pl_schema.specs.declared.root.Form.{Form}
 use Rattle.pl_schema.specs.declared.root.Form.TheVariants.{Nothing, Stages, Jobs, Steps}
 use Rattle.pl_schema.specs.declared.root.Root.{Root}
+use Rattle.pl_schema.specs.declared.variables.Variables.{Variables}
 use Rattle.pl_schema.specs.Gives.{Fault}
 use Rattle.pl_schema.specs.Jobs.{new_job, jobs_in}
 use Rattle.pl_schema.specs.Legs.{no_legs, legs_in}
 use Rattle.pl_schema.specs.Pools.{pool_in}
-use Rattle.pl_schema.specs.Rows.{◌>>=◌, Row, Reading, sets, ignored, alone, only_if, has}
+use Rattle.pl_schema.specs.Rows.{reads, passed}
+use Rattle.pl_schema.specs.Rows.{◌>>=◌, Row, Reading, sets, alone, only_if, has}
 use Rattle.pl_schema.specs.Rows.{read_object}
 use Rattle.pl_schema.specs.Scalars.{pairs_in, truth_in, behaviour_in}
 use Rattle.pl_schema.specs.Stages.{new_stage, stages_in}
@@ -65,32 +67,27 @@ set_strategy steps = only_if steps (sets legs_in (λ root read. record root { st
 abbrev pub set_go_on : Bool → Reading Root
 set_go_on steps = only_if steps (sets truth_in (λ root go_on. record root { go_on = go_on }))
 
+abbrev pub root_variables : Root → Variables → Root
+root_variables root read = record root { variables = read.variables; groups = read.groups }
+
 abbrev pub root_row : Bool → Row Root
 root_row steps =
     (codes "stages", set_stages)
     ∷ (codes "jobs", set_jobs)
     ∷ (codes "steps", set_steps)
-    ∷ (
-      codes "variables",
-      sets variables_in
-          (λ root read. record root { variables = read.variables; groups = read.groups }),
-    )
-    ∷ (codes "pool", sets pool_in (λ root pool. record root { pool = Some pool }))
-    ∷ (
-      codes "lockBehavior",
-      sets behaviour_in
-          (λ root behaviour. record root { behaviour = Some behaviour }),
-    )
+    ∷ reads (codes "variables") variables_in root_variables
+    ∷ reads (codes "pool") pool_in (λ root pool. record root { pool = Some pool })
+    ∷ reads (codes "lockBehavior") behaviour_in (λ root b. record root { behaviour = Some b })
     ∷ (codes "strategy", set_strategy steps)
     ∷ (codes "continueOnError", set_go_on steps)
-    ∷ (codes "name", ignored)
-    ∷ (codes "trigger", ignored)
-    ∷ (codes "pr", ignored)
-    ∷ (codes "schedules", ignored)
-    ∷ (codes "appendCommitMessageToRunName", ignored)
-    ∷ (codes "parameters", ignored)
-    ∷ (codes "resources", ignored)
-    ∷ (codes "workspace", ignored)
+    ∷ passed (codes "name")
+    ∷ passed (codes "trigger")
+    ∷ passed (codes "pr")
+    ∷ passed (codes "schedules")
+    ∷ passed (codes "appendCommitMessageToRunName")
+    ∷ passed (codes "parameters")
+    ∷ passed (codes "resources")
+    ∷ passed (codes "workspace")
     ∷ []
 
 abbrev pub has_some_form : List MarkedPair → Bool

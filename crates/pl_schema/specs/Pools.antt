@@ -1,13 +1,14 @@
 -- Pools and environments (Microsoft Learn, "YAML schema reference", pool;
 -- jobs.deployment.environment).
-use Rattle.std.specs.Prelude.{ℕ, List, [], ◌∷◌, codes, Option, None, Result, Ok}
+use Rattle.std.specs.Prelude.{ℕ, List, [], ◌∷◌, codes, None, Result, Ok}
 use Rattle.pl_base.specs.declared.value.Value.{out-Value}
 use Rattle.pl_base.specs.declared.value.Value.TheOpen as layer
 use Rattle.pl_base.specs.declared.value.MarkedNode.{MarkedNode}
 use Rattle.pl_literal.specs.Items.{Opened}
 use Rattle.pl_schema.specs.declared.pipeline.PoolSpec.{PoolSpec}
 use Rattle.pl_schema.specs.Gives.{Fault}
-use Rattle.pl_schema.specs.Rows.{◌>>=◌, Row, sets, ignored, read_pair, in_order, has, read_object}
+use Rattle.pl_schema.specs.Rows.{reads, passed}
+use Rattle.pl_schema.specs.Rows.{◌>>=◌, Row, read_pair, in_order, has, read_object}
 use Rattle.pl_schema.specs.Scalars.{text_in, filled_in, some_text, demands_in}
 
 abbrev pub no_pool : PoolSpec
@@ -15,9 +16,9 @@ no_pool = record { name = None; demands = []; vm_image = None }
 
 abbrev pub pool_row : Row PoolSpec
 pool_row =
-    (codes "name", sets text_in (λ pool name. record pool { name = some_text name }))
-    ∷ (codes "demands", sets demands_in (λ pool demands. record pool { demands = demands }))
-    ∷ (codes "vmImage", sets text_in (λ pool image. record pool { vm_image = some_text image }))
+    reads (codes "name") text_in (λ pool name. record pool { name = some_text name })
+    ∷ reads (codes "demands") demands_in (λ pool demands. record pool { demands = demands })
+    ∷ reads (codes "vmImage") text_in (λ pool image. record pool { vm_image = some_text image })
     ∷ []
 
 -- a scalar is the pool's name
@@ -30,11 +31,11 @@ pool_in node = pool_from node (out-Value node.value)
 
 abbrev pub environment_row : Row (List ℕ)
 environment_row =
-    (codes "name", sets filled_in (λ before name. name))
-    ∷ (codes "resourceName", ignored)
-    ∷ (codes "resourceType", ignored)
-    ∷ (codes "resourceId", ignored)
-    ∷ (codes "tags", ignored)
+    reads (codes "name") filled_in (λ before name. name)
+    ∷ passed (codes "resourceName")
+    ∷ passed (codes "resourceType")
+    ∷ passed (codes "resourceId")
+    ∷ passed (codes "tags")
     ∷ []
 
 -- a scalar is the environment's name

@@ -45,6 +45,15 @@ only_if has read made pair = if has then read made pair else at_key UnknownKey p
 abbrev pub Row : Type 0 → Type 0
 Row S = List (List ℕ × Reading S)
 
+-- a key, how its value is read, and where that is kept
+abbrev pub reads : {S X : Type 0} → List ℕ → (MarkedNode → Result X Fault) → (S → X → S) →
+    List ℕ × Reading S
+reads key read keep = (key, sets read keep)
+
+-- a key that is accepted with any value
+abbrev pub passed : {S : Type 0} → List ℕ → List ℕ × Reading S
+passed key = (key, ignored)
+
 -- keys are exact, and a key that isn't in the row is refused
 abbrev pub read_pair : {S : Type 0} → Row S → Reading S
 read_pair [] made pair = at_key UnknownKey pair

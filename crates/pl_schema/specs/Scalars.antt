@@ -1,10 +1,9 @@
 -- Values that are scalars, and lists of scalars.
-use Rattle.std.specs.Prelude.{ℕ, ◌-◌, Bool, true, false, ◌&&◌, nat_le, nat_eq, List, [], ◌∷◌}
-use Rattle.std.specs.Prelude.{length, take, drop, codes, ℤ, pos, negsuc, Option, Some, None, Result}
-use Rattle.std.specs.Prelude.{Ok, Err, if◌then◌else◌}
+use Rattle.std.specs.Prelude.{ℕ, ◌-◌, Bool, ◌&&◌, nat_le, List, [], ◌∷◌}
+use Rattle.std.specs.Prelude.{codes, ℤ, pos, negsuc, Option, Some, None, Result}
+use Rattle.std.specs.Prelude.{Ok, if◌then◌else◌}
 use Rattle.std.specs.Option.{option_and_then}
 use Rattle.std.specs.Result.{result_ok}
-use Rattle.std.specs.List.{starts_with}
 use Rattle.pl_base.specs.declared.outcome.Behaviour.{Behaviour}
 use Rattle.pl_base.specs.declared.outcome.Behaviour.TheVariants.{Sequential, RunLatest}
 use Rattle.pl_base.specs.declared.value.Value.{out-Value}
@@ -12,7 +11,7 @@ use Rattle.pl_base.specs.declared.value.Value.TheOpen as layer
 use Rattle.pl_base.specs.declared.value.MarkedNode.{MarkedNode}
 use Rattle.pl_base.specs.declared.value.MarkedPair.{MarkedPair}
 use Rattle.pl_expr.specs.declared.expr.Expr.{Expr}
-use Rattle.pl_expr.specs.declared.expr.Mode.TheVariants.{Variable, Condition}
+use Rattle.pl_expr.specs.declared.expr.Mode.TheVariants.{Condition}
 use Rattle.pl_expr.specs.Conversions.{text_of}
 use Rattle.pl_expr.specs.Grammar.{parses}
 use Rattle.pl_expr.specs.Numerals.{number_in}

@@ -1,5 +1,5 @@
 -- Stages (Microsoft Learn, "YAML schema reference", stages.stage).
-use Rattle.std.specs.Prelude.{ℕ, Bool, List, [], ◌∷◌, map, codes, Option, Some, None, Result, Ok}
+use Rattle.std.specs.Prelude.{ℕ, Bool, List, [], ◌∷◌, map, codes, Some, None, Result}
 use Rattle.std.specs.Prelude.{if◌then◌else◌}
 use Rattle.pl_base.specs.declared.place.Place.{Place}
 use Rattle.pl_base.specs.declared.value.MarkedNode.{MarkedNode}
@@ -7,11 +7,13 @@ use Rattle.pl_base.specs.declared.value.MarkedPair.{MarkedPair}
 use Rattle.pl_literal.specs.Items.{is}
 use Rattle.pl_schema.specs.declared.fault.SchemaCode.TheVariants.{FirstKey}
 use Rattle.pl_schema.specs.declared.pipeline.StageSpec.{StageSpec}
+use Rattle.pl_schema.specs.declared.variables.Variables.{Variables}
 use Rattle.pl_schema.specs.Gives.{Fault}
 use Rattle.pl_schema.specs.Jobs.{jobs_in}
 use Rattle.pl_schema.specs.Names.{is_taken, name_in}
 use Rattle.pl_schema.specs.Pools.{pool_in}
-use Rattle.pl_schema.specs.Rows.{◌>>=◌, at_node, Row, sets, ignored, has, read_object, in_turn}
+use Rattle.pl_schema.specs.Rows.{reads, passed}
+use Rattle.pl_schema.specs.Rows.{◌>>=◌, at_node, Row, has, read_object, in_turn}
 use Rattle.pl_schema.specs.Rows.{some_items}
 use Rattle.pl_schema.specs.Scalars.{pairs_in, items_in, condition_in, behaviour_in, depends_in}
 use Rattle.pl_schema.specs.Variables.{variables_in}
@@ -30,33 +32,20 @@ new_stage place = record {
   jobs = [];
 }
 
+abbrev pub stage_variables : StageSpec → Variables → StageSpec
+stage_variables stage read = record stage { variables = read.variables; groups = read.groups }
+
 abbrev pub stage_row : (List ℕ → Bool) → Row StageSpec
 stage_row taken =
-    (codes "stage", sets (name_in taken) (λ stage name. record stage { name = name }))
-    ∷ (
-      codes "dependsOn",
-      sets depends_in
-          (λ stage depends. record stage { depends = Some depends }),
-    )
-    ∷ (
-      codes "condition",
-      sets condition_in
-          (λ stage condition. record stage { condition = Some condition }),
-    )
-    ∷ (
-      codes "variables",
-      sets variables_in
-          (λ stage read. record stage { variables = read.variables; groups = read.groups }),
-    )
-    ∷ (codes "jobs", sets jobs_in (λ stage jobs. record stage { jobs = jobs }))
-    ∷ (codes "pool", sets pool_in (λ stage pool. record stage { pool = Some pool }))
-    ∷ (
-      codes "lockBehavior",
-      sets behaviour_in
-          (λ stage behaviour. record stage { behaviour = Some behaviour }),
-    )
-    ∷ (codes "displayName", ignored)
-    ∷ (codes "templateContext", ignored)
+    reads (codes "stage") (name_in taken) (λ stage name. record stage { name = name })
+    ∷ reads (codes "dependsOn") depends_in (λ stage names. record stage { depends = Some names })
+    ∷ reads (codes "condition") condition_in (λ stage e. record stage { condition = Some e })
+    ∷ reads (codes "variables") variables_in stage_variables
+    ∷ reads (codes "jobs") jobs_in (λ stage jobs. record stage { jobs = jobs })
+    ∷ reads (codes "pool") pool_in (λ stage pool. record stage { pool = Some pool })
+    ∷ reads (codes "lockBehavior") behaviour_in (λ stage b. record stage { behaviour = Some b })
+    ∷ passed (codes "displayName")
+    ∷ passed (codes "templateContext")
     ∷ []
 
 -- a stage must have its jobs

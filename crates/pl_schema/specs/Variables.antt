@@ -12,13 +12,14 @@ use Rattle.pl_expr.specs.declared.expr.Expr.{Expr}
 use Rattle.pl_expr.specs.declared.expr.Mode.TheVariants as mode
 use Rattle.pl_expr.specs.Grammar.{parses}
 use Rattle.pl_literal.specs.Items.{Opened}
-use Rattle.pl_schema.specs.declared.fault.SchemaCode.TheVariants.{MissingKey, WrongShape, TwoForms}
+use Rattle.pl_schema.specs.declared.fault.SchemaCode.TheVariants.{WrongShape, TwoForms}
 use Rattle.pl_schema.specs.declared.fault.SchemaCode.TheVariants.{BadCondition}
 use Rattle.pl_schema.specs.declared.pipeline.Variable.{Variable}
 use Rattle.pl_schema.specs.declared.variables.Variables.{Variables}
 use Rattle.pl_schema.specs.declared.variables.VariableItem.{VariableItem}
 use Rattle.pl_schema.specs.Gives.{Fault}
-use Rattle.pl_schema.specs.Rows.{◌>>=◌, at_node, Reading, Row, sets, ignored, alone, read_pair}
+use Rattle.pl_schema.specs.Rows.{passed}
+use Rattle.pl_schema.specs.Rows.{◌>>=◌, at_node, Reading, Row, sets, alone}
 use Rattle.pl_schema.specs.Rows.{in_order, has, read_object}
 use Rattle.pl_schema.specs.Scalars.{or_refuse, text_in, pairs_in}
 
@@ -26,12 +27,12 @@ use Rattle.pl_schema.specs.Scalars.{or_refuse, text_in, pairs_in}
 
 -- what stands between `$[` at the text's beginning and `]` at its end
 abbrev pub before_bracket : List ℕ → Option (List ℕ)
-before_bracket text = if ends_with nat_eq text (codes "]") then Some (take (length text - 1) text)
-    else None
+before_bracket text =
+    if ends_with nat_eq text (codes "]") then Some (take (length text - 1) text) else None
 
 abbrev pub expression_in : List ℕ → Option (List ℕ)
-expression_in text = if starts_with nat_eq text (codes "$[") then before_bracket (drop 2 text)
-    else None
+expression_in text =
+    if starts_with nat_eq text (codes "$[") then before_bracket (drop 2 text) else None
 
 abbrev pub late_from : MarkedNode → Option (List ℕ) → Result (Option Expr) Fault
 late_from node None = Ok None
@@ -51,39 +52,41 @@ variable_in name node = text_in node >>= λ text. late_in node text
 abbrev pub new_item : VariableItem
 new_item = record {
   written = record { name = []; value = []; late = None };
-  is_written =
-      false;
+  is_written = false;
   group = None;
 }
 
 -- a name and a value may not stand beside a group
+abbrev pub with_name : VariableItem → List ℕ → VariableItem
+with_name item name = record item {
+  written = record item.written { name = name };
+  is_written = true;
+}
+
 abbrev pub item_name : Reading VariableItem
-item_name = alone (λ item. is_some item.group) TwoForms (sets text_in
-    (λ item name. record item { written = record item.written { name = name }; is_written = true }))
+item_name = alone (λ item. is_some item.group) TwoForms (sets text_in with_name)
+
+abbrev pub with_value : VariableItem → Variable → VariableItem
+with_value item read = record item {
+  written = record item.written { value = read.value; late = read.late };
+  is_written = true;
+}
 
 abbrev pub item_value : Reading VariableItem
-item_value =
-    alone (λ item. is_some item.group) TwoForms
-    (sets (variable_in [])
-    (λ item read. record item {
-      written = record item.written {
-        value = read.value;
-        late =
-            read.late;
-      };
-      is_written = true;
-    }))
+item_value = alone (λ item. is_some item.group) TwoForms (sets (variable_in []) with_value)
+
+abbrev pub with_group : VariableItem → List ℕ → VariableItem
+with_group item group = record item { group = Some group }
 
 abbrev pub item_group : Reading VariableItem
-item_group = alone (λ item. item.is_written) TwoForms (sets text_in
-    (λ item group. record item { group = Some group }))
+item_group = alone (λ item. item.is_written) TwoForms (sets text_in with_group)
 
 abbrev pub item_row : Row VariableItem
 item_row =
     (codes "name", item_name)
     ∷ (codes "value", item_value)
     ∷ (codes "group", item_group)
-    ∷ (codes "readonly", ignored)
+    ∷ passed (codes "readonly")
     ∷ []
 
 -- a group, or a name with its value

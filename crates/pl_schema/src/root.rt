@@ -322,38 +322,41 @@ fn pipeline_from(alloc: Global, tree: &Expanded, root: Root) -> Result<Pipeline,
     })
 }
 
-/// The pipeline that an expanded tree is (Microsoft Learn, Azure Pipelines, "YAML schema reference").
+/// The pipeline that an expanded tree is (Microsoft Learn, Azure Pipelines, "YAML schema
+/// reference").
 ///
-/// The tree is read in its order: a node, then its items, or each key and then its value. Each object
-/// has its own keys, some of which are passed over with any value; keys are exact, and scalars count
-/// by their casts. An empty scalar is an empty list or mapping where one of these is wanted. The jobs
-/// of a root without stages are those of one stage `__default`, and its steps those of one job `Job`
-/// in it, both at the place of the root. Where a mapping has a key twice, both are judged, and the
-/// later value counts. What templates gave is in the tree already, and nothing is evaluated here.
+/// The tree is read in its order: a node, then its items, or each key and then its value. Each
+/// object has its own keys, some of which are passed over with any value; keys are exact, and
+/// scalars count by their casts. An empty scalar is an empty list or mapping where one of these
+/// is wanted. The jobs of a root without stages are those of one stage `__default`, and its steps
+/// those of one job `Job` in it, both at the place of the root. Where a mapping has a key twice,
+/// both are judged, and the later value counts. What templates gave is in the tree already, and
+/// nothing is evaluated here.
 ///
-/// A refusal has the code and the place of the first fault on that way, at one place that with the
-/// smaller number:
+/// A refusal has the code and the place of the first fault on that way, at one place that with
+/// the smaller number:
 ///
 /// - S1, at a key that the object doesn't have;
 /// - S2, at a mapping that lacks a key: a stage its `jobs`, a job its `steps`, a deployment its
-///   `environment` and its `strategy`, a strategy its `runOnce`, this its `deploy`, this its `steps`,
-///   an environment its `name`, an item of variables its `name`, `value` or `group`, the root all of
-///   `stages`, `jobs` and `steps`; or at a list of stages or jobs, or a name of an environment, that
-///   is empty;
+///   `environment` and its `strategy`, a strategy its `runOnce`, this its `deploy`, this its
+///   `steps`, an environment its `name`, an item of variables its `name`, `value` or `group`, the
+///   root all of `stages`, `jobs` and `steps`; or at a list of stages or jobs, or a name of an
+///   environment, that is empty;
 /// - S3, at a scalar, list or mapping where another is wanted, at a text that is no Boolean or no
 ///   behaviour of a lock, and at the later key of `matrix` and `parallel`;
 /// - S4, at the name of a stage, job or step that isn't a letter or `_` with at most 99 letters,
 ///   digits and `_` behind it;
-/// - S5, at an item that doesn't begin with `stage`, with `job` or `deployment`, or with a step key;
-/// - S6, at a name that another stage, job of the stage or step of the job before it has, the case of
-///   ASCII's letters aside;
-/// - S7, at the second of the keys `stages`, `jobs` and `steps` of the root, at the second step key
-///   of a step, and at the key of an item of variables with which it has both a group and a name or
-///   value;
-/// - S8, at a number that doesn't read or is past its limits: 0 to 525,600 minutes, 1 to 100 legs, 1
-///   to 256 legs at once;
-/// - S9, at a condition that doesn't parse, and at a variable's value, also one of a leg of a matrix,
-///   that begins with `$[` and ends with `]` and between these doesn't parse.
+/// - S5, at an item that doesn't begin with `stage`, with `job` or `deployment`, or with a step
+///   key;
+/// - S6, at a name that another stage, job of the stage or step of the job before it has, the
+///   case of ASCII's letters aside;
+/// - S7, at the second of the keys `stages`, `jobs` and `steps` of the root, at the second step
+///   key of a step, and at the key of an item of variables with which it has both a group and a
+///   name or value;
+/// - S8, at a number that doesn't read or is past its limits: 0 to 525,600 minutes, 1 to 100
+///   legs, 1 to 256 legs at once;
+/// - S9, at a condition that doesn't parse, and at a variable's value, also one of a leg of a
+///   matrix, that begins with `$[` and ends with `]` and between these doesn't parse.
 ///
 /// Memory may come at any time.
 #[tactic(auto, unfolding(crate::specs::Pipelines::pipeline_of))]

@@ -2,7 +2,7 @@ mod jobs;
 mod lists;
 mod outcomes;
 mod roots;
-mod stages;
 mod shown;
+mod stages;
 mod table;
 mod values;

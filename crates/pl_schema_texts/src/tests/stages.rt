@@ -41,8 +41,8 @@ fn a_stage_begins_with_its_key(rt: HostRuntime) -> Result<(), Fail> {
     Ok(())
 }
 
-const DEPLOYMENTS: &str = r#"S1 environment: e, strategy: {runOnce: {deploy: {steps: []}}}, ^steps: []
-S1 environment: e, ^job: J, strategy: x
+const DEPLOYMENTS: &str = r#"S1 environment: e, ^job: J, strategy: x
+S1 environment: e, strategy: {runOnce: {deploy: {steps: []}}}, ^steps: []
 S2 environment: ^'', strategy: x
 S3 environment: ^[], strategy: x
 S2 environment: ^{}, strategy: x

@@ -7,4 +7,5 @@ use Rattle.pl_schema.proofs.strategy.strategy_of.Given as goal
 abbrev pub invariant-loop-pair : goal.invariant-loop-pair
 invariant-loop-pair l =
     in_order (read_pair (held_row (codes "runOnce") run_once_in)) [] l.pairs
-    ≡ in_order (read_pair (held_row (codes "runOnce") run_once_in)) l.steps (drop l.pair-index l.pairs)
+    ≡ in_order (read_pair (held_row (codes "runOnce") run_once_in)) l.steps
+    (drop l.pair-index l.pairs)
