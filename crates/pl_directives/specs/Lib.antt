@@ -1,0 +1,14 @@
+pub mod Actions
+pub mod Calls
+pub mod Codes
+pub mod Complaints
+pub mod Contents
+pub mod Counting
+pub mod Expanding
+pub mod Gives
+pub mod Keys
+pub mod Manners
+pub mod Misfits
+pub mod Regions
+pub mod Scalars
+pub mod Steps
