@@ -12,6 +12,8 @@ mod repositories;
 mod resources;
 mod root;
 mod root_key;
+#[cfg(test)]
+mod tests;
 
 pub use expansion::expand;
 pub use files::{Files, Parsed};
