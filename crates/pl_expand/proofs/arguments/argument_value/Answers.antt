@@ -10,7 +10,8 @@ pub returns-else-is_text : goal.returns-else-is_text
 returns-else-is_text c =
     let argument = c.args.argument.now in
     let given = c.read_text.result in
-    subst (λ (kind : Option ParamKind). Gives given (argument_value kind argument)) (sym c.in-Some.is)
+    subst (λ (kind : Option ParamKind). Gives given (argument_value kind argument))
+    (sym c.in-Some.is)
     (subst (λ (is : Bool). Gives given (if is then Ok (whole_text argument)
     else read_told (yaml.spells (argument_file argument.name) argument.text)))
     c.if-is_text.ensures c.read_text.ensures)
