@@ -28,7 +28,7 @@ mod world;
 use crate::{EvalCode, EvalFault, eval};
 use form::write_node;
 use names::MemNames;
-use pl_base::{Memory, Origin, Text};
+use pl_base::{MarkedNode, Memory, Origin, Text};
 use pl_expr::Expr;
 use std::alloc::Global;
 
@@ -42,22 +42,18 @@ fn code_of(code: EvalCode) -> &'static str {
     }
 }
 
-/// What an expression gives, as a text.
-fn told(
-    alloc: Global,
-    expr: Option<Expr>,
-    names: &MemNames,
-    here: &Origin,
-) -> Result<Text, Memory> {
+/// A node as a text.
+fn shown(alloc: Global, node: &MarkedNode, here: &Origin) -> Result<Text, Memory> {
     let mut out = Text::new(alloc);
-    let Some(expr) = expr else {
-        out.push_str("unparsed")?;
-        return Ok(out);
-    };
-    match eval(alloc, &expr, names, here) {
-        Ok(node) => write_node(alloc, &mut out, &node, here)?,
-        Err(EvalFault::Refused(code)) => out.push_str(code_of(code))?,
-        Err(EvalFault::Memory) => return Err(Memory),
-    }
+    write_node(alloc, &mut out, node, here)?;
     Ok(out)
+}
+
+/// What an expression gives, as a text.
+fn told(alloc: Global, expr: &Expr, names: &MemNames, here: &Origin) -> Result<Text, Memory> {
+    match eval(alloc, expr, names, here) {
+        Ok(node) => shown(alloc, &node, here),
+        Err(EvalFault::Refused(code)) => Text::from_str(alloc, code_of(code)),
+        Err(EvalFault::Memory) => Err(Memory),
+    }
 }

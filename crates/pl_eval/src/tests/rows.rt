@@ -18,7 +18,7 @@ format('{{{0}}}', 'a') => '{a}'@made
 fn compares_by_the_left_value_and_fills_patterns(rt: HostRuntime) -> Result<(), Fail> {
     let alloc = rt.alloc();
     assert_eq!(rt;
-        first_wrong(alloc, State::Well, COMPARES_BY_THE_LEFT_VALUE)?.as_str(),
+        first_wrong(alloc, State::Well, COMPARES_BY_THE_LEFT_VALUE)?,
         ""
     );
     Ok(())
@@ -56,7 +56,7 @@ canceled/1 => False@made";
 fn counts_a_missing_argument_as_null(rt: HostRuntime) -> Result<(), Fail> {
     let alloc = rt.alloc();
     assert_eq!(rt;
-        first_wrong(alloc, State::Well, COUNTS_A_MISSING_ARGUMENT_AS_NULL)?.as_str(),
+        first_wrong(alloc, State::Well, COUNTS_A_MISSING_ARGUMENT_AS_NULL)?,
         ""
     );
     Ok(())

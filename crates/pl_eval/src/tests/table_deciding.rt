@@ -36,7 +36,7 @@ AND(True, 1) => True@made";
 fn decides_by_the_first_values(rt: HostRuntime) -> Result<(), Fail> {
     let alloc = rt.alloc();
     assert_eq!(rt;
-        first_wrong(alloc, State::Well, DECIDES_BY_THE_FIRST_VALUES)?.as_str(),
+        first_wrong(alloc, State::Well, DECIDES_BY_THE_FIRST_VALUES)?,
         ""
     );
     Ok(())
@@ -66,7 +66,7 @@ iif(true, parameters.long, 1) => '..65537'@37";
 fn hands_the_chosen_value_on(rt: HostRuntime) -> Result<(), Fail> {
     let alloc = rt.alloc();
     assert_eq!(rt;
-        first_wrong(alloc, State::Well, HANDS_THE_CHOSEN_VALUE_ON)?.as_str(),
+        first_wrong(alloc, State::Well, HANDS_THE_CHOSEN_VALUE_ON)?,
         ""
     );
     Ok(())
@@ -92,7 +92,7 @@ nosuch(1) => unparsed";
 fn wants_its_number_of_arguments(rt: HostRuntime) -> Result<(), Fail> {
     let alloc = rt.alloc();
     assert_eq!(rt;
-        first_wrong(alloc, State::Well, WANTS_ITS_NUMBER_OF_ARGUMENTS)?.as_str(),
+        first_wrong(alloc, State::Well, WANTS_ITS_NUMBER_OF_ARGUMENTS)?,
         ""
     );
     Ok(())

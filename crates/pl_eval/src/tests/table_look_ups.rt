@@ -41,10 +41,7 @@ true.x => Null@made";
 #[test]
 fn looks_properties_up(rt: HostRuntime) -> Result<(), Fail> {
     let alloc = rt.alloc();
-    assert_eq!(rt;
-        first_wrong(alloc, State::Well, LOOKS_PROPERTIES_UP)?.as_str(),
-        ""
-    );
+    assert_eq!(rt; first_wrong(alloc, State::Well, LOOKS_PROPERTIES_UP)?, "");
     Ok(())
 }
 
@@ -76,10 +73,7 @@ parameters.items[3].id => Null@made";
 #[test]
 fn looks_items_up(rt: HostRuntime) -> Result<(), Fail> {
     let alloc = rt.alloc();
-    assert_eq!(rt;
-        first_wrong(alloc, State::Well, LOOKS_ITEMS_UP)?.as_str(),
-        ""
-    );
+    assert_eq!(rt; first_wrong(alloc, State::Well, LOOKS_ITEMS_UP)?, "");
     Ok(())
 }
 
@@ -103,10 +97,7 @@ TRUE => True@made
 #[test]
 fn keeps_origins(rt: HostRuntime) -> Result<(), Fail> {
     let alloc = rt.alloc();
-    assert_eq!(rt;
-        first_wrong(alloc, State::Well, KEEPS_ORIGINS)?.as_str(),
-        ""
-    );
+    assert_eq!(rt; first_wrong(alloc, State::Well, KEEPS_ORIGINS)?, "");
     Ok(())
 }
 
@@ -146,6 +137,6 @@ containsValue(parameters.items.*.id, 'Y') => True@made";
 #[test]
 fn projects(rt: HostRuntime) -> Result<(), Fail> {
     let alloc = rt.alloc();
-    assert_eq!(rt; first_wrong(alloc, State::Well, PROJECTS)?.as_str(), "");
+    assert_eq!(rt; first_wrong(alloc, State::Well, PROJECTS)?, "");
     Ok(())
 }

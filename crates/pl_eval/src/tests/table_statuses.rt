@@ -35,7 +35,7 @@ Succeeded() => True@made";
 fn tells_how_dependencies_ended(rt: HostRuntime) -> Result<(), Fail> {
     let alloc = rt.alloc();
     assert_eq!(rt;
-        first_wrong(alloc, State::Well, TELLS_HOW_DEPENDENCIES_ENDED)?.as_str(),
+        first_wrong(alloc, State::Well, TELLS_HOW_DEPENDENCIES_ENDED)?,
         ""
     );
     Ok(())
@@ -68,23 +68,23 @@ succeededOrFailed() => True@made";
 fn tells_other_states(rt: HostRuntime) -> Result<(), Fail> {
     let alloc = rt.alloc();
     assert_eq!(rt;
-        first_wrong(alloc, State::Canceled, TELLS_OTHER_STATES_CANCELED)?.as_str(),
+        first_wrong(alloc, State::Canceled, TELLS_OTHER_STATES_CANCELED)?,
         ""
     );
     assert_eq!(rt;
-        first_wrong(alloc, State::Failing, TELLS_OTHER_STATES_FAILING)?.as_str(),
+        first_wrong(alloc, State::Failing, TELLS_OTHER_STATES_FAILING)?,
         ""
     );
     assert_eq!(rt;
-        first_wrong(alloc, State::Waiting, TELLS_OTHER_STATES_NEITHER)?.as_str(),
+        first_wrong(alloc, State::Waiting, TELLS_OTHER_STATES_NEITHER)?,
         ""
     );
     assert_eq!(rt;
-        first_wrong(alloc, State::Skipping, TELLS_OTHER_STATES_NEITHER)?.as_str(),
+        first_wrong(alloc, State::Skipping, TELLS_OTHER_STATES_NEITHER)?,
         ""
     );
     assert_eq!(rt;
-        first_wrong(alloc, State::Alone, TELLS_OTHER_STATES_ALONE)?.as_str(),
+        first_wrong(alloc, State::Alone, TELLS_OTHER_STATES_ALONE)?,
         ""
     );
     Ok(())

@@ -90,24 +90,45 @@ pub enum State {
     Alone,
 }
 
+/// The key of the file at that path.
+fn key_of(alloc: Global, path: Text) -> FileKey {
+    FileKey {
+        repo: Text::new(alloc),
+        git_ref: Text::new(alloc),
+        path,
+    }
+}
+
+fn file_at(alloc: Global, path: &str) -> Result<Shared<FileKey>, Memory> {
+    let key = key_of(alloc, Text::from_str(alloc, path)?);
+    Shared::new(alloc, key)
+}
+
+/// The first column of a line.
+fn place_at(alloc: Global, path: &str, line: u32) -> Result<Place, Memory> {
+    let file = file_at(alloc, path)?;
+    Place::at(alloc, &file, line, 1)
+}
+
+/// An origin there, across these borders.
+fn origin_across(
+    alloc: Global,
+    path: &str,
+    line: u32,
+    crossings: SharedList<Crossing>,
+) -> Result<Origin, Memory> {
+    let source = place_at(alloc, path, line)?;
+    Ok(Origin { source, crossings })
+}
+
 fn origin_at(alloc: Global, path: &str, line: u32) -> Result<Origin, Memory> {
-    let key = FileKey {
-        repo: Text::from_str(alloc, "repo")?,
-        git_ref: Text::from_str(alloc, "refs/heads/main")?,
-        path: Text::from_str(alloc, path)?,
-    };
-    let file = Shared::new(alloc, key)?;
-    Ok(Origin {
-        source: Place { file, line, col: 1 },
-        crossings: SharedList::new(alloc)?,
-    })
+    origin_across(alloc, path, line, SharedList::new(alloc)?)
 }
 
 /// The origin of made values: line 99 of another file, and `Made`.
 pub fn here(alloc: Global) -> Result<Origin, Memory> {
-    let Origin { source, crossings } = origin_at(alloc, "/here.yml", 99)?;
-    let crossings = crossings.with(alloc, Crossing::Made)?;
-    Ok(Origin { source, crossings })
+    let crossings = SharedList::new(alloc)?.with(alloc, Crossing::Made)?;
+    origin_across(alloc, "/here.yml", 99, crossings)
 }
 
 /// A text of so many times the letter x.
@@ -129,7 +150,7 @@ fn literal(alloc: Global, text: &str) -> Result<Value, Memory> {
 }
 
 /// A number of at most 32 bits, or 0 where the text is none.
-fn number(text: &str) -> u32 {
+pub fn number(text: &str) -> u32 {
     match text.parse::<u32>() {
         Ok(number) => number,
         Err(_) => 0,
@@ -148,16 +169,39 @@ fn value_of(alloc: Global, text: &str) -> Result<Value, Memory> {
     }
 }
 
-/// A property, whose key and value stand on that line.
-fn property(alloc: Global, key: &str, line: u32, value: Value) -> Result<MarkedPair, Memory> {
-    let key = Text::from_str(alloc, key)?;
-    let key_origin = origin_at(alloc, "/world.yml", line)?;
+/// A value that stands on that line.
+fn marked(alloc: Global, line: u32, value: Value) -> Result<MarkedNode, Memory> {
     let origin = origin_at(alloc, "/world.yml", line)?;
+    Ok(MarkedNode { origin, value })
+}
+
+/// A key that stands on that line.
+fn marked_key(alloc: Global, key: &str, line: u32) -> Result<(Text, Origin), Memory> {
+    let key_origin = origin_at(alloc, "/world.yml", line)?;
+    let key = Text::from_str(alloc, key)?;
+    Ok((key, key_origin))
+}
+
+/// A node under a key that stands on that line.
+fn under(alloc: Global, key: &str, line: u32, item: MarkedNode) -> Result<MarkedPair, Memory> {
+    let (key, key_origin) = marked_key(alloc, key, line)?;
     Ok(MarkedPair {
         key,
         key_origin,
-        item: MarkedNode { origin, value },
+        item,
     })
+}
+
+/// A property, whose key and value stand on that line.
+fn property(alloc: Global, key: &str, line: u32, value: Value) -> Result<MarkedPair, Memory> {
+    let item = marked(alloc, line, value)?;
+    under(alloc, key, line, item)
+}
+
+/// A property as its line writes it, whose items or properties follow.
+fn written(alloc: Global, key: &str, line: u32, text: &str) -> Result<MarkedPair, Memory> {
+    let value = value_of(alloc, text)?;
+    property(alloc, key, line, value)
 }
 
 /// The list with one more behind.
@@ -181,24 +225,37 @@ fn holding(value: Value, pair: MarkedPair) -> Result<Value, Memory> {
     }
 }
 
+/// A property with one item or property more in its value.
+fn grown(outer: MarkedPair, inner: MarkedPair) -> Result<MarkedPair, Memory> {
+    let MarkedPair {
+        key,
+        key_origin,
+        item: MarkedNode { origin, value },
+    } = outer;
+    match holding(value, inner) {
+        Ok(value) => Ok(MarkedPair {
+            key,
+            key_origin,
+            item: MarkedNode { origin, value },
+        }),
+        Err(fault) => Err(fault),
+    }
+}
+
+/// Puts a value into the last one that is open.
+fn put(open: &mut List<MarkedPair>, inner: MarkedPair) -> Result<(), Memory> {
+    match open.pop() {
+        Some(outer) => open.push(grown(outer, inner)?),
+        None => open.push(inner),
+    }
+}
+
 /// Puts the last value that is open into the one before it.
 fn close(open: &mut List<MarkedPair>) -> Result<(), Memory> {
-    if let Some(inner) = open.pop()
-        && let Some(outer) = open.pop()
-    {
-        let MarkedPair {
-            key,
-            key_origin,
-            item: MarkedNode { origin, value },
-        } = outer;
-        let value = holding(value, inner)?;
-        open.push(MarkedPair {
-            key,
-            key_origin,
-            item: MarkedNode { origin, value },
-        })?;
+    match open.pop() {
+        Some(inner) => put(open, inner),
+        None => Ok(()),
     }
-    Ok(())
 }
 
 /// Takes one line of the world.
@@ -209,9 +266,7 @@ fn read(alloc: Global, open: &mut List<MarkedPair>, line: &str) -> Result<(), Me
     let Some((key, text)) = rest.split_once(' ') else {
         return Ok(());
     };
-    let value = value_of(alloc, text)?;
-    let pair = property(alloc, key, number(line), value)?;
-    open.push(pair)?;
+    open.push(written(alloc, key, number(line), text)?)?;
     match text {
         "[" | "{" => Ok(()),
         _ => close(open),
@@ -230,13 +285,17 @@ fn properties(alloc: Global, open: &mut List<MarkedPair>) -> List<MarkedPair> {
     List::new(alloc)
 }
 
+fn read_all(alloc: Global, open: &mut List<MarkedPair>) -> Result<(), Memory> {
+    for line in ROOTS.lines() {
+        read(alloc, open, line.trim_start())?;
+    }
+    Ok(())
+}
+
 fn roots(alloc: Global) -> Result<List<MarkedPair>, Memory> {
     let mut open = List::new(alloc);
-    let whole = Value::Object(List::new(alloc));
-    open.push(property(alloc, "", 0, whole)?)?;
-    for line in ROOTS.lines() {
-        read(alloc, &mut open, line.trim_start())?;
-    }
+    open.push(written(alloc, "", 0, "{")?)?;
+    read_all(alloc, &mut open)?;
     Ok(properties(alloc, &mut open))
 }
 
@@ -251,10 +310,19 @@ fn results_by_name(alloc: Global) -> Result<List<Named>, Memory> {
     ];
     let mut named = List::new(alloc);
     for (name, outcome) in rows {
-        let name = Text::from_str(alloc, name)?;
-        named.push(Named { name, outcome })?;
+        put_result(alloc, &mut named, name, outcome)?;
     }
     Ok(named)
+}
+
+fn put_result(
+    alloc: Global,
+    named: &mut List<Named>,
+    name: &str,
+    outcome: Outcome,
+) -> Result<(), Memory> {
+    let name = Text::from_str(alloc, name)?;
+    named.push(Named { name, outcome })
 }
 
 fn all_results(alloc: Global, state: State) -> Result<List<Option<Outcome>>, Memory> {
@@ -268,11 +336,17 @@ fn all_results(alloc: Global, state: State) -> Result<List<Option<Outcome>>, Mem
     List::from_slice(alloc, &[Some(Outcome::Succeeded), second])
 }
 
+/// How the dependencies ended, in order and by name.
+fn results(alloc: Global, state: State) -> Result<(List<Option<Outcome>>, List<Named>), Memory> {
+    let named = results_by_name(alloc)?;
+    let all = all_results(alloc, state)?;
+    Ok((all, named))
+}
+
 /// The world in a state.
 pub fn world(alloc: Global, state: State) -> Result<MemNames, Memory> {
     let roots = roots(alloc)?;
-    let all = all_results(alloc, state)?;
-    let named = results_by_name(alloc)?;
+    let (all, named) = results(alloc, state)?;
     let canceled = match state {
         State::Canceled => true,
         _ => false,
