@@ -97,7 +97,7 @@ fn put(reading: &mut Reading, node: Node) -> Result<(), Memory> {
 }
 
 /// Opens a collection.
-fn open(alloc: Global, reading: &mut Reading, at: usize, is_mapping: bool) -> Result<(), Memory> {
+fn begin(alloc: Global, reading: &mut Reading, at: usize, is_mapping: bool) -> Result<(), Memory> {
     let place = place(alloc, reading.line, at)?;
     let items = List::new(alloc);
     let pairs = List::new(alloc);
@@ -150,8 +150,8 @@ fn put_word(alloc: Global, reading: &mut Reading) -> Result<(), Memory> {
 /// A character that stands for itself.
 fn put_mark(alloc: Global, reading: &mut Reading, at: usize, mark: char) -> Result<(), Memory> {
     match mark {
-        '[' => open(alloc, reading, at, false),
-        '{' => open(alloc, reading, at, true),
+        '[' => begin(alloc, reading, at, false),
+        '{' => begin(alloc, reading, at, true),
         ']' | '}' => close(reading),
         _ => Ok(()),
     }
