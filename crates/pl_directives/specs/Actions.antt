@@ -18,7 +18,7 @@ use Rattle.pl_template.specs.declared.forms.KeyForm.TheVariants as form
 use Rattle.pl_directives.specs.declared.action.Action.{Action}
 use Rattle.pl_directives.specs.declared.action.Turns.{Turns}
 use Rattle.pl_directives.specs.declared.action.Action.TheVariants.{Put, Run, Pass, Repeat, Insert}
-use Rattle.pl_directives.specs.declared.fault.Complaint.{Complaint}
+use Rattle.pl_directives.specs.declared.fault.ExpandFault.{ExpandFault}
 use Rattle.pl_directives.specs.declared.fault.ExpandProblem.TheVariants.{BadDirective, ElseAlone}
 use Rattle.pl_directives.specs.declared.fault.ExpandProblem.TheVariants.{EachOverScalar}
 use Rattle.pl_directives.specs.declared.progress.Chain.{Chain}
@@ -34,17 +34,17 @@ abbrev pub branch : Bool → Action
 branch true = Run Taken
 branch false = Pass Waiting
 
-abbrev pub if_asks : Frame → Place → List ℕ → Result Action Complaint
+abbrev pub if_asks : Frame → Place → List ℕ → Result Action ExpandFault
 if_asks frame place text = truth_at frame place text >>= λ truth. Ok (branch truth)
 
 -- elseif: the same, unless a branch was taken
-abbrev pub elseif_asks : Chain → Frame → Place → List ℕ → Result Action Complaint
+abbrev pub elseif_asks : Chain → Frame → Place → List ℕ → Result Action ExpandFault
 elseif_asks Closed frame place text = refused ElseAlone place
 elseif_asks Waiting frame place text = if_asks frame place text
 elseif_asks Taken frame place text = Ok (Pass Taken)
 
 -- else: the value in its place, unless a branch was taken
-abbrev pub else_asks : Chain → Place → Result Action Complaint
+abbrev pub else_asks : Chain → Place → Result Action ExpandFault
 else_asks Closed place = refused ElseAlone place
 else_asks Waiting place = Ok (Run Closed)
 else_asks Taken place = Ok (Pass Closed)
@@ -54,24 +54,24 @@ abbrev pub turns_of : List ℕ → List MarkedNode → Turns
 turns_of name items = record { name = name; items = items }
 
 abbrev pub items_for :
-    Value-F Value MarkedNode MarkedPair → Frame → Place → List ℕ → ℕ → Result Action Complaint
+    Value-F Value MarkedNode MarkedPair → Frame → Place → List ℕ → ℕ → Result Action ExpandFault
 items_for (layer.Array items) frame place name count = Ok (Repeat (turns_of name items) count)
 items_for (layer.Object pairs) frame place name count =
     Ok (Repeat (turns_of name (map (pair_object frame place) pairs)) count)
 items_for atom frame place name count = refused EachOverScalar place
 
-abbrev pub each_asks : Frame → Place → List ℕ → List ℕ → ℕ → Result Action Complaint
+abbrev pub each_asks : Frame → Place → List ℕ → List ℕ → ℕ → Result Action ExpandFault
 each_asks frame place name text count =
     counted_value_at frame place text count >>= λ one.
     items_for (out-Value one.node.value) frame place name one.count
 
 -- a pair whose key expressions give
-abbrev pub computed_asks : ScalarForm → Frame → Place → Result Action Complaint
+abbrev pub computed_asks : ScalarForm → Frame → Place → Result Action ExpandFault
 computed_asks form frame place =
     key_by form frame place >>= λ made. Ok (Put made.key made.origin)
 
 -- a key of that form, behind a chain of branches and at a count
-abbrev pub asks : KeyForm → List ℕ → Frame → Place → Chain → ℕ → Result Action Complaint
+abbrev pub asks : KeyForm → List ℕ → Frame → Place → Chain → ℕ → Result Action ExpandFault
 asks form.Plain key frame place chain count = Ok (Put key (literal_at frame place))
 asks (form.Computed made) key frame place chain count = computed_asks made frame place
 asks (form.If text) key frame place chain count = if_asks frame place text
@@ -82,5 +82,5 @@ asks form.Insert key frame place chain count = Ok Insert
 asks form.Bad key frame place chain count = refused BadDirective place
 
 -- a key
-abbrev pub key_asks : List ℕ → Frame → Place → Chain → ℕ → Result Action Complaint
+abbrev pub key_asks : List ℕ → Frame → Place → Chain → ℕ → Result Action ExpandFault
 key_asks key frame place chain count = asks (key_form_of key) key frame place chain count

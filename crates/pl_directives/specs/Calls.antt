@@ -11,7 +11,7 @@ use Rattle.pl_base.specs.declared.value.MarkedNode.{MarkedNode, fold-MarkedNode}
 use Rattle.pl_base.specs.declared.value.MarkedPair.{MarkedPair, fold-MarkedPair}
 use Rattle.pl_literal.specs.Items.{is}
 use Rattle.pl_frame.specs.declared.frame.Frame.{Frame}
-use Rattle.pl_directives.specs.declared.fault.Complaint.{Complaint}
+use Rattle.pl_directives.specs.declared.fault.ExpandFault.{ExpandFault}
 use Rattle.pl_directives.specs.declared.fault.ExpandProblem.TheVariants.{WrongKind}
 use Rattle.pl_directives.specs.declared.progress.Progress.{Progress}
 use Rattle.pl_directives.specs.declared.region.Region.{Region}
@@ -19,7 +19,7 @@ use Rattle.pl_directives.specs.Complaints.{refused}
 use Rattle.pl_directives.specs.Regions.{under, inside, may_call}
 
 -- an item that calls a template
-abbrev pub called : Frame → Region → MarkedNode → Progress → Result Progress Complaint
+abbrev pub called : Frame → Region → MarkedNode → Progress → Result Progress ExpandFault
 called frame region item progress = refused WrongKind item.origin.source
 
 -- ---- Calls in what an expression gave are followed once it stands in its place.
@@ -84,10 +84,10 @@ abbrev pub searched_pair : MarkedPair → SearchedPair
 searched_pair =
     fold-MarkedPair SearchedValue SearchedNode SearchedPair search_value search_node search_pair
 
-abbrev pub settled_unless : Option Place → MarkedNode → Result MarkedNode Complaint
+abbrev pub settled_unless : Option Place → MarkedNode → Result MarkedNode ExpandFault
 settled_unless None node = Ok node
 settled_unless (Some place) node = refused WrongKind place
 
 -- a node that an expression gave for a value in a region, its calls followed
-abbrev pub settled : Region → MarkedNode → Result MarkedNode Complaint
+abbrev pub settled : Region → MarkedNode → Result MarkedNode ExpandFault
 settled region node = settled_unless ((searched node).as_value region) node

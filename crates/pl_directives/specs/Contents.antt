@@ -11,7 +11,7 @@ use Rattle.pl_base.specs.declared.value.MarkedPair.{MarkedPair}
 use Rattle.pl_eval.specs.LookUps.{made}
 use Rattle.pl_frame.specs.Doubles.{first_double}
 use Rattle.pl_frame.specs.declared.frame.Frame.{Frame}
-use Rattle.pl_directives.specs.declared.fault.Complaint.{Complaint}
+use Rattle.pl_directives.specs.declared.fault.ExpandFault.{ExpandFault}
 use Rattle.pl_directives.specs.declared.fault.ExpandProblem.{ExpandProblem}
 use Rattle.pl_directives.specs.declared.fault.ExpandProblem.TheVariants.{KeyTwice, WrongKind}
 use Rattle.pl_directives.specs.declared.manner.Kind.{Kind}
@@ -54,80 +54,80 @@ begun kind chain count = record { content = nothing_of kind; chain = chain; coun
 -- ---- one kind
 
 -- a collection that is to have items: one of pairs can't, and the problem stands at that place
-abbrev pub items_content : ExpandProblem → Place → Content → Result Content Complaint
+abbrev pub items_content : ExpandProblem → Place → Content → Result Content ExpandFault
 items_content problem place Unknown = Ok (Items [])
 items_content problem place (Items items) = Ok (Items items)
 items_content problem place (Pairs pairs) = refused problem place
 
 -- the same of pairs
-abbrev pub pairs_content : ExpandProblem → Place → Content → Result Content Complaint
+abbrev pub pairs_content : ExpandProblem → Place → Content → Result Content ExpandFault
 pairs_content problem place Unknown = Ok (Pairs [])
 pairs_content problem place (Items items) = refused problem place
 pairs_content problem place (Pairs pairs) = Ok (Pairs pairs)
 
-abbrev pub as_items : ExpandProblem → Place → Progress → Result Progress Complaint
+abbrev pub as_items : ExpandProblem → Place → Progress → Result Progress ExpandFault
 as_items problem place progress =
     items_content problem place progress.content >>= λ content. Ok (with_content content progress)
 
-abbrev pub as_pairs : ExpandProblem → Place → Progress → Result Progress Complaint
+abbrev pub as_pairs : ExpandProblem → Place → Progress → Result Progress ExpandFault
 as_pairs problem place progress =
     pairs_content problem place progress.content >>= λ content. Ok (with_content content progress)
 
 -- ---- what is put behind
 
-abbrev pub items_behind : Place → List MarkedNode → Content → Result Content Complaint
+abbrev pub items_behind : Place → List MarkedNode → Content → Result Content ExpandFault
 items_behind place more Unknown = Ok (Items more)
 items_behind place more (Items items) = Ok (Items (items ++ more))
 items_behind place more (Pairs pairs) = refused WrongKind place
 
-abbrev pub pairs_behind : Place → List MarkedPair → Content → Result Content Complaint
+abbrev pub pairs_behind : Place → List MarkedPair → Content → Result Content ExpandFault
 pairs_behind place more Unknown = Ok (Pairs more)
 pairs_behind place more (Items items) = refused WrongKind place
 pairs_behind place more (Pairs pairs) = Ok (Pairs (pairs ++ more))
 
-abbrev pub add_items : Place → List MarkedNode → Progress → Result Progress Complaint
+abbrev pub add_items : Place → List MarkedNode → Progress → Result Progress ExpandFault
 add_items place items progress =
     items_behind place items progress.content >>= λ content. Ok (with_content content progress)
 
-abbrev pub add_pairs : Place → List MarkedPair → Progress → Result Progress Complaint
+abbrev pub add_pairs : Place → List MarkedPair → Progress → Result Progress ExpandFault
 add_pairs place pairs progress =
     pairs_behind place pairs progress.content >>= λ content. Ok (with_content content progress)
 
 -- an item of a list in a region: a call is followed, anything else stands there
-abbrev pub add_item : Frame → Region → MarkedNode → Progress → Result Progress Complaint
+abbrev pub add_item : Frame → Region → MarkedNode → Progress → Result Progress ExpandFault
 add_item frame region item progress =
     if is_call region item then called frame region item progress
     else add_items item.origin.source (item ∷ []) progress
 
 -- a pair of its own ends a chain of branches
-abbrev pub put_pair : MarkedPair → ℕ → Progress → Result Progress Complaint
+abbrev pub put_pair : MarkedPair → ℕ → Progress → Result Progress ExpandFault
 put_pair pair count progress =
     add_pairs pair.key_origin.source (pair ∷ []) (with_chain Closed (with_count count progress))
 
 -- ---- the whole collection
 
 -- no key stands twice
-abbrev pub distinct : Option Place → List MarkedPair → Result (List MarkedPair) Complaint
+abbrev pub distinct : Option Place → List MarkedPair → Result (List MarkedPair) ExpandFault
 distinct None pairs = Ok pairs
 distinct (Some place) pairs = refused KeyTwice place
 
-abbrev pub object_of : Origin → List MarkedPair → Result MarkedNode Complaint
+abbrev pub object_of : Origin → List MarkedPair → Result MarkedNode ExpandFault
 object_of origin pairs =
     distinct (first_double pairs) pairs >>= λ pairs. Ok (made origin (Object pairs))
 
-abbrev pub node_of : Origin → Content → Result MarkedNode Complaint
+abbrev pub node_of : Origin → Content → Result MarkedNode ExpandFault
 node_of origin (Items items) = Ok (made origin (Array items))
 node_of origin (Pairs pairs) = object_of origin pairs
 node_of origin Unknown = object_of origin []
 
-abbrev pub finished : Origin → Progress → Result Counted Complaint
+abbrev pub finished : Origin → Progress → Result Counted ExpandFault
 finished origin progress =
     node_of origin progress.content >>= λ node. Ok (record { node = node; count = progress.count })
 
 -- ---- what directives alone put in an item's place, behind the items that are there
 
 -- where pairs came of it they are one item; where nothing came of it there is none
-abbrev pub splice : Frame → Region → Origin → Content → Progress → Result Progress Complaint
+abbrev pub splice : Frame → Region → Origin → Content → Progress → Result Progress ExpandFault
 splice frame region origin Unknown progress = Ok progress
 splice frame region origin (Items items) progress = add_items origin.source items progress
 splice frame region origin (Pairs []) progress = Ok progress
@@ -137,23 +137,23 @@ splice frame region origin (Pairs (pair ∷ pairs)) progress =
 -- an expression's value as an item: an array's items stand in its place
 abbrev pub spread_of :
     Value-F Value MarkedNode MarkedPair → Frame → Region → MarkedNode → Progress →
-    Result Progress Complaint
+    Result Progress ExpandFault
 spread_of (layer.Array items) frame region node progress =
     add_items node.origin.source items progress
 spread_of other frame region node progress = add_item frame region node progress
 
-abbrev pub spread : Frame → Region → MarkedNode → Progress → Result Progress Complaint
+abbrev pub spread : Frame → Region → MarkedNode → Progress → Result Progress ExpandFault
 spread frame region node progress = spread_of (out-Value node.value) frame region node progress
 
 -- an expression's value in a directive's place: an array gives items, an object pairs
 abbrev pub absorbed_of :
     Value-F Value MarkedNode MarkedPair → ExpandProblem → Place → Progress →
-    Result Progress Complaint
+    Result Progress ExpandFault
 absorbed_of (layer.Array items) problem place progress =
     as_items problem place progress >>= add_items place items
 absorbed_of (layer.Object pairs) problem place progress =
     as_pairs problem place progress >>= add_pairs place pairs
 absorbed_of atom problem place progress = refused problem place
 
-abbrev pub absorbed : MarkedNode → ExpandProblem → Place → Progress → Result Progress Complaint
+abbrev pub absorbed : MarkedNode → ExpandProblem → Place → Progress → Result Progress ExpandFault
 absorbed node problem place progress = absorbed_of (out-Value node.value) problem place progress

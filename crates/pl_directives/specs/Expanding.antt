@@ -16,7 +16,7 @@ use Rattle.pl_frame.specs.declared.frame.Frame.{Frame}
 use Rattle.pl_template.specs.Keys.{key_form_of}
 use Rattle.pl_directives.specs.declared.action.Action.{Action}
 use Rattle.pl_directives.specs.declared.action.Action.TheVariants.{Put, Run, Pass, Repeat, Insert}
-use Rattle.pl_directives.specs.declared.fault.Complaint.{Complaint}
+use Rattle.pl_directives.specs.declared.fault.ExpandFault.{ExpandFault}
 use Rattle.pl_directives.specs.declared.fault.ExpandProblem.{ExpandProblem}
 use Rattle.pl_directives.specs.declared.fault.ExpandProblem.TheVariants.{WrongKind, InsertNoMapping}
 use Rattle.pl_directives.specs.declared.manner.Kind.{Kind}
@@ -45,7 +45,7 @@ use Rattle.pl_directives.specs.Steps.{◌>>=◌}
 -- How a collection's content is put behind what is there, in a frame and a region: as often as one
 -- likes, since a loop does it once a turn.
 abbrev pub Filling : Type 0
-Filling = Frame → Region → Progress → Result Progress Complaint
+Filling = Frame → Region → Progress → Result Progress ExpandFault
 
 pub data Shape : Type 0 where
   scalar : List ℕ → Shape
@@ -64,13 +64,13 @@ pub record Entry : Type 0 where
 -- ---- a node as a value
 
 abbrev pub collected :
-    Kind → Filling → Place → Frame → Region → ℕ → Result Counted Complaint
+    Kind → Filling → Place → Frame → Region → ℕ → Result Counted ExpandFault
 collected kind fill place frame region count =
     entered place count >>= λ count.
     fill frame region (begun kind Closed count) >>=
     finished (literal_at frame place)
 
-abbrev pub value_by : Shape → Place → Frame → Region → ℕ → Result Counted Complaint
+abbrev pub value_by : Shape → Place → Frame → Region → ℕ → Result Counted ExpandFault
 value_by (scalar text) place frame region count = scalar_at text frame region place count
 value_by (sequence fill) place frame region count =
     collected kind.Items fill place frame region count
@@ -133,7 +133,7 @@ pairs_behind (entry ∷ entries) frame region progress =
 -- A mapping that is an item: a chain of branches may go on in its first key, and go on behind its
 -- last one. A mapping without a key ends it.
 abbrev pub mapping_behind :
-    Manner → Filling → Place → Frame → Region → ℕ → Progress → Result Progress Complaint
+    Manner → Filling → Place → Frame → Region → ℕ → Progress → Result Progress ExpandFault
 mapping_behind Empty fill place frame region count progress =
     finished (literal_at frame place) (begun kind.Pairs Closed count) >>= λ one.
     add_item frame region one.node (with_chain Closed (with_count one.count progress))
@@ -210,6 +210,6 @@ abbrev pub entry_of : NodePair → Entry
 entry_of = fold-NodePair Shape Part Entry shape_step part_step entry_step
 
 -- a node as a value in a frame and a region
-abbrev pub expanded : Node → Frame → Region → ℕ → Result Counted Complaint
+abbrev pub expanded : Node → Frame → Region → ℕ → Result Counted ExpandFault
 expanded node frame region count =
     value_by (part_of node).shape (part_of node).place frame region count

@@ -17,7 +17,7 @@ use Rattle.pl_template.specs.declared.forms.Piece.TheVariants.{Literal}
 use Rattle.pl_template.specs.declared.forms.Piece.TheVariants as piece
 use Rattle.pl_template.specs.declared.forms.ScalarForm.{ScalarForm}
 use Rattle.pl_template.specs.declared.forms.ScalarForm.TheVariants.{Plain, Whole, Joined, Unclosed}
-use Rattle.pl_directives.specs.declared.fault.Complaint.{Complaint}
+use Rattle.pl_directives.specs.declared.fault.ExpandFault.{ExpandFault}
 use Rattle.pl_directives.specs.declared.fault.ExpandProblem.{ExpandProblem}
 use Rattle.pl_directives.specs.declared.fault.ExpandProblem.TheVariants.{BadDirective, WrongKind}
 use Rattle.pl_directives.specs.declared.fault.ExpandProblem.TheVariants.{Expression, Evaluation}
@@ -35,35 +35,35 @@ abbrev pub problem_of : ExpressionProblem → ExpandProblem
 problem_of (Unparsed code) = Expression code
 problem_of (Undefined code) = Evaluation code
 
-abbrev pub told_at : Place → Result MarkedNode ExpressionProblem → Result MarkedNode Complaint
+abbrev pub told_at : Place → Result MarkedNode ExpressionProblem → Result MarkedNode ExpandFault
 told_at place (Ok node) = Ok node
 told_at place (Err problem) = refused (problem_of problem) place
 
 -- the value of an expression in the scalar or key at a place; it isn't counted
-abbrev pub value_at : Frame → Place → List ℕ → Result MarkedNode Complaint
+abbrev pub value_at : Frame → Place → List ℕ → Result MarkedNode ExpandFault
 value_at frame place text = told_at place (expression_at frame place text)
 
-abbrev pub truth_at : Frame → Place → List ℕ → Result Bool Complaint
+abbrev pub truth_at : Frame → Place → List ℕ → Result Bool ExpandFault
 truth_at frame place text = value_at frame place text >>= λ node. Ok (bool_of node.value)
 
-abbrev pub one_more : Place → ℕ → MarkedNode → Result Counted Complaint
+abbrev pub one_more : Place → ℕ → MarkedNode → Result Counted ExpandFault
 one_more place count node =
     counted place (nodes_in node) count >>= λ count. Ok (record { node = node; count = count })
 
 -- the same, and the nodes of its tree are counted
-abbrev pub counted_value_at : Frame → Place → List ℕ → ℕ → Result Counted Complaint
+abbrev pub counted_value_at : Frame → Place → List ℕ → ℕ → Result Counted ExpandFault
 counted_value_at frame place text count = value_at frame place text >>= one_more place count
 
 -- ---- the pieces of a text, from left to right: each is cast to text
 
-abbrev pub piece_behind : Frame → Place → Piece → JoinedText → Result JoinedText Complaint
+abbrev pub piece_behind : Frame → Place → Piece → JoinedText → Result JoinedText ExpandFault
 piece_behind frame place (Literal text) joined =
     Ok (record { text = joined.text ++ text; count = joined.count })
 piece_behind frame place (piece.Expression text) joined =
     counted_value_at frame place text joined.count >>= λ one.
     Ok (record { text = joined.text ++ cast_text one.node.value; count = one.count })
 
-abbrev pub pieces_behind : Frame → Place → List Piece → JoinedText → Result JoinedText Complaint
+abbrev pub pieces_behind : Frame → Place → List Piece → JoinedText → Result JoinedText ExpandFault
 pieces_behind frame place [] joined = Ok joined
 pieces_behind frame place (first ∷ pieces) joined =
     piece_behind frame place first joined >>= pieces_behind frame place pieces
@@ -76,26 +76,26 @@ plain_scalar text frame place count =
     record { node = made (literal_at frame place) (Str text); count = count }
 
 -- where it is one expression it is that value, of its own kind and with its own origin
-abbrev pub whole_scalar : List ℕ → Frame → Region → Place → ℕ → Result Counted Complaint
+abbrev pub whole_scalar : List ℕ → Frame → Region → Place → ℕ → Result Counted ExpandFault
 whole_scalar inside frame region place count =
     counted_value_at frame place inside count >>= λ one.
     settled region one.node >>= λ node.
     Ok (record { node = node; count = one.count })
 
 -- else it is the text of its pieces, which is made here
-abbrev pub joined_scalar : List Piece → Frame → Place → ℕ → Result Counted Complaint
+abbrev pub joined_scalar : List Piece → Frame → Place → ℕ → Result Counted ExpandFault
 joined_scalar pieces frame place count =
     pieces_behind frame place pieces (record { text = []; count = count }) >>= λ joined.
     Ok (record { node = made (made_at frame place) (Str joined.text); count = joined.count })
 
 abbrev pub scalar_by :
-    ScalarForm → List ℕ → Frame → Region → Place → ℕ → Result Counted Complaint
+    ScalarForm → List ℕ → Frame → Region → Place → ℕ → Result Counted ExpandFault
 scalar_by Plain text frame region place count = Ok (plain_scalar text frame place count)
 scalar_by (Whole inside) text frame region place count =
     whole_scalar inside frame region place count
 scalar_by (Joined pieces) text frame region place count = joined_scalar pieces frame place count
 scalar_by Unclosed text frame region place count = refused BadDirective place
 
-abbrev pub scalar_at : List ℕ → Frame → Region → Place → ℕ → Result Counted Complaint
+abbrev pub scalar_at : List ℕ → Frame → Region → Place → ℕ → Result Counted ExpandFault
 scalar_at text frame region place count =
     entered place count >>= scalar_by (form_of text) text frame region place

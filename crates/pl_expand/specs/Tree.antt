@@ -44,6 +44,8 @@ use Rattle.pl_yaml.specs.Spells as yaml
 use Rattle.pl_yaml.specs.declared.fault.YamlFault.{YamlFault}
 use Rattle.pl_yaml.specs.declared.fault.YamlFault.TheVariants as fault
 use Rattle.pl_directives.specs.declared.fault.Complaint.{Complaint}
+use Rattle.pl_directives.specs.declared.fault.ExpandFault.{ExpandFault}
+use Rattle.pl_directives.specs.declared.fault.ExpandFault.TheVariants.{Refused}
 use Rattle.pl_directives.specs.declared.fault.ExpandProblem.TheVariants.{FileMissing, WrongKind}
 use Rattle.pl_directives.specs.declared.fault.ExpandProblem.TheVariants.{BadFile}
 use Rattle.pl_directives.specs.declared.fault.ExpandProblem.TheVariants.{Parameter as BadParameter}
@@ -62,7 +64,7 @@ use Rattle.pl_expand.specs.declared.filling.Early.{Early}
 use Rattle.pl_expand.specs.declared.root_key.RootKey.{RootKey}
 use Rattle.pl_expand.specs.declared.root_key.RootKey.TheVariants.{Parameters, Resources, Extends}
 use Rattle.pl_expand.specs.declared.root_key.RootKey.TheVariants.{Variables, Other}
-use Rattle.pl_directives.specs.Complaints.{complaint, refused}
+use Rattle.pl_directives.specs.Complaints.{complaint, refused, wanting}
 use Rattle.pl_directives.specs.Contents.{begun, with_chain, distinct, put_pair}
 use Rattle.pl_directives.specs.Counting.{entered}
 use Rattle.pl_directives.specs.Expanding.{expanded, entry_of, pair_behind}
@@ -72,12 +74,11 @@ use Rattle.pl_directives.specs.Steps.{◌>>=◌}
 
 -- ---- the root file
 
-abbrev pub root_node : FileKey → Option Parsed → Result Node Complaint
+abbrev pub root_node : FileKey → Option Parsed → Result Node ExpandFault
 root_node root None = refused FileMissing (place_at root 1 1)
 root_node root (Some (Good node)) = Ok node
 root_node root (Some (Bad (fault.Refused code place))) = refused (BadFile code) place
--- want of memory is answered in place of this
-root_node root (Some (Bad fault.Memory)) = refused FileMissing (place_at root 1 1)
+root_node root (Some (Bad fault.Memory)) = wanting
 
 -- ---- what its literal keys say before anything is expanded
 
@@ -105,20 +106,20 @@ root_complaints pairs =
     ++ form_beside (codes "jobs") pairs
     ++ form_beside (codes "steps") pairs
 
-abbrev pub unless : {X : Type 0} → Option Complaint → X → Result X Complaint
+abbrev pub unless : {X : Type 0} → Option Complaint → X → Result X ExpandFault
 unless None value = Ok value
-unless (Some first) value = Err first
+unless (Some first) value = Err (Refused first)
 
 abbrev pub repositories_of : Option Node → List Repository
 repositories_of resources = option_map_or repositories_in resources []
 
 -- ---- its parameters
 
-abbrev pub parameter_told : {X : Type 0} → Result X ParamComplaint → Result X Complaint
+abbrev pub parameter_told : {X : Type 0} → Result X ParamComplaint → Result X ExpandFault
 parameter_told (Ok value) = Ok value
 parameter_told (Err first) = refused (BadParameter first.problem) first.place
 
-abbrev pub declared_by : Option Node → Result (List Param) Complaint
+abbrev pub declared_by : Option Node → Result (List Param) ExpandFault
 declared_by None = Ok []
 declared_by (Some node) = parameter_told (declares node)
 
@@ -139,7 +140,7 @@ abbrev pub whole_text : Argument → MarkedNode
 whole_text argument =
     made (origin_at [] (place_at (argument_file argument.name) 1 1)) (Str argument.text)
 
-abbrev pub read_told : Result Node (YamlCode × Place) → Result MarkedNode Complaint
+abbrev pub read_told : Result Node (YamlCode × Place) → Result MarkedNode ExpandFault
 read_told (Ok node) = Ok (literal [] node)
 read_told (Err told) = refused (BadFile told.0) told.1
 
@@ -149,7 +150,7 @@ abbrev pub is_text : ParamKind → Bool
 is_text kind.String = true
 is_text other = false
 
-abbrev pub argument_value : Option ParamKind → Argument → Result MarkedNode Complaint
+abbrev pub argument_value : Option ParamKind → Argument → Result MarkedNode ExpandFault
 argument_value None argument = Ok (whole_text argument)
 argument_value (Some kind) argument =
     if is_text kind then Ok (whole_text argument)
@@ -159,24 +160,24 @@ abbrev pub kind_for : List Param → List ℕ → Option ParamKind
 kind_for declared name =
     option_map (λ param. param.kind) (find (λ param. spells name param.name) declared)
 
-abbrev pub argument_given : List Param → Argument → Result Given Complaint
+abbrev pub argument_given : List Param → Argument → Result Given ExpandFault
 argument_given declared argument =
     argument_value (kind_for declared argument.name) argument >>= λ value.
     Ok (given_as argument value)
 
 -- in the order of the arguments
 abbrev pub arguments_given :
-    List Param → List Argument → List Given → Result (List Given) Complaint
+    List Param → List Argument → List Given → Result (List Given) ExpandFault
 arguments_given declared [] given = Ok given
 arguments_given declared (argument ∷ arguments) given =
     argument_given declared argument >>= λ one.
     arguments_given declared arguments (given ++ one ∷ [])
 
-abbrev pub bound_by : List Param → List Argument → Result (List Bound) Complaint
+abbrev pub bound_by : List Param → List Argument → Result (List Bound) ExpandFault
 bound_by declared arguments =
     arguments_given declared arguments [] >>= λ given. parameter_told (binds declared given)
 
-abbrev pub parameters_by : Option Node → List Argument → Result (List Parameter) Complaint
+abbrev pub parameters_by : Option Node → List Argument → Result (List Parameter) ExpandFault
 parameters_by node arguments =
     declared_by node >>= λ declared.
     bound_by declared arguments >>= λ bound.
@@ -200,7 +201,7 @@ first_frame root parameters = root_frame root parameters (variables_of root.git_
 
 -- ---- its variables, which are expanded before all else
 
-abbrev pub early_by : Option Node → Frame → ℕ → Result Early Complaint
+abbrev pub early_by : Option Node → Frame → ℕ → Result Early ExpandFault
 early_by None frame count = Ok (record { node = None; count = count })
 early_by (Some node) frame count =
     expanded node frame (Calls InVariables) count >>= λ one.
@@ -223,7 +224,7 @@ root_key key =
 
 -- its variables under their key
 abbrev pub put_variables :
-    MarkedNode → NodePair → Frame → Progress → Result Progress Complaint
+    MarkedNode → NodePair → Frame → Progress → Result Progress ExpandFault
 put_variables node pair frame progress =
     put_pair
     (record { key = pair.key; key_origin = literal_at frame pair.key_place; item = node })
@@ -232,7 +233,7 @@ put_variables node pair frame progress =
 -- The pair of `variables` has the value that was expanded early. Within one file nothing is
 -- extended.
 abbrev pub root_pair :
-    RootKey → Option MarkedNode → NodePair → Frame → Progress → Result Progress Complaint
+    RootKey → Option MarkedNode → NodePair → Frame → Progress → Result Progress ExpandFault
 root_pair Parameters early pair frame progress = Ok (with_chain Closed progress)
 root_pair Resources early pair frame progress = Ok (with_chain Closed progress)
 root_pair Extends early pair frame progress = refused WrongKind pair.key_place
@@ -250,7 +251,7 @@ early_behind Variables early = None
 early_behind key early = early
 
 abbrev pub root_pairs :
-    Option MarkedNode → List NodePair → Frame → Progress → Result Progress Complaint
+    Option MarkedNode → List NodePair → Frame → Progress → Result Progress ExpandFault
 root_pairs early [] frame progress = Ok progress
 root_pairs early (pair ∷ pairs) frame progress =
     root_pair (root_key pair.key) (given_to (root_key pair.key) early) pair frame progress >>=
@@ -261,7 +262,7 @@ abbrev pub stands : MarkedPair → Bool
 stands pair =
     not (list_any (is pair.key) (codes "parameters" ∷ codes "resources" ∷ codes "extends" ∷ []))
 
-abbrev pub root_object : Origin → Content → Result MarkedNode Complaint
+abbrev pub root_object : Origin → Content → Result MarkedNode ExpandFault
 root_object origin (Pairs pairs) =
     distinct (first_double pairs) pairs >>= λ pairs.
     Ok (made origin (Object (filter stands pairs)))
@@ -288,7 +289,7 @@ second_frame root parameters early =
 -- the pairs of the root's mapping, once its variables were expanded
 abbrev pub filled_root :
     FileKey → Place → List NodePair → List Parameter → Early →
-    Result Counted Complaint
+    Result Counted ExpandFault
 filled_root root place pairs parameters early =
     root_pairs early.node pairs (second_frame root parameters early.node)
     (begun content.Pairs Closed early.count) >>= λ progress.
@@ -297,14 +298,14 @@ filled_root root place pairs parameters early =
     Ok (record { node = node; count = progress.count })
 
 abbrev pub pairs_expanded :
-    FileKey → Place → List NodePair → List Parameter → Result Counted Complaint
+    FileKey → Place → List NodePair → List Parameter → Result Counted ExpandFault
 pairs_expanded root place pairs parameters =
     entered place 0 >>= λ count.
     early_by (under (codes "variables") pairs) (first_frame root parameters) count >>=
     filled_root root place pairs parameters
 
 abbrev pub mapping_expanded :
-    FileKey → Place → List NodePair → List Argument → Result RootTree Complaint
+    FileKey → Place → List NodePair → List Argument → Result RootTree ExpandFault
 mapping_expanded root place pairs arguments =
     unless (earliest (root_complaints pairs)) pairs >>= λ pairs.
     parameters_by (under (codes "parameters") pairs) arguments >>= λ parameters.
@@ -312,30 +313,30 @@ mapping_expanded root place pairs arguments =
     Ok (whole root (repositories_of (under (codes "resources") pairs)) one)
 
 -- a root that is no mapping declares nothing; its schema is judged later
-abbrev pub other_expanded : FileKey → Node → List Argument → Result RootTree Complaint
+abbrev pub other_expanded : FileKey → Node → List Argument → Result RootTree ExpandFault
 other_expanded root node arguments =
     parameters_by None arguments >>= λ parameters.
     expanded node (first_frame root parameters) Free 0 >>= λ one.
     Ok (whole root [] one)
 
-abbrev pub body_expanded_by : Body → FileKey → Node → List Argument → Result RootTree Complaint
+abbrev pub body_expanded_by : Body → FileKey → Node → List Argument → Result RootTree ExpandFault
 body_expanded_by (Map pairs) root node arguments =
     mapping_expanded root node.place pairs arguments
 body_expanded_by other root node arguments = other_expanded root node arguments
 
-abbrev pub body_expanded : FileKey → Node → List Argument → Result RootTree Complaint
+abbrev pub body_expanded : FileKey → Node → List Argument → Result RootTree ExpandFault
 body_expanded root node arguments = body_expanded_by (body_of node) root node arguments
 
-abbrev pub file_expanded : FileKey → Option Parsed → List Argument → Result RootTree Complaint
+abbrev pub file_expanded : FileKey → Option Parsed → List Argument → Result RootTree ExpandFault
 file_expanded root file arguments =
     root_node root file >>= λ node. body_expanded root node arguments
 
 -- what files, a root and run arguments expand to, with the count
 abbrev pub tree_of :
-    finite.FinMap file_cmp Parsed → FileKey → List Argument → Result RootTree Complaint
+    finite.FinMap file_cmp Parsed → FileKey → List Argument → Result RootTree ExpandFault
 tree_of files root arguments = file_expanded root (finite.get files root) arguments
 
 -- the same without the count
 abbrev pub expansion :
-    finite.FinMap file_cmp Parsed → FileKey → List Argument → Result Expanded Complaint
+    finite.FinMap file_cmp Parsed → FileKey → List Argument → Result Expanded ExpandFault
 expansion files root arguments = tree_of files root arguments >>= λ whole. Ok whole.expanded
