@@ -37,3 +37,4 @@ mod table_resources;
 mod table_scalars;
 mod table_sequences;
 mod table_variables;
+mod written_nodes;

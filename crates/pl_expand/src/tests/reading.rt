@@ -84,10 +84,14 @@ fn one_file(alloc: Global, input: &str) -> Result<OneFile, Memory> {
     Ok(OneFile { key, parsed })
 }
 
+fn put_count(alloc: Global, out: &mut Text, count: u32) -> Result<(), Memory> {
+    let line = format!(in alloc; "count {}\n", count)?;
+    out.push_str(line.as_str())
+}
+
 /// The lines of an expansion.
 fn put_tree(alloc: Global, out: &mut Text, whole: &RootTree) -> Result<(), Memory> {
-    let count = format!(in alloc; "count {}\n", whole.count)?;
-    out.push_str(count.as_str())?;
+    put_count(alloc, out, whole.count)?;
     put_node(alloc, out, &whole.expanded.tree, 0)
 }
 
@@ -107,6 +111,36 @@ fn outcome(alloc: Global, input: &str, lines: &str) -> Result<Text, Memory> {
     let mut files = one_file(alloc, input)?;
     let found = expand_counted(alloc, &mut files, &key, &arguments);
     shown(alloc, found)
+}
+
+/// The line of a fault.
+fn fault_line(alloc: Global, fault: &ExpandFault) -> Result<Text, Memory> {
+    let mut out = Text::new(alloc);
+    put_fault(alloc, &mut out, fault)?;
+    Ok(out)
+}
+
+/// The line of a count.
+fn count_line(alloc: Global, count: u32) -> Result<Text, Memory> {
+    let mut out = Text::new(alloc);
+    put_count(alloc, &mut out, count)?;
+    Ok(out)
+}
+
+/// The first line of an expansion: its count, or its fault.
+fn headed(alloc: Global, found: Result<RootTree, ExpandFault>) -> Result<Text, Memory> {
+    match found {
+        Ok(whole) => count_line(alloc, whole.count),
+        Err(fault) => fault_line(alloc, &fault),
+    }
+}
+
+/// The first line of what a root file without arguments expands to.
+pub fn first_line(alloc: Global, input: &str) -> Result<Text, Memory> {
+    let key = root_key(alloc)?;
+    let mut files = one_file(alloc, input)?;
+    let found = expand_counted(alloc, &mut files, &key, &List::new(alloc));
+    headed(alloc, found)
 }
 
 /// What comes of what is given.
