@@ -23,3 +23,4 @@ pub use pipeline::{
     DependSpec, JobSpec, LegSpec, Pipeline, PoolSpec, RepoRef, StageSpec, StepSpec, Variable,
 };
 pub use root::pipeline_of;
+pub use variables::variable_in;
