@@ -55,7 +55,7 @@ Acts-then old (t ∷ ts) us between new a b = (a.0, a.1, Acts-then a.0 ts us bet
 
 pub Tells-then : (coming : Option (ℕ → ℕ)) (ts us : List Turn) (between later : Option (ℕ → ℕ)) → Tells coming ts between → Tells between us later → Tells coming (ts ++ us) later
 Tells-then coming [] us between later is t = subst (λ c. Tells c us later) is t
-Tells-then coming (t ∷ ts) us between later a b = (a.0, Tells-then (after_next coming) ts us between later a.1 b)
+Tells-then coming (t ∷ ts) us between later a b = (a.0, a.1, Tells-then (after_next coming) ts us between later a.2 b)
 
 -- nothing happens
 pub stays : (p : Point) (buffer : List ℕ) → Advances p buffer [] p buffer
@@ -248,14 +248,23 @@ serving_reads a b c buffer bytes rest taken count s count_is left held coming st
   taken_is = length-append s.read bytes ∙ (ap (λ n. n + length bytes) s.taken_is ∙ ap (λ n. taken + n) count_is);
 }
 
+at_most : (read : List ℕ) (taken : ℕ) → length read ≡ taken → taken ≤ taken_limit → length read ≤ taken_limit
+at_most read taken is within = subst (λ n. n ≤ taken_limit) (sym is) within
+
+below : (read : List ℕ) (taken : ℕ) → length read ≡ taken → taken < taken_limit → length read < taken_limit
+below read taken is within = subst (λ n. n < taken_limit) (sym is) within
+
 -- it broke off while the buffer's messages were answered
-pub serving_breaks : (a b c : Point) (buffer : List ℕ) (taken : ℕ) → Serving a b buffer taken → Breaks b buffer [] c → (read : List ℕ) × Breaks a [] read c
-serving_breaks a b c buffer taken s x = (s.read ++ [], breaks_off a b c [] s.read buffer [] s.advances x)
+pub serving_breaks : (a b c : Point) (buffer : List ℕ) (taken : ℕ) → Serving a b buffer taken → taken ≤ taken_limit → Breaks b buffer [] c
+    → (read : List ℕ) × (length read ≤ taken_limit) × Breaks a [] read c
+serving_breaks a b c buffer taken s within x =
+    (s.read ++ [], at_most (s.read ++ []) taken (ap length (append-nil s.read) ∙ s.taken_is) within, breaks_off a b c [] s.read buffer [] s.advances x)
 
 -- it broke off while bytes were read
-pub serving_loses : (a b c : Point) (buffer bytes : List ℕ) (taken : ℕ) → Serving a b buffer taken → b.left ≡ with_front bytes c.left → c.held ≡ b.held → c.coming ≡ b.coming → c.state ≡ b.state → (read : List ℕ) × Breaks a [] read c
-serving_loses a b c buffer bytes taken s left held coming state =
-    (s.read ++ bytes, breaks_off a b c [] s.read buffer bytes s.advances (breaks_unread b c buffer bytes left held coming state))
+pub serving_loses : (a b c : Point) (buffer bytes : List ℕ) (taken most : ℕ) → Serving a b buffer taken → length bytes ≤ most → taken + most ≤ taken_limit → b.left ≡ with_front bytes c.left → c.held ≡ b.held → c.coming ≡ b.coming → c.state ≡ b.state
+    → (read : List ℕ) × (length read ≤ taken_limit) × Breaks a [] read c
+serving_loses a b c buffer bytes taken most s few within left held coming state =
+    (s.read ++ bytes, omega (arith, length-append s.read bytes, s.taken_is, few, within), breaks_off a b c [] s.read buffer bytes s.advances (breaks_unread b c buffer bytes left held coming state))
 
 no-bytes : (bytes : List ℕ) (count : ℕ) → length bytes ≡ count → count ≡ 0 → bytes ≡ []
 no-bytes [] count is none = refl
@@ -266,43 +275,51 @@ some-bytes [] h = absurd (h refl)
 some-bytes (b ∷ bs) h = omega arith
 
 -- bytes came that are no message, and they were answered
-pub ends_bad : (a b c d : Point) (buffer rest : List ℕ) (taken : ℕ) (fault : HttpFault) → Serving a b buffer taken → Advances b buffer [] c rest → IsBad rest → d.left ≡ c.left → d.held ≡ with_end c.held bad_reply → d.coming ≡ c.coming → d.state ≡ c.state → Session a d (served.Bad fault)
-ends_bad a b c d buffer rest taken fault s x bad left held coming state =
+pub ends_bad : (a b c d : Point) (buffer rest : List ℕ) (taken : ℕ) (fault : HttpFault) → Serving a b buffer taken → taken ≤ taken_limit → Advances b buffer [] c rest → IsBad rest → d.left ≡ c.left → d.held ≡ with_end c.held bad_reply → d.coming ≡ c.coming → d.state ≡ c.state → Session a d (served.Bad fault)
+ends_bad a b c d buffer rest taken fault s within x bad left held coming state =
     let t = serving_answers a b c buffer rest taken s x in
-    (t.read, (c, rest, t.advances, bad, record { left = left; held = held; coming = coming; state = state }))
+    (t.read, at_most t.read taken t.taken_is within, (c, rest, t.advances, bad, record { left = left; held = held; coming = coming; state = state }))
 
 -- their answer broke off
-pub breaks_bad : (a b c d : Point) (buffer rest : List ℕ) (taken : ℕ) → Serving a b buffer taken → Advances b buffer [] c rest → IsBad rest → d.left ≡ c.left → Begins c.held bad_reply d.held → d.coming ≡ c.coming → d.state ≡ c.state → (read : List ℕ) × Breaks a [] read d
-breaks_bad a b c d buffer rest taken s x bad left begins coming state =
-    serving_breaks a c d rest taken (serving_answers a b c buffer rest taken s x) (bad_cut c d rest bad left coming state begins)
+pub breaks_bad : (a b c d : Point) (buffer rest : List ℕ) (taken : ℕ) → Serving a b buffer taken → taken ≤ taken_limit → Advances b buffer [] c rest → IsBad rest → d.left ≡ c.left → Begins c.held bad_reply d.held → d.coming ≡ c.coming → d.state ≡ c.state
+    → (read : List ℕ) × (length read ≤ taken_limit) × Breaks a [] read d
+breaks_bad a b c d buffer rest taken s within x bad left begins coming state =
+    serving_breaks a c d rest taken (serving_answers a b c buffer rest taken s x) within (bad_cut c d rest bad left coming state begins)
 
 -- as many bytes were taken as may be
 pub ends_spent : (a b c : Point) (buffer rest : List ℕ) (taken : ℕ) → Serving a b buffer taken → Advances b buffer [] c rest → IsPartial rest → taken ≤ taken_limit → taken_limit ≤ taken → Session a c served.Spent
 ends_spent a b c buffer rest taken s x partial within reached =
     let t = serving_answers a b c buffer rest taken s x in
-    (t.read, (rest, t.advances, partial, t.taken_is ∙ (let all : taken ≡ taken_limit = omega (arith, within, reached) in all)))
+    (t.read, at_most t.read taken t.taken_is within, (rest, t.advances, partial, t.taken_is ∙ (let all : taken ≡ taken_limit = omega (arith, within, reached) in all)))
 
 -- a read failed
-pub ends_failed : (a b c d : Point) (buffer rest : List ℕ) (taken : ℕ) → Serving a b buffer taken → Advances b buffer [] c rest → IsPartial rest → d.left ≡ c.left → d.held ≡ c.held → d.coming ≡ c.coming → d.state ≡ c.state → Session a d served.ReadFault
-ends_failed a b c d buffer rest taken s x partial left held coming state =
+pub ends_failed : (a b c d : Point) (buffer rest : List ℕ) (taken : ℕ) → Serving a b buffer taken → taken ≤ taken_limit → Advances b buffer [] c rest → IsPartial rest → d.left ≡ c.left → d.held ≡ c.held → d.coming ≡ c.coming → d.state ≡ c.state → Session a d served.ReadFault
+ends_failed a b c d buffer rest taken s within x partial left held coming state =
     let t = serving_answers a b c buffer rest taken s x in
     let u = serving_reads a c d rest [] rest taken 0 t refl (sym left ∙ sym (with_front-nil d.left)) held coming state (sym (append-nil rest)) in
-    (u.read, (rest, u.advances, partial))
+    (u.read, omega (arith, u.taken_is, within), (rest, u.advances, partial))
 
 -- the input ended
-pub ends_at : (a b c d : Point) (buffer rest bytes more : List ℕ) (taken count : ℕ) → Serving a b buffer taken → Advances b buffer [] c rest → count ≡ 0 → length bytes ≡ count → c.left ≡ with_front bytes d.left → d.held ≡ c.held → d.coming ≡ c.coming → d.state ≡ c.state → more ≡ rest ++ bytes → (read : List ℕ) × Advances a [] read d more × (more ≡ rest)
+pub ends_at : (a b c d : Point) (buffer rest bytes more : List ℕ) (taken count : ℕ) → Serving a b buffer taken → Advances b buffer [] c rest → count ≡ 0 → length bytes ≡ count → c.left ≡ with_front bytes d.left → d.held ≡ c.held → d.coming ≡ c.coming → d.state ≡ c.state → more ≡ rest ++ bytes
+    → (read : List ℕ) × (length read ≡ taken) × Advances a [] read d more × (more ≡ rest)
 ends_at a b c d buffer rest bytes more taken count s x none count_is left held coming state is =
     let t = serving_reads a c d rest bytes more taken count (serving_answers a b c buffer rest taken s x) count_is left held coming state is in
-    (t.read, t.advances, is ∙ (ap (λ bs. rest ++ bs) (no-bytes bytes count count_is none) ∙ append-nil rest))
+    let all : length t.read ≡ taken = omega (arith, t.taken_is, none) in
+    (t.read, all, t.advances, is ∙ (ap (λ bs. rest ++ bs) (no-bytes bytes count count_is none) ∙ append-nil rest))
 
-pub ends_between : (a d : Point) (rest more : List ℕ) → (read : List ℕ) × Advances a [] read d more × (more ≡ rest) → more ≡ [] → Session a d served.Ended
-ends_between a d rest more ending nothing = (ending.0, subst (λ bytes. Advances a [] ending.0 d bytes) nothing ending.1)
+pub ends_between : (a d : Point) (rest more : List ℕ) (taken : ℕ) → (read : List ℕ) × (length read ≡ taken) × Advances a [] read d more × (more ≡ rest)
+    → taken < taken_limit → more ≡ [] → Session a d served.Ended
+ends_between a d rest more taken ending within nothing =
+    (ending.0, below ending.0 taken ending.1 within, subst (λ bytes. Advances a [] ending.0 d bytes) nothing ending.2)
 
-pub ends_inside : (a d : Point) (rest more : List ℕ) (len : ℕ) → (read : List ℕ) × Advances a [] read d more × (more ≡ rest) → IsPartial rest → (more ≡ [] → ⊥) → len ≡ length more → Session a d (served.Cut len)
-ends_inside a d rest more len ending partial some len_is =
-    (ending.0, (more, ending.1, subst (λ bytes. IsPartial bytes) (sym ending.2) partial, some-bytes more some, sym len_is))
+pub ends_inside : (a d : Point) (rest more : List ℕ) (len taken : ℕ) → (read : List ℕ) × (length read ≡ taken) × Advances a [] read d more × (more ≡ rest)
+    → taken < taken_limit → IsPartial rest → (more ≡ [] → ⊥) → len ≡ length more → Session a d (served.Cut len)
+ends_inside a d rest more len taken ending within partial some len_is =
+    (ending.0, below ending.0 taken ending.1 within, (more, ending.2, subst (λ bytes. IsPartial bytes) (sym ending.3) partial, some-bytes more some, sym len_is))
 
 -- memory was wanting for the bytes that came
-pub serving_loses_after : (a b c d : Point) (buffer rest bytes : List ℕ) (taken : ℕ) → Serving a b buffer taken → Advances b buffer [] c rest → c.left ≡ with_front bytes d.left → d.held ≡ c.held → d.coming ≡ c.coming → d.state ≡ c.state → (read : List ℕ) × Breaks a [] read d
-serving_loses_after a b c d buffer rest bytes taken s x left held coming state =
-    serving_loses a c d rest bytes taken (serving_answers a b c buffer rest taken s x) left held coming state
+pub serving_loses_after : (a b c d : Point) (buffer rest bytes : List ℕ) (taken most : ℕ) → Serving a b buffer taken → Advances b buffer [] c rest
+    → length bytes ≤ most → taken + most ≤ taken_limit → c.left ≡ with_front bytes d.left → d.held ≡ c.held → d.coming ≡ c.coming → d.state ≡ c.state
+    → (read : List ℕ) × (length read ≤ taken_limit) × Breaks a [] read d
+serving_loses_after a b c d buffer rest bytes taken most s x few within left held coming state =
+    serving_loses a c d rest bytes taken most (serving_answers a b c buffer rest taken s x) few within left held coming state

@@ -1,8 +1,7 @@
 -- A stream has one list of messages.
-use Rattle.std.proofs.Common.{◌≡◌, ◌≢◌, ℕ, ◌+◌, ◌<◌, List, [], ◌∷◌, ◌++◌, length, take, drop, refl, sym, ◌∙◌, ap, subst, arith, append_assoc, length-append}
+use Rattle.std.proofs.Common.{◌≡◌, ℕ, ◌<◌, List, [], ◌∷◌, ◌++◌, length, take, drop, refl, sym, ◌∙◌, ap, subst, arith, append_assoc, length-append}
 use Rattle.std.proofs.Math.Seq.{take-append_seam, drop-append_seam}
 use Rattle.std.proofs.lemmas.List.{take-append-drop}
-use Rattle.pl_wire.specs.declared.message.Message.{Message}
 use Rattle.pl_wire.specs.Message.{IsMessage, IsPartial, IsBad, OneReading}
 use Rattle.pipectl.specs.Session.{Turn, Spelled, messages_of, NoneFirst}
 use Rattle.pipectl.proofs.Sessions.{append-nil}

@@ -1,5 +1,5 @@
 -- A session: the messages of the bytes that were read, their answers, and the bytes that were written.
-use Rattle.std.specs.Prelude.{◌≡◌, ◌<◌, ◌⊎◌, ℕ, Bool, IsTrue, List, [], ◌∷◌, ◌++◌, length, take, Option, Result, Ok, Err, codes}
+use Rattle.std.specs.Prelude.{◌≡◌, ◌<◌, ◌≤◌, ◌⊎◌, ℕ, Bool, IsTrue, List, [], ◌∷◌, ◌++◌, length, take, Option, Some, Result, Ok, Err, codes}
 use Rattle.std.specs.Option.{IfSome}
 use Rattle.pl_base.specs.Counts.{one_more}
 use Rattle.pl_base.specs.Streams.{with_front, with_end, after_next}
@@ -45,10 +45,10 @@ abbrev pub Acts : State → List Turn → State → Type 0
 Acts old [] new = new ≡ old
 Acts old (turn ∷ turns) new = (between : State) × Act old turn.moment turn.message turn.answer between × Acts between turns new
 
--- the clock was asked once a turn, and told its moment
+-- the clock was asked once a turn, and told its moment, which is at most 2099-12-31T23:59:59Z
 abbrev pub Tells : Option (ℕ → ℕ) → List Turn → Option (ℕ → ℕ) → Type 0
 Tells coming [] later = later ≡ coming
-Tells coming (turn ∷ turns) later = IfSome coming (λ moment. turn.moment ≡ moment 0) × Tells (after_next coming) turns later
+Tells coming (turn ∷ turns) later = (turn.moment ≤ 4102444799) × IfSome coming (λ moment. turn.moment ≡ moment 0) × Tells (after_next coming) turns later
 
 abbrev pub memory_reply : List ℕ
 memory_reply = written (refusal 507 (codes "memory"))
@@ -174,11 +174,11 @@ CountsUnread (Ok count) old new = new ≡ old
 CountsUnread (Err unread.ReadFault) old new = new ≡ one_more old
 CountsUnread (Err unread.Memory) old new = new ≡ old
 
--- A piece was read: its bytes stand behind the others, or memory was wanting for them; or the read failed.
-abbrev pub ReadsPiece : Result ℕ Unread → Option (List ℕ) → Option (List ℕ) → List ℕ → List ℕ → Type 0
-ReadsPiece (Ok count) left later buffer more = (bytes : List ℕ) × (length bytes ≡ count) × (left ≡ with_front bytes later) × (more ≡ buffer ++ bytes)
-ReadsPiece (Err unread.ReadFault) left later buffer more = (later ≡ left) × (more ≡ buffer)
-ReadsPiece (Err unread.Memory) left later buffer more = (bytes : List ℕ) × (left ≡ with_front bytes later)
+-- A piece of at most so many bytes was read: they stand behind the others, or memory was wanting for them; or the read failed.
+abbrev pub ReadsPiece : ℕ → Result ℕ Unread → Option (List ℕ) → Option (List ℕ) → List ℕ → List ℕ → Type 0
+ReadsPiece most (Ok count) left later buffer more = (bytes : List ℕ) × (length bytes ≡ count) × (left ≡ with_front bytes later) × (more ≡ buffer ++ bytes)
+ReadsPiece most (Err unread.ReadFault) left later buffer more = (later ≡ left) × (more ≡ buffer)
+ReadsPiece most (Err unread.Memory) left later buffer more = (bytes : List ℕ) × (length bytes ≤ most) × (left ≡ with_front bytes later)
 
 -- a link that was read to its end told so, and where it tells what is left, nothing is
 abbrev pub IsAtEnd : Bool → Option (List ℕ) → Type 0
@@ -190,9 +190,16 @@ EndsTold served.Ended told left = IsAtEnd told left
 EndsTold (served.Cut len) told left = IsAtEnd told left
 EndsTold other told left = Unit {0}
 
+-- How many bytes were taken: at most as many as may be, and less than that where the end was told. (As many as may
+-- be, exactly, is the ending of its own.)
+abbrev pub IsWithin : Served → ℕ → Type 0
+IsWithin served.Ended taken = taken < taken_limit
+IsWithin (served.Cut len) taken = taken < taken_limit
+IsWithin other taken = taken ≤ taken_limit
+
 -- a session from one point to another
 abbrev pub Session : Point → Point → Served → Type 0
-Session old new served = (read : List ℕ) × Ends old read new served
+Session old new served = (read : List ℕ) × IsWithin served (length read) × Ends old read new served
 
 abbrev pub messages_of : List Turn → List Message
 messages_of [] = []
@@ -211,3 +218,16 @@ OneStream = (bytes rest other : List ℕ) (turns others : List Turn)
 -- where a message is begun or nothing can be one, none stands at the front
 abbrev pub RestsAreOpen : Type 0
 RestsAreOpen = ((rest : List ℕ) → IsPartial rest → NoneFirst rest) × ((rest : List ℕ) → IsBad rest → NoneFirst rest)
+
+-- how a session may end that reads whole messages to their end: between messages, unless a fault was counted or memory was wanting
+abbrev pub EndsBetween : Served → Type 0
+EndsBetween (served.Cut len) = ⊥
+EndsBetween (served.Bad fault) = ⊥
+EndsBetween served.Spent = ⊥
+EndsBetween other = Unit {0}
+
+-- over a source that tells whole messages alone, of fewer bytes than may be taken
+abbrev pub WholeInputFinishes : Type 0
+WholeInputFinishes = (old new : Point) (bytes : List ℕ) (turns : List Turn) (ending : Served) (told : Bool)
+    → old.left ≡ Some bytes → Spelled bytes turns [] → length bytes < taken_limit
+    → Session old new ending → EndsTold ending told new.left → EndsBetween ending

@@ -1,6 +1,6 @@
 //! What the definition of a session implies.
 
-ghost use Rattle.pipectl.specs.Session.{OneStream, RestsAreOpen};
+ghost use Rattle.pipectl.specs.Session.{OneStream, RestsAreOpen, WholeInputFinishes};
 
 use pl_wire::one_reading;
 
@@ -15,6 +15,14 @@ pub fn one_stream()
 /// Where a session ended, no message stands at the front of its rest.
 pub fn rests_are_open()
     ensures { RestsAreOpen }
+{
+    one_reading();
+}
+
+/// A session over whole messages, of fewer bytes than may be taken, ends between messages, unless a
+/// fault was counted or memory was wanting: so the status is 0 wherever both counts stayed, up to 6.
+pub fn whole_input_finishes()
+    ensures { WholeInputFinishes }
 {
     one_reading();
 }

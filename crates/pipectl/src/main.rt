@@ -24,16 +24,16 @@ fn main(rt: HostRuntime) -> ExitCode {
         Ok(args) => {
             for word in args.skip(1) {
                 if words.push(word).is_err() {
-                    return ExitCode::from(Status::Memory.code());
+                    return Status::Memory.exit_code();
                 }
             }
         }
         // A word that is no text is no word of a command.
         Err(fault) if fault.kind() != io::ErrorKind::OutOfMemory => words.clear(),
-        Err(_) => return ExitCode::from(Status::Memory.code()),
+        Err(_) => return Status::Memory.exit_code(),
     }
     let mut process = Process::new(rt, rt.stdin(), rt.stdout());
-    ExitCode::from(run(rt.alloc(), &words, &mut process).code())
+    run(rt.alloc(), &words, &mut process).exit_code()
 }
 
 #[cfg(test)]

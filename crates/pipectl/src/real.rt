@@ -1,10 +1,11 @@
 //! The outside as the operating system gives it: the trusted edge. It tells no contents; each error
 //! is counted.
 
-ghost use Rattle.std.specs.Prelude.{None, refl};
+ghost use Rattle.std.specs.Prelude.{◌≡◌, None, false, refl};
 
 use crate::outfit::Outfit;
 use pl_base::{Clock, Failed, LAST_MOMENT, Moment, Paired, Sink, Source};
+use std::io::ErrorKind;
 use std::time::SystemTime;
 use std::{io, rt};
 
@@ -37,8 +38,12 @@ pub struct Process<T, R, W> {
 }
 
 impl<T, R, W> Process<T, R, W> {
-    /// A process with these streams. No fault is counted yet.
-    pub fn new(runtime: T, reader: R, writer: W) -> Process<T, R, W> {
+    /// A process with these streams. No end was told and no fault counted yet.
+    pub fn new(runtime: T, reader: R, writer: W) -> Process<T, R, W>
+        ensures unended { result.ends.source.ended ≡ false }
+        ensures read_faults { result.ends.source.faults ≡ 0 }
+        ensures write_faults { result.ends.sink.faults ≡ 0 }
+    {
         let source = Reading {
             reader,
             ended: false,
@@ -59,19 +64,20 @@ impl<R: io::Read> Source for Reading<R> {
 
     ghost faults = { λ reading. reading.faults };
 
+    // A call that a signal interrupted is tried again.
     fn read(&mut self, into: &mut [u8]) -> Result<usize, Failed> {
-        match self.reader.read(into) {
-            Ok(count) => {
-                if count == 0 {
-                    self.ended = true;
+        for _ in 0..u64::MAX {
+            match self.reader.read(into) {
+                Ok(count) => {
+                    self.ended = self.ended || count == 0;
+                    return Ok(count);
                 }
-                Ok(count)
-            }
-            Err(_) => {
-                self.faults = self.faults.saturating_add(1);
-                Err(Failed)
+                Err(fault) if fault.kind() == ErrorKind::Interrupted => {}
+                Err(_) => break,
             }
         }
+        self.faults = self.faults.saturating_add(1);
+        Err(Failed)
     }
 
     fn faults(&self) -> u64 {
@@ -84,14 +90,17 @@ impl<W: io::Write> Sink for Writing<W> {
 
     ghost faults = { λ writing. writing.faults };
 
+    // A call that a signal interrupted is tried again.
     fn write(&mut self, bytes: &[u8]) -> Result<usize, Failed> {
-        match self.writer.write(bytes) {
-            Ok(count) if count > 0 || bytes.is_empty() => Ok(count),
-            _ => {
-                self.faults = self.faults.saturating_add(1);
-                Err(Failed)
+        for _ in 0..u64::MAX {
+            match self.writer.write(bytes) {
+                Ok(count) if count > 0 || bytes.is_empty() => return Ok(count),
+                Err(fault) if fault.kind() == ErrorKind::Interrupted => {}
+                _ => break,
             }
         }
+        self.faults = self.faults.saturating_add(1);
+        Err(Failed)
     }
 
     fn faults(&self) -> u64 {

@@ -97,7 +97,7 @@ fn answer_all<L: Link, C: Clock>(
 
 // Reads a piece behind the buffer, and says how many bytes came.
 fn read_on<L: Link>(link: &mut L, buffer: &mut Buffer, piece: &mut [u8]) -> Result<usize, Unread>
-    ensures reads { ReadsPiece result (L.left link.old) (L.left link.new) buffer.old buffer.new }
+    ensures reads { ReadsPiece (length piece.old) result (L.left link.old) (L.left link.new) buffer.old buffer.new }
     ensures within { IfOk result (λ count. count ≤ length piece.old) }
     ensures end { 0 < length piece.old → IfOk result (λ count. count ≡ 0 → IsAtEnd (L.ended link.new) (L.left link.new)) }
     ensures counts { CountsUnread result (L.read_faults link.old) (L.read_faults link.new) }

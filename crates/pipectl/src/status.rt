@@ -1,3 +1,5 @@
+use std::process::ExitCode;
+
 /// How the program ended.
 #[derive(Clone, Copy, Debug, PartialEq, Eq)]
 pub enum Status {
@@ -19,7 +21,15 @@ pub enum Status {
 
 impl Status {
     ghost use Rattle.std.specs.Prelude.{◌≡◌};
+    ghost use Rattle.std.specs.Process.{exit_status};
     ghost use Rattle.pipectl.specs.Statuses.{code_of};
+
+    /// With what the process ends.
+    pub fn exit_code(self) -> ExitCode
+        ensures { exit_status result ≡ code_of self }
+    {
+        ExitCode::from(self.code())
+    }
 
     /// The exit status of the process.
     pub fn code(self) -> u8

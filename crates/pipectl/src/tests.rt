@@ -5,10 +5,12 @@ ghost use Rattle.std.specs.Prelude.{Some, min, ◌+◌, refl};
 mod step_lists;
 
 use crate::outfit::Outfit;
+use crate::real::Process;
 use crate::run::run;
 use crate::status::Status;
-use pl_base::{Bytes, List, MemClock, MemSink, MemSource, Moment, Paired};
+use pl_base::{Bytes, List, MemClock, MemSink, MemSource, Moment, Paired, Sink, Source};
 use std::alloc::Global;
+use std::io;
 use std::test::Fail;
 
 /// The SHA-256 digest of `abc`.
@@ -316,5 +318,51 @@ fn a_sink_may_take_one_byte_at_a_time(rt: HostRuntime) -> Result<(), Fail> {
     let (status, written) = ran(rt.alloc(), &[], TEXT, outside)?;
     assert_eq!(rt; status, Status::Usage);
     assert_eq!(rt; written.len(), 0);
+    Ok(())
+}
+
+/// A stream whose first calls a signal interrupts. Then it is at its end, and takes all that is written.
+#[derive(Drop)]
+struct Interrupted {
+    times: u32,
+}
+
+impl Interrupted {
+    fn call(&mut self) -> io::Result<()> {
+        if self.times > 0 {
+            self.times -= 1;
+            return Err(io::Error::from(io::ErrorKind::Interrupted));
+        }
+        Ok(())
+    }
+}
+
+impl io::Read for Interrupted {
+    fn read(&mut self, _into: &mut [u8]) -> io::Result<usize> {
+        self.call()?;
+        Ok(0)
+    }
+}
+
+impl io::Write for Interrupted {
+    fn write(&mut self, bytes: &[u8]) -> io::Result<usize> {
+        self.call()?;
+        Ok(bytes.len())
+    }
+
+    fn flush(&mut self) -> io::Result<()> {
+        self.call()
+    }
+}
+
+#[test]
+fn an_interrupted_call_is_tried_again(rt: HostRuntime) -> Result<(), Fail> {
+    let mut process = Process::new(rt, Interrupted { times: 3 }, Interrupted { times: 2 });
+    let ends = process.ends();
+    let mut piece = [0u8; 4];
+    assert_eq!(rt; ends.source.read(&mut piece).ok(), Some(0));
+    assert_eq!(rt; ends.sink.write(b"abc").ok(), Some(3));
+    assert_eq!(rt; ends.source.faults(), 0);
+    assert_eq!(rt; ends.sink.faults(), 0);
     Ok(())
 }
