@@ -1,5 +1,5 @@
 -- How a session over whole messages ends.
-use Rattle.std.proofs.Common.{◌≡◌, ℕ, ◌<◌, List, [], ◌∷◌, ◌++◌, length, refl, sym, ◌∙◌, ap, subst, arith, length-append, Bool, Option, Some, None, codes}
+use Rattle.std.proofs.Common.{◌≡◌, ℕ, ◌<◌, List, [], ◌∷◌, ◌++◌, length, refl, sym, ◌∙◌, ap, subst, arith, length-append, Option, Some, None, codes}
 use Rattle.std.specs.Prelude.{IfSome}
 use Rattle.std.proofs.Math.Seq.{take-append_seam}
 use Rattle.sha2.specs.Sha256.{sha256}
@@ -8,9 +8,16 @@ use Rattle.pl_core.specs.declared.call.Request.TheVariants.{Draw}
 use Rattle.pl_wire.specs.declared.message.Message.{Message}
 use Rattle.pl_wire.specs.declared.message.Message.TheVariants.{Ask}
 use Rattle.pl_wire.specs.Message.{head, target, content, IsMessage, IsPartial, IsBad, OneReading}
+use Rattle.pl_base.specs.declared.digest.Digest.{Digest}
 use Rattle.pipectl.specs.declared.served.Served.{Served}
 use Rattle.pipectl.specs.declared.served.Served.TheVariants as served
-use Rattle.pipectl.specs.Session.{Turn, Spelled, Point, Session, EndsTold, EndsBetween, NoneFirst, taken_limit}
+use Rattle.pipectl.specs.declared.status.Status.{Status}
+use Rattle.pipectl.specs.Acts.{messages_of}
+use Rattle.pipectl.specs.Messages.{Spelled, NoneFirst}
+use Rattle.pipectl.specs.Run.{Outside, Replays, FinishesUnlessBroken}
+use Rattle.pipectl.specs.Session.{Point, Session, taken_limit}
+use Rattle.pipectl.specs.Statuses.{status_of}
+use Rattle.pipectl.specs.Told.{Told}
 use Rattle.pipectl.proofs.Sessions.{append-nil, Spelled-more}
 use Rattle.pipectl.proofs.Streams.{one_stream, partial_open}
 
@@ -30,7 +37,13 @@ is_some = (
   record {
     bytes_are = refl;
     token_is = record { some = omega arith; not_long = omega arith; each = refl };
-    digits_are = record { some = omega arith; not_long = omega arith; each = refl; says = refl; within = omega arith };
+    digits_are = record {
+      some = omega arith;
+      not_long = omega arith;
+      each = refl;
+      says = refl;
+      within = omega arith;
+    };
     caller_is = refl;
   },
 )
@@ -53,7 +66,9 @@ nothing_not_bad bad =
 -- ---- lists
 
 -- what a source told is what was read and what is left
-told_is : (read : List ℕ) (left : Option (List ℕ)) (bytes : List ℕ) → Some bytes ≡ with_front read left → (rest : List ℕ) × (left ≡ Some rest) × (bytes ≡ read ++ rest)
+told_is : (read : List ℕ) (left : Option (List ℕ)) (bytes : List ℕ)
+    → Some bytes ≡ with_front read left
+    → (rest : List ℕ) × (left ≡ Some rest) × (bytes ≡ read ++ rest)
 told_is read None bytes is = absurd (cc is)
 told_is read (Some rest) bytes is = (rest, refl, cc is)
 
@@ -67,43 +82,65 @@ not_shorter read rest n short is = omega (arith, short, is, length-append read r
 -- ---- the endings that don't come
 
 -- where the source told its end, all was read
-all_read : (read bytes : List ℕ) (left : Option (List ℕ)) → Some bytes ≡ with_front read left → IfSome left (λ rest. rest ≡ []) → read ≡ bytes
+all_read : (read bytes : List ℕ) (left : Option (List ℕ)) → Some bytes ≡ with_front read left
+    → IfSome left (λ rest. rest ≡ []) → read ≡ bytes
 all_read read bytes None is end = absurd (cc is)
-all_read read bytes (Some rest) is end = let all : bytes ≡ read ++ rest = cc is in sym (all ∙ (ap (λ r. read ++ r) end ∙ append-nil read))
+all_read read bytes (Some rest) is end = let all : bytes ≡ read ++ rest = cc is in sym (all ∙ (ap (λ
+    r. read ++ r) end ∙ append-nil read))
 
-no_rest : OneReading → (bytes rest : List ℕ) (turns others : List Turn) → Spelled bytes turns [] → Spelled bytes others rest → NoneFirst rest → [] ≡ rest
-no_rest one bytes rest turns others whole spelled none =
-    (one_stream one bytes [] rest turns others whole spelled (partial_open one [] nothing_partial) none).1
+no_rest : OneReading → (bytes rest : List ℕ) (messages others : List Message)
+    → Spelled bytes messages [] → Spelled bytes others rest → NoneFirst rest → [] ≡ rest
+no_rest one bytes rest messages others whole spelled none =
+    (one_stream one bytes [] rest messages others whole spelled (partial_open one []
+    nothing_partial) none).1
 
-not_cut : OneReading → (bytes read rest : List ℕ) (turns others : List Turn) → Spelled bytes turns [] → read ≡ bytes → Spelled read others rest → IsPartial rest → 0 < length rest → ⊥
-not_cut one bytes read rest turns others whole all spelled partial some =
-    let none : [] ≡ rest = no_rest one bytes rest turns others whole (subst (λ b. Spelled b others rest) all spelled) (partial_open one rest partial) in
+not_cut : OneReading → (bytes read rest : List ℕ) (messages others : List Message)
+    → Spelled bytes messages [] → read ≡ bytes → Spelled read others rest → IsPartial rest
+    → 0 < length rest → ⊥
+not_cut one bytes read rest messages others whole all spelled partial some =
+    let none : [] ≡ rest = no_rest one bytes rest messages others whole (subst (λ b. Spelled b
+    others rest) all spelled) (partial_open one rest partial) in
     omega (arith, some, ap length none)
 
-not_bad : OneReading → (bytes read rest more : List ℕ) (turns others : List Turn) → Spelled bytes turns [] → bytes ≡ read ++ more → Spelled read others rest → IsBad rest → ⊥
-not_bad one bytes read rest more turns others whole all spelled bad =
+not_bad : OneReading → (bytes read rest more : List ℕ) (messages others : List Message)
+    → Spelled bytes messages [] → bytes ≡ read ++ more → Spelled read others rest → IsBad rest → ⊥
+not_bad one bytes read rest more messages others whole all spelled bad =
     let none : [] ≡ rest ++ more =
-    no_rest one bytes (rest ++ more) turns others whole
-    (subst (λ b. Spelled b others (rest ++ more)) (sym all) (Spelled-more read more others rest spelled))
+    no_rest one bytes (rest ++ more) messages others whole
+    (subst (λ b. Spelled b others (rest ++ more)) (sym all) (Spelled-more read more others rest
+    spelled))
     (λ len message is. bad more len message is)
     in
     nothing_not_bad (subst (λ b. IsBad b) (no_front rest more none) bad)
 
-pub whole_input : OneReading → (old new : Point) (bytes : List ℕ) (turns : List Turn) (ending : Served) (told : Bool)
-    → old.left ≡ Some bytes → Spelled bytes turns [] → length bytes < taken_limit → Session old new ending → EndsTold ending told new.left → EndsBetween ending
-whole_input one old new bytes turns served.Ended told left whole short session end = tt
-whole_input one old new bytes turns (served.Cut len) told left whole short session end =
-    let advances = session.2.1 in
-    let all : session.0 ≡ bytes = all_read session.0 bytes new.left (sym left ∙ advances.reads) end.1 in
-    not_cut one bytes session.0 session.2.0 turns advances.turns whole all advances.spelled session.2.2 session.2.3
-whole_input one old new bytes turns (served.Bad fault) told left whole short session end =
-    let advances = session.2.2 in
-    let told_all = told_is session.0 session.2.0.left bytes (sym left ∙ advances.reads) in
-    not_bad one bytes session.0 session.2.1 told_all.0 turns advances.turns whole told_all.2 advances.spelled session.2.3
-whole_input one old new bytes turns served.Spent told left whole short session end =
-    let advances = session.2.1 in
-    let told_all = told_is session.0 new.left bytes (sym left ∙ advances.reads) in
-    not_shorter session.0 told_all.0 taken_limit (subst (λ b. length b < taken_limit) told_all.2 short) session.2.3
-whole_input one old new bytes turns served.ReadFault told left whole short session end = tt
-whole_input one old new bytes turns served.WriteFault told left whole short session end = tt
-whole_input one old new bytes turns served.Memory told left whole short session end = tt
+whole_session : OneReading
+    → (old new : Point) (bytes : List ℕ) (messages : List Message) (ending : Served)
+    → old.link.left ≡ Some bytes → Spelled bytes messages [] → length bytes < taken_limit → Session
+    old new ending
+    → FinishesUnlessBroken (status_of ending)
+whole_session one old new bytes messages served.Ended left whole short s = tt
+whole_session one old new bytes messages (served.Cut len) left whole short s =
+    let all : s.read ≡ bytes = all_read s.read bytes new.link.left (sym left ∙ s.reads) s.told.1 in
+    not_cut one bytes s.read s.rest messages (messages_of s.turns) whole all s.spelled s.ends.0
+    s.ends.1
+whole_session one old new bytes messages (served.Bad fault) left whole short s =
+    let told_all = told_is s.read new.link.left bytes (sym left ∙ s.reads) in
+    not_bad one bytes s.read s.rest told_all.0 messages (messages_of s.turns) whole told_all.2
+    s.spelled s.ends.0
+whole_session one old new bytes messages served.Spent left whole short s =
+    let told_all = told_is s.read new.link.left bytes (sym left ∙ s.reads) in
+    not_shorter s.read told_all.0 taken_limit (subst (λ b. length b < taken_limit) told_all.2 short)
+    s.ends.1
+whole_session one old new bytes messages served.ReadFault left whole short s = tt
+whole_session one old new bytes messages served.WriteFault left whole short s = tt
+whole_session one old new bytes messages served.Memory left whole short s = tt
+
+pub whole_input : OneReading
+    → (admin : Digest) (old : Outside) (new : Told) (ending : Status) (bytes : List ℕ) (messages :
+    List Message)
+    → old.link.left ≡ Some bytes → Spelled bytes messages [] → length bytes < taken_limit → Replays
+    admin old new ending
+    → FinishesUnlessBroken ending
+whole_input one admin old new ending bytes messages left whole short r =
+    subst (λ status. FinishesUnlessBroken status) (sym r.ending_is)
+    (whole_session one _ _ bytes messages r.served left whole short r.session)

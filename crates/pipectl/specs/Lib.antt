@@ -1,5 +1,9 @@
+pub mod Acts
+pub mod Messages
 pub mod Outfit
+pub mod Replay
 pub mod Run
 pub mod Session
 pub mod Statuses
+pub mod Told
 pub mod Words

@@ -21,7 +21,7 @@ pub struct Alone {
 }
 
 impl Alone {
-    ghost use Rattle.pipectl.specs.Session.{Act, call_at};
+    ghost use Rattle.pipectl.specs.Acts.{Act, call_at, parts};
 
     /// A desk of a service that was just opened, with the digest of its admin's token.
     pub fn open(admin: Digest) -> Alone
@@ -34,7 +34,7 @@ impl Alone {
 
     /// Answers a message at a moment. Where memory is wanting, nothing changes.
     pub fn act(&mut self, alloc: Global, moment: Moment, message: Message) -> Answer
-        ensures { Act self.old.core moment message result self.new.core }
+        ensures { Act (parts self.old) moment message result (parts self.new) }
     {
         let Message::Ask { caller, request } = message;
         let call = Call {
@@ -50,7 +50,9 @@ impl Alone {
 
     // The step's reply to a call. Memory leaves the state as it was.
     fn reply(&mut self, alloc: Global, call: &Call) -> Result<Reply, Memory>
-        ensures reply { IfOk result (λ reply. (reply ≡ reply_of self.old.core call.now) × (self.new.core ≡ after self.old.core call.now)) }
+        ensures reply { IfOk result (λ reply.
+            (reply ≡ reply_of self.old.core call.now)
+            × (self.new.core ≡ after self.old.core call.now)) }
         ensures same { OnErr result (self.new.core ≡ self.old.core) }
     {
         let planned = plan(alloc, &call.request)?;

@@ -1,6 +1,7 @@
 //! What the definition of a session implies.
 
-ghost use Rattle.pipectl.specs.Session.{OneStream, RestsAreOpen, WholeInputFinishes};
+ghost use Rattle.pipectl.specs.Messages.{OneStream, RestsAreOpen};
+ghost use Rattle.pipectl.specs.Run.{WholeInputFinishes};
 
 use pl_wire::one_reading;
 
@@ -19,8 +20,8 @@ pub fn rests_are_open()
     one_reading();
 }
 
-/// A session over whole messages, of fewer bytes than may be taken, ends between messages, unless a
-/// fault was counted or memory was wanting: so the status is 0 wherever both counts stayed, up to 6.
+/// A replay of a source that tells whole messages alone, of fewer bytes than may be taken, ends
+/// with 0, unless a fault was counted (1 and 3) or memory was wanting (6).
 pub fn whole_input_finishes()
     ensures { WholeInputFinishes }
 {

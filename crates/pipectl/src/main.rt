@@ -9,6 +9,7 @@ mod real;
 mod replay;
 mod run;
 mod served;
+mod serving;
 mod status;
 mod words;
 

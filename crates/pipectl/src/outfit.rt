@@ -21,7 +21,8 @@ pub trait Outfit {
 
     /// Lends the source and the sink.
     fn ends(&mut self) -> &mut Paired<Self::In, Self::Out>
-        ensures* lends { sem 𝓛 (LendsEnds Self.row Self.In.row Self.Out.row with_ends self.entry result) }
+        ensures* lends { sem 𝓛
+            (LendsEnds Self.row Self.In.row Self.Out.row with_ends self.entry result) }
         ensures there { result.now ≡ (view self.old).ends };
 
     /// Gives a clock.
@@ -30,5 +31,6 @@ pub trait Outfit {
         ensures ends { (view self.new).ends ≡ (view self.old).ends };
 
     /// What is put in the place of the ends is the ends, and nothing else changes.
-    ghost ends_alone: { (outfit : Self) (ends : Paired Self.In Self.Out) → view (with_ends outfit ends) ≡ record (view outfit) { ends = ends } };
+    ghost ends_alone: { (outfit : Self) (ends : Paired Self.In Self.Out)
+        → view (with_ends outfit ends) ≡ record (view outfit) { ends = ends } };
 }

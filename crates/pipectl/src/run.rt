@@ -1,16 +1,17 @@
 //! The top call.
 
 ghost use Rattle.std.specs.Prelude.{◌≡◌, ◌↔◌, None, map, string_bytes};
-ghost use Rattle.pipectl.specs.Outfit.{told};
+ghost use Rattle.pipectl.specs.Outfit.{outside};
 ghost use Rattle.pipectl.specs.Run.{Replays, ShowsUsage, Runs, ReadsCounted, WritesCounted};
-ghost use Rattle.pipectl.specs.Session.{IsAtEnd};
 ghost use Rattle.pipectl.specs.Statuses.{status_of};
+ghost use Rattle.pipectl.specs.Told.{IsAtEnd};
 ghost use Rattle.pipectl.specs.Words.{command_of};
 
 use crate::alone::Alone;
 use crate::outfit::Outfit;
-use crate::replay::{replay_link, write_all};
+use crate::replay::replay_link;
 use crate::served::Served;
+use crate::serving::write_all;
 use crate::status::Status;
 use crate::words::{Command, parse};
 use pl_base::Digest;
@@ -27,11 +28,17 @@ const USAGE: &[u8] = b"usage: pipectl replay, serve, compile or rehearse\n";
 /// taken, 1 and 3 where a read or a write failed, 6 where memory was wanting. Other words are a
 /// usage line and 2.
 pub fn run<O: Outfit>(alloc: Global, words: &[String], outfit: &mut O) -> Status
-    ensures usage { (result ≡ Status.Usage) ↔ (command_of (map (λ word. string_bytes word) words.now) ≡ None) }
-    ensures runs { Runs (command_of (map (λ word. string_bytes word) words.now)) (O.view outfit.old).coming (told O.In.left O.In.ended O.In.faults O.Out.held O.Out.faults (O.view outfit.old).ends) (told O.In.left O.In.ended O.In.faults O.Out.held O.Out.faults (O.view outfit.new).ends) result }
-    ensures read_to_its_end { result ≡ Status.Finished → IsAtEnd (O.In.ended (O.view outfit.new).ends.source) (O.In.left (O.view outfit.new).ends.source) }
-    ensures reads_counted { ReadsCounted result (O.In.faults (O.view outfit.old).ends.source) (O.In.faults (O.view outfit.new).ends.source) }
-    ensures writes_counted { WritesCounted result (O.Out.faults (O.view outfit.old).ends.sink) (O.Out.faults (O.view outfit.new).ends.sink) }
+    ensures usage { (result ≡ Status.Usage)
+        ↔ (command_of (map (λ word. string_bytes word) words.now) ≡ None) }
+    ensures runs { Runs (command_of (map (λ word. string_bytes word) words.now))
+        (outside O.In.Source O.Out.Sink (O.view outfit.old))
+        (outside O.In.Source O.Out.Sink (O.view outfit.new)).link result }
+    ensures read_to_its_end { result ≡ Status.Finished
+        → IsAtEnd (outside O.In.Source O.Out.Sink (O.view outfit.new)).link }
+    ensures reads_counted { ReadsCounted result (O.In.faults (O.view outfit.old).ends.source)
+        (O.In.faults (O.view outfit.new).ends.source) }
+    ensures writes_counted { WritesCounted result (O.Out.faults (O.view outfit.old).ends.sink)
+        (O.Out.faults (O.view outfit.new).ends.sink) }
 {
     match parse(words) {
         Some(Command::Replay { admin }) => replay(alloc, admin, outfit),
@@ -41,7 +48,8 @@ pub fn run<O: Outfit>(alloc: Global, words: &[String], outfit: &mut O) -> Status
 
 // Answers the messages of the source on the sink.
 fn replay<O: Outfit>(alloc: Global, admin: Digest, outfit: &mut O) -> Status
-    ensures { Replays admin (O.view outfit.old).coming (told O.In.left O.In.ended O.In.faults O.Out.held O.Out.faults (O.view outfit.old).ends) (told O.In.left O.In.ended O.In.faults O.Out.held O.Out.faults (O.view outfit.new).ends) result }
+    ensures { Replays admin (outside O.In.Source O.Out.Sink (O.view outfit.old))
+        (outside O.In.Source O.Out.Sink (O.view outfit.new)).link result }
 {
     let mut clock = outfit.clock();
     let mut desk = Alone::open(admin);
@@ -52,7 +60,8 @@ fn replay<O: Outfit>(alloc: Global, admin: Digest, outfit: &mut O) -> Status
 // Writes the usage line, or its beginning where a write fails.
 fn usage<O: Outfit>(outfit: &mut O) -> Status
     ensures usage { result ≡ Status.Usage }
-    ensures shows { ShowsUsage (told O.In.left O.In.ended O.In.faults O.Out.held O.Out.faults (O.view outfit.old).ends) (told O.In.left O.In.ended O.In.faults O.Out.held O.Out.faults (O.view outfit.new).ends) }
+    ensures shows { ShowsUsage (outside O.In.Source O.Out.Sink (O.view outfit.old)).link
+        (outside O.In.Source O.Out.Sink (O.view outfit.new)).link }
 {
     let _ = write_all(outfit.ends(), USAGE);
     Status::Usage

@@ -1,6 +1,6 @@
 use Rattle.std.proofs.Common.{◌≡◌, ◌≤◌, ◌-◌, length, take}
 use Rattle.pl_base.specs.Streams.{with_end}
-use Rattle.pipectl.proofs.replay.write_all.Given as goal
+use Rattle.pipectl.proofs.serving.write_all.Given as goal
 
 abbrev pub invariant-loop-written : goal.invariant-loop-written
 invariant-loop-written g l = record {

@@ -1,0 +1,131 @@
+//! The parts of serving a link: reading, answering and writing.
+
+ghost use Rattle.std.specs.Prelude.{◌≡◌, ◌++◌, ◌-◌, ℕ, List, length, min, OnOk, OnErr, IfOk, MatchOption};
+ghost use Rattle.pl_base.specs.Counts.{one_more};
+ghost use Rattle.pl_wire.specs.Message.{IsMessage, IsPartial, IsBad};
+ghost use Rattle.pipectl.specs.Acts.{sent, refused};
+ghost use Rattle.pipectl.specs.Replay.{Answers, CountsUnread, EndsAtNone, OnlyWrites, ReadsPiece, Sends};
+ghost use Rattle.pipectl.specs.Session.{point, taken_limit};
+ghost use Rattle.pipectl.specs.Told.{told, Begun, SameWriting, Writes};
+
+use crate::alone::{Alone, Answer};
+use crate::buffer::Buffer;
+use crate::served::{Broken, Unread};
+use pl_base::{Clock, Failed, Link};
+use pl_wire::{HttpFault, Message, Next, fault_reply, memory_reply, next_request, reply_bytes};
+use std::alloc::Global;
+
+/// Writes all of the bytes, or their beginning where a write fails.
+pub fn write_all<L: Link>(link: &mut L, bytes: &[u8]) -> Result<(), Failed>
+    ensures ok { OnOk result (Writes bytes.now (told L.Link link.old) (told L.Link link.new)) }
+    ensures err { OnErr result
+        (Begun bytes.now (one_more (L.write_faults link.old))
+        (told L.Link link.old) (told L.Link link.new)) }
+{
+    let mut written = 0;
+    while written < bytes.len() {
+        written += link.write(bytes.split_at(written).1)?;
+    }
+    Ok(())
+}
+
+// Writes an answer, or its beginning.
+fn respond<L: Link>(alloc: Global, link: &mut L, answer: &Answer) -> Result<(), Broken>
+    ensures { Sends result (sent answer.now) (told L.Link link.old) (told L.Link link.new) }
+{
+    match answer {
+        Answer::Reply(reply) => {
+            let bytes = reply_bytes(alloc, reply)?;
+            write_all(link, bytes.as_slice())?;
+        }
+        Answer::Memory => write_all(link, memory_reply())?,
+    }
+    Ok(())
+}
+
+/// Answers bytes that are no message.
+pub fn refuse<L: Link>(alloc: Global, link: &mut L, fault: HttpFault) -> Result<(), Broken>
+    ensures { Sends result (refused fault) (told L.Link link.old) (told L.Link link.new) }
+{
+    let reply = fault_reply(alloc, fault)?;
+    respond(alloc, link, &Answer::Reply(reply))
+}
+
+// Acts on a message, and writes its answer.
+fn answer_next<L: Link, C: Clock>(
+    alloc: Global,
+    desk: &mut Alone,
+    link: &mut L,
+    clock: &mut C,
+    message: Message,
+) -> Result<(), Broken>
+    ensures answers { (front rest : List ℕ) → IsMessage front message
+        → Answers result (point L.Link C.Clock link.old clock.old desk.old) (front ++ rest)
+        (point L.Link C.Clock link.new clock.new desk.new) rest }
+    ensures writes { OnlyWrites result (told L.Link link.old) (told L.Link link.new) }
+{
+    let moment = clock.now();
+    let answer = desk.act(alloc, moment, message);
+    respond(alloc, link, &answer)
+}
+
+/// Answers each whole message of the buffer, and says whether what is left can't begin one.
+pub fn answer_all<L: Link, C: Clock>(
+    alloc: Global,
+    desk: &mut Alone,
+    link: &mut L,
+    clock: &mut C,
+    buffer: &mut Buffer,
+) -> Result<Option<HttpFault>, Broken>
+    ensures answers { Answers result (point L.Link C.Clock link.old clock.old desk.old) buffer.old
+        (point L.Link C.Clock link.new clock.new desk.new) buffer.new }
+    ensures front { IfOk result (λ fault.
+        MatchOption fault (IsPartial buffer.new) (λ _. IsBad buffer.new)) }
+    ensures writes { OnlyWrites result (told L.Link link.old) (told L.Link link.new) }
+{
+    'messages: loop {
+        match next_request(alloc, buffer.as_slice())? {
+            Next::Partial => return Ok(None),
+            Next::Bad(fault) => return Ok(Some(fault)),
+            Next::Whole { taken, message } => {
+                answer_next(alloc, desk, link, clock, message)?;
+                buffer.take(taken);
+            }
+        }
+    }
+}
+
+/// Reads a piece behind the buffer, and says how many bytes came.
+pub fn read_on<L: Link>(
+    link: &mut L,
+    buffer: &mut Buffer,
+    piece: &mut [u8],
+) -> Result<usize, Unread>
+    ensures reads { ReadsPiece (length piece.old) result
+        (told L.Link link.old) (told L.Link link.new) buffer.old buffer.new }
+    ensures end { EndsAtNone (length piece.old) result (told L.Link link.new) }
+    ensures counts { CountsUnread result (L.read_faults link.old) (L.read_faults link.new) }
+    ensures writing { SameWriting (told L.Link link.old) (told L.Link link.new) }
+{
+    let count = match link.read(piece) {
+        Ok(count) => count,
+        Err(Failed) => return Err(Unread::ReadFault),
+    };
+    match buffer.push(piece.split_at(count).0) {
+        Ok(()) => Ok(count),
+        Err(_) => Err(Unread::Memory),
+    }
+}
+
+/// How many bytes a session takes from its source at most.
+const TAKEN_LIMIT: usize = 67_108_864;
+
+/// How many bytes a read asks for at most.
+pub const PIECE: usize = 65_536;
+
+/// How many bytes the next read asks for, where so many were taken: none past the limit.
+pub fn next_piece(taken: usize) -> usize
+    ensures { result ≡ min 65536 (taken_limit - taken) }
+{
+    PIECE.min(TAKEN_LIMIT.saturating_sub(taken))
+}
