@@ -4,12 +4,13 @@ use Rattle.pl_base.specs.Counts.{one_more}
 use Rattle.pl_base.specs.Streams.{with_front, with_end}
 use Rattle.pl_wire.specs.Message.{IsPartial, IsBad}
 use Rattle.pl_wire.specs.declared.message.HttpFault.{HttpFault}
+use Rattle.pipectl.specs.declared.served.Served.{Served}
 use Rattle.pipectl.specs.declared.served.Served.TheVariants as served
 use Rattle.pipectl.specs.Acts.{Acts, Tells, refused, replies, joined}
 use Rattle.pipectl.specs.Replay.{Advances, Breaks}
-use Rattle.pipectl.specs.Session.{Point, Session, taken_limit}
+use Rattle.pipectl.specs.Session.{Point, Session, Ends, EndsTold, CountsReads, CountsWrites, taken_limit}
 use Rattle.pipectl.specs.Told.{SameWriting, Writes, Begun, IsAtEnd}
-use Rattle.pipectl.proofs.Sessions.{append-nil, with_end-append, stays, goes_on, breaks_off, breaks_here, breaks_unread, reads_on, bad_cut}
+use Rattle.pipectl.proofs.Sessions.{append-nil, with_front-nil, with_end-append, stays, goes_on, breaks_off, breaks_here, breaks_unread, reads_on, bad_cut}
 
 -- what was served so far: the bytes that were taken, and what they led to, without a fault
 pub record Serving (old new : Point) (buffer : List ℕ) (taken : ℕ) : Type 0 where
@@ -73,108 +74,123 @@ within_limit : (read : List ℕ) (taken : ℕ) → length read ≡ taken → tak
     → length read ≤ taken_limit
 within_limit read taken is within = subst (λ n. n ≤ taken_limit) (sym is) within
 
+-- all replies were written, behind the bytes that were read
+written_whole : (a d : Point) (read rest : List ℕ) (ending : Served) (x : Advances a [] read d rest)
+    → length read ≤ taken_limit → Ends ending read x.turns rest (joined (replies x.turns))
+    → EndsTold ending d.link
+    → CountsReads ending a.link.read_faults d.link.read_faults
+    → CountsWrites ending a.link.write_faults d.link.write_faults → Session a d ending
+written_whole a d read rest ending x within ends told reads writes = record {
+  read = read;
+  turns = x.turns;
+  rest = rest;
+  wrote = joined (replies x.turns);
+  reads = x.reads;
+  within = within;
+  spelled = x.spelled;
+  acts = x.acts;
+  tells = x.tells;
+  writes = x.writes;
+  ends = ends;
+  told = told;
+  read_faults = reads;
+  write_faults = writes;
+}
+
+-- they broke off
+cut_short : (a d : Point) (read : List ℕ) (ending : Served) (x : Breaks a [] read d)
+    → length read ≤ taken_limit → Ends ending read x.turns x.rest x.wrote → EndsTold ending d.link
+    → CountsReads ending a.link.read_faults d.link.read_faults
+    → CountsWrites ending a.link.write_faults d.link.write_faults → Session a d ending
+cut_short a d read ending x within ends told reads writes = record {
+  read = read;
+  turns = x.turns;
+  rest = x.rest;
+  wrote = x.wrote;
+  reads = x.reads;
+  within = within;
+  spelled = x.spelled;
+  acts = x.acts;
+  tells = x.tells;
+  writes = x.writes;
+  ends = ends;
+  told = told;
+  read_faults = reads;
+  write_faults = writes;
+}
+
 -- bytes came that are no message, and they were answered
 pub ends_bad : (a c d : Point) (rest : List ℕ) (taken : ℕ) (fault : HttpFault)
-    → Serving a c rest taken → IsBad rest → Writes (refused fault) c.link d.link → d.coming ≡
-    c.coming → d.desk ≡ c.desk
-    → Session a d (served.Bad fault)
-ends_bad a c d rest taken fault s bad wrote coming desk = record {
-  read = s.read;
-  turns = s.advances.turns;
-  rest = rest;
-  wrote = joined (replies s.advances.turns) ++ refused fault;
-  reads = s.advances.reads ∙ ap (λ left. with_front s.read left) (sym wrote.reading.left);
-  within = within_limit s.read taken s.taken_is s.within;
-  spelled = s.advances.spelled;
-  acts = subst (λ parts. Acts a.desk s.advances.turns parts) (sym desk) s.advances.acts;
-  tells = subst (λ later. Tells a.coming s.advances.turns later) (sym coming) s.advances.tells;
-  writes =
-      wrote.held ∙ (ap (λ held. with_end held (refused fault)) s.advances.writes
-      ∙ with_end-append a.link.held (joined (replies s.advances.turns)) (refused fault));
-  ends = (bad, refl);
-  told = tt;
-  read_faults = wrote.reading.read_faults ∙ s.read_faults;
-  write_faults = wrote.write_faults ∙ s.write_faults;
-}
+    → Serving a c rest taken → IsBad rest → Writes (refused fault) c.link d.link
+    → d.coming ≡ c.coming → d.desk ≡ c.desk → Session a d (served.Bad fault)
+ends_bad a c d rest taken fault s bad wrote coming desk =
+    let turns = s.advances.turns in
+    record {
+      read = s.read;
+      turns = turns;
+      rest = rest;
+      wrote = joined (replies turns) ++ refused fault;
+      reads = s.advances.reads ∙ ap (λ left. with_front s.read left) (sym wrote.reading.left);
+      within = within_limit s.read taken s.taken_is s.within;
+      spelled = s.advances.spelled;
+      acts = subst (λ parts. Acts a.desk turns parts) (sym desk) s.advances.acts;
+      tells = subst (λ later. Tells a.coming turns later) (sym coming) s.advances.tells;
+      writes =
+          wrote.held
+          ∙ (ap (λ held. with_end held (refused fault)) s.advances.writes
+          ∙ with_end-append a.link.held (joined (replies turns)) (refused fault));
+      ends = (bad, refl);
+      told = tt;
+      read_faults = wrote.reading.read_faults ∙ s.read_faults;
+      write_faults = wrote.write_faults ∙ s.write_faults;
+    }
 
 -- as many bytes were taken as may be
 pub ends_spent : (a c : Point) (rest : List ℕ) (taken : ℕ)
     → Serving a c rest taken → IsPartial rest → taken_limit ≤ taken → Session a c served.Spent
-ends_spent a c rest taken s partial reached = record {
-  read = s.read;
-  turns = s.advances.turns;
-  rest = rest;
-  wrote = joined (replies s.advances.turns);
-  reads = s.advances.reads;
-  within = within_limit s.read taken s.taken_is s.within;
-  spelled = s.advances.spelled;
-  acts = s.advances.acts;
-  tells = s.advances.tells;
-  writes = s.advances.writes;
-  ends = (
-    partial,
-    s.taken_is ∙ (let all : taken ≡ taken_limit = omega (arith, s.within, reached) in
-        all),
-    refl,
-  );
-  told = tt;
-  read_faults = s.read_faults;
-  write_faults = s.write_faults;
-}
+ends_spent a c rest taken s partial reached =
+    let all : length s.read ≡ taken_limit = omega (arith, s.taken_is, s.within, reached) in
+    written_whole a c s.read rest served.Spent s.advances
+    (within_limit s.read taken s.taken_is s.within) (partial, all, refl) tt s.read_faults s.write_faults
 
 -- a read failed
 pub ends_failed : (a c d : Point) (rest : List ℕ) (taken : ℕ)
     → Serving a c rest taken → IsPartial rest → d.link.left ≡ c.link.left
-    → d.link.read_faults ≡ one_more c.link.read_faults → SameWriting c.link d.link → d.coming ≡
-    c.coming → d.desk ≡ c.desk
-    → Session a d served.ReadFault
-ends_failed a c d rest taken s partial left faults writing coming desk = record {
-  read = s.read;
-  turns = s.advances.turns;
-  rest = rest;
-  wrote = joined (replies s.advances.turns);
-  reads = s.advances.reads ∙ ap (λ left. with_front s.read left) (sym left);
-  within = within_limit s.read taken s.taken_is s.within;
-  spelled = s.advances.spelled;
-  acts = subst (λ parts. Acts a.desk s.advances.turns parts) (sym desk) s.advances.acts;
-  tells = subst (λ later. Tells a.coming s.advances.turns later) (sym coming) s.advances.tells;
-  writes = writing.held ∙ s.advances.writes;
-  ends = (partial, refl);
-  told = tt;
-  read_faults = faults ∙ ap one_more s.read_faults;
-  write_faults = writing.write_faults ∙ s.write_faults;
-}
+    → d.link.read_faults ≡ one_more c.link.read_faults → SameWriting c.link d.link
+    → d.coming ≡ c.coming → d.desk ≡ c.desk → Session a d served.ReadFault
+ends_failed a c d rest taken s partial left faults writing coming desk =
+    let on =
+    reads_on c d rest [] (sym left ∙ sym (with_front-nil d.link.left)) writing.held coming desk in
+    let all = goes_on a c d [] s.read rest [] (rest ++ []) s.advances on in
+    written_whole a d s.read rest served.ReadFault
+    (subst (λ bytes. Advances a [] s.read d bytes) (append-nil rest)
+    (subst (λ read. Advances a [] read d (rest ++ [])) (append-nil s.read) all))
+    (within_limit s.read taken s.taken_is s.within) (partial, refl) tt
+    (faults ∙ ap one_more s.read_faults) (writing.write_faults ∙ s.write_faults)
 
 -- where no bytes came
-pub nothing_came : (rest bytes more : List ℕ) (count : ℕ) → length bytes ≡ count → count ≡ 0
-    → more ≡ rest ++ bytes → more ≡ rest
+pub nothing_came : (rest bytes more : List ℕ) (count : ℕ)
+    → length bytes ≡ count → count ≡ 0 → more ≡ rest ++ bytes → more ≡ rest
 nothing_came rest [] more count is none all = all ∙ append-nil rest
-nothing_came rest (b ∷ bs) more count is none all = let no : length (b ∷ bs) ≡ 0 = is ∙ none in
+nothing_came rest (b ∷ bs) more count is none all =
+    let no : length (b ∷ bs) ≡ 0 = is ∙ none in
     absurd (omega (arith, no))
 
 pub still_partial : (rest more : List ℕ) → more ≡ rest → IsPartial rest → IsPartial more
 still_partial rest more is partial = subst (λ bytes. IsPartial bytes) (sym is) partial
 
+below_limit : (read : List ℕ) (taken : ℕ)
+    → length read ≡ taken → taken < taken_limit → length read < taken_limit
+below_limit read taken is below = subst (λ n. n < taken_limit) (sym is) below
+
 -- the end came between messages
 pub ends_between : (a d : Point) (more : List ℕ) (taken : ℕ)
-    → Serving a d more taken → taken < taken_limit → more ≡ [] → IsAtEnd d.link → Session a d
-    served.Ended
-ends_between a d more taken s below nothing end = record {
-  read = s.read;
-  turns = s.advances.turns;
-  rest = more;
-  wrote = joined (replies s.advances.turns);
-  reads = s.advances.reads;
-  within = within_limit s.read taken s.taken_is s.within;
-  spelled = s.advances.spelled;
-  acts = s.advances.acts;
-  tells = s.advances.tells;
-  writes = s.advances.writes;
-  ends = (nothing, subst (λ n. n < taken_limit) (sym s.taken_is) below, refl);
-  told = end;
-  read_faults = s.read_faults;
-  write_faults = s.write_faults;
-}
+    → Serving a d more taken → taken < taken_limit → more ≡ [] → IsAtEnd d.link
+    → Session a d served.Ended
+ends_between a d more taken s below nothing end =
+    written_whole a d s.read more served.Ended s.advances
+    (within_limit s.read taken s.taken_is s.within)
+    (nothing, below_limit s.read taken s.taken_is below, refl) end s.read_faults s.write_faults
 
 some-bytes : (bytes : List ℕ) → (bytes ≡ [] → ⊥) → 0 < length bytes
 some-bytes [] h = absurd (h refl)
@@ -182,140 +198,70 @@ some-bytes (b ∷ bs) h = omega arith
 
 -- the end came inside a message
 pub ends_inside : (a d : Point) (more : List ℕ) (len taken : ℕ)
-    → Serving a d more taken → taken < taken_limit → IsPartial more → (more ≡ [] → ⊥) → len ≡ length
-    more → IsAtEnd d.link
-    → Session a d (served.Cut len)
-ends_inside a d more len taken s below partial some len_is end = record {
-  read = s.read;
-  turns = s.advances.turns;
-  rest = more;
-  wrote = joined (replies s.advances.turns);
-  reads = s.advances.reads;
-  within = within_limit s.read taken s.taken_is s.within;
-  spelled = s.advances.spelled;
-  acts = s.advances.acts;
-  tells = s.advances.tells;
-  writes = s.advances.writes;
-  ends = (
-    partial,
-    some-bytes more some,
-    sym len_is,
-    subst (λ n. n < taken_limit) (sym s.taken_is)
-        below,
-    refl,
-  );
-  told = end;
-  read_faults = s.read_faults;
-  write_faults = s.write_faults;
-}
-
--- it broke off: a write failed
-pub ends_unwritten : (a d : Point) (read : List ℕ)
-    → length read ≤ taken_limit → Breaks a [] read d → d.link.read_faults ≡ a.link.read_faults
-    → d.link.write_faults ≡ one_more a.link.write_faults → Session a d served.WriteFault
-ends_unwritten a d read within x reads writes = record {
-  read = read;
-  turns = x.turns;
-  rest = x.rest;
-  wrote = x.wrote;
-  reads = x.reads;
-  within = within;
-  spelled = x.spelled;
-  acts = x.acts;
-  tells = x.tells;
-  writes = x.writes;
-  ends = x.cut;
-  told = tt;
-  read_faults = reads;
-  write_faults = writes;
-}
-
--- it broke off: memory was wanting
-pub ends_unkept : (a d : Point) (read : List ℕ)
-    → length read ≤ taken_limit → Breaks a [] read d → d.link.read_faults ≡ a.link.read_faults
-    → d.link.write_faults ≡ a.link.write_faults → Session a d served.Memory
-ends_unkept a d read within x reads writes = record {
-  read = read;
-  turns = x.turns;
-  rest = x.rest;
-  wrote = x.wrote;
-  reads = x.reads;
-  within = within;
-  spelled = x.spelled;
-  acts = x.acts;
-  tells = x.tells;
-  writes = x.writes;
-  ends = x.cut;
-  told = tt;
-  read_faults = reads;
-  write_faults = writes;
-}
+    → Serving a d more taken → taken < taken_limit → IsPartial more → (more ≡ [] → ⊥)
+    → len ≡ length more → IsAtEnd d.link → Session a d (served.Cut len)
+ends_inside a d more len taken s below partial some len_is end =
+    written_whole a d s.read more (served.Cut len) s.advances
+    (within_limit s.read taken s.taken_is s.within)
+    (partial, some-bytes more some, sym len_is, below_limit s.read taken s.taken_is below, refl) end
+    s.read_faults s.write_faults
 
 -- at the very start
 pub ends_at_once : (p : Point) → Session p p served.Memory
-ends_at_once p = ends_unkept p p [] (omega arith) (breaks_here p []) refl refl
+ends_at_once p =
+    let x = breaks_here p [] in
+    cut_short p p [] served.Memory x (omega arith) x.cut tt refl refl
 
 serving_breaks : (a c d : Point) (rest : List ℕ) (taken : ℕ) (s : Serving a c rest taken)
     → Breaks c rest [] d → Breaks a [] s.read d
 serving_breaks a c d rest taken s x =
-    subst (λ read. Breaks a [] read d) (append-nil s.read) (breaks_off a c d [] s.read rest []
-    s.advances x)
+    let all = breaks_off a c d [] s.read rest [] s.advances x in
+    subst (λ read. Breaks a [] read d) (append-nil s.read) all
 
 -- while the buffer's messages were answered
 pub write_broke : (a c d : Point) (rest : List ℕ) (taken : ℕ)
     → Serving a c rest taken → Breaks c rest [] d → d.link.read_faults ≡ c.link.read_faults
     → d.link.write_faults ≡ one_more c.link.write_faults → Session a d served.WriteFault
 write_broke a c d rest taken s x reads writes =
-    ends_unwritten a d s.read (within_limit s.read taken s.taken_is s.within) (serving_breaks a c d
-    rest taken s x)
-    (reads ∙ s.read_faults) (writes ∙ ap one_more s.write_faults)
+    let all = serving_breaks a c d rest taken s x in
+    cut_short a d s.read served.WriteFault all (within_limit s.read taken s.taken_is s.within) all.cut
+    tt (reads ∙ s.read_faults) (writes ∙ ap one_more s.write_faults)
 
 pub memory_broke : (a c d : Point) (rest : List ℕ) (taken : ℕ)
     → Serving a c rest taken → Breaks c rest [] d → d.link.read_faults ≡ c.link.read_faults
     → d.link.write_faults ≡ c.link.write_faults → Session a d served.Memory
 memory_broke a c d rest taken s x reads writes =
-    ends_unkept a d s.read (within_limit s.read taken s.taken_is s.within) (serving_breaks a c d
-    rest taken s x)
-    (reads ∙ s.read_faults) (writes ∙ s.write_faults)
+    let all = serving_breaks a c d rest taken s x in
+    cut_short a d s.read served.Memory all (within_limit s.read taken s.taken_is s.within) all.cut
+    tt (reads ∙ s.read_faults) (writes ∙ s.write_faults)
 
 -- the answer to bytes that are no message
-bad_breaks : (c d : Point) (rest : List ℕ) (fault : HttpFault) (faults : ℕ)
-    → IsBad rest → Begun (refused fault) faults c.link d.link → d.coming ≡ c.coming → d.desk ≡
-    c.desk → Breaks c rest [] d
-bad_breaks c d rest fault faults bad begun coming desk = bad_cut c d rest fault bad
-    begun.reading.left coming desk begun.held
-
 pub bad_unwritten : (a c d : Point) (rest : List ℕ) (taken : ℕ) (fault : HttpFault)
-    → Serving a c rest taken → IsBad rest → Begun (refused fault) (one_more c.link.write_faults)
-    c.link d.link
+    → Serving a c rest taken → IsBad rest
+    → Begun (refused fault) (one_more c.link.write_faults) c.link d.link
     → d.coming ≡ c.coming → d.desk ≡ c.desk → Session a d served.WriteFault
 bad_unwritten a c d rest taken fault s bad begun coming desk =
-    write_broke a c d rest taken s (bad_breaks c d rest fault (one_more c.link.write_faults) bad
-    begun coming desk)
-    begun.reading.read_faults begun.write_faults
+    let breaks = bad_cut c d rest fault bad begun.reading.left coming desk begun.held in
+    write_broke a c d rest taken s breaks begun.reading.read_faults begun.write_faults
 
 pub bad_unkept : (a c d : Point) (rest : List ℕ) (taken : ℕ) (fault : HttpFault)
-    → Serving a c rest taken → IsBad rest → Begun (refused fault) c.link.write_faults c.link d.link
+    → Serving a c rest taken → IsBad rest
+    → Begun (refused fault) c.link.write_faults c.link d.link
     → d.coming ≡ c.coming → d.desk ≡ c.desk → Session a d served.Memory
 bad_unkept a c d rest taken fault s bad begun coming desk =
-    memory_broke a c d rest taken s (bad_breaks c d rest fault c.link.write_faults bad begun coming
-    desk)
-    begun.reading.read_faults begun.write_faults
+    let breaks = bad_cut c d rest fault bad begun.reading.left coming desk begun.held in
+    memory_broke a c d rest taken s breaks begun.reading.read_faults begun.write_faults
 
 -- memory was wanting for the bytes that came
 pub memory_unread : (a c d : Point) (rest bytes : List ℕ) (taken most : ℕ)
     → Serving a c rest taken → length bytes ≤ most → taken + most ≤ taken_limit
-    → c.link.left ≡ with_front bytes d.link.left → d.link.read_faults ≡ c.link.read_faults →
-    SameWriting c.link d.link
-    → d.coming ≡ c.coming → d.desk ≡ c.desk → Session a d served.Memory
+    → c.link.left ≡ with_front bytes d.link.left → d.link.read_faults ≡ c.link.read_faults
+    → SameWriting c.link d.link → d.coming ≡ c.coming → d.desk ≡ c.desk
+    → Session a d served.Memory
 memory_unread a c d rest bytes taken most s few within left reads writing coming desk =
-    ends_unkept a d (s.read ++ bytes) (omega (
-      arith,
-      length-append s.read bytes,
-      s.taken_is,
-      few,
-      within,
-    ))
-    (breaks_off a c d [] s.read rest bytes s.advances (breaks_unread c d rest bytes left
-    writing.held coming desk))
+    let breaks = breaks_unread c d rest bytes left writing.held coming desk in
+    let all = breaks_off a c d [] s.read rest bytes s.advances breaks in
+    let most_read : length (s.read ++ bytes) ≤ taken_limit =
+    omega (arith, length-append s.read bytes, s.taken_is, few, within) in
+    cut_short a d (s.read ++ bytes) served.Memory all most_read all.cut tt
     (reads ∙ s.read_faults) (writing.write_faults ∙ s.write_faults)

@@ -62,13 +62,12 @@ CountsUnread (Ok count) old new = new ≡ old
 CountsUnread (Err unread.ReadFault) old new = new ≡ one_more old
 CountsUnread (Err unread.Memory) old new = new ≡ old
 
--- A piece of at most so many bytes was read: they stand behind the others, none only where the end
--- was told; or the read failed; or memory was wanting for them.
+-- A piece of at most so many bytes was read: they stand behind the others; or the read failed; or
+-- memory was wanting for them.
 abbrev pub ReadsPiece : ℕ → Result ℕ Unread → Told → Told → List ℕ → List ℕ → Type 0
 ReadsPiece most (Ok count) old new buffer more =
-    (bytes : List ℕ) × (length bytes ≡ count) × (count ≤ most) × (old.left ≡ with_front bytes
-    new.left)
-    × (more ≡ buffer ++ bytes)
+    (bytes : List ℕ) × (length bytes ≡ count) × (count ≤ most)
+    × (old.left ≡ with_front bytes new.left) × (more ≡ buffer ++ bytes)
 ReadsPiece most (Err unread.ReadFault) old new buffer more = (new.left ≡ old.left) × (more ≡ buffer)
 ReadsPiece most (Err unread.Memory) old new buffer more =
     (bytes : List ℕ) × (length bytes ≤ most) × (old.left ≡ with_front bytes new.left)

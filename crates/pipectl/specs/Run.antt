@@ -11,7 +11,7 @@ use Rattle.pipectl.specs.declared.words.Command.{Command}
 use Rattle.pipectl.specs.declared.words.Command.TheVariants.{Replay}
 use Rattle.pipectl.specs.Acts.{Parts}
 use Rattle.pipectl.specs.Messages.{Spelled}
-use Rattle.pipectl.specs.Session.{Session, taken_limit}
+use Rattle.pipectl.specs.Session.{Point, Session, taken_limit}
 use Rattle.pipectl.specs.Statuses.{status_of}
 use Rattle.pipectl.specs.Told.{Told, Writes, Begun}
 
@@ -29,19 +29,22 @@ abbrev pub ShowsUsage : Told → Told → Type 0
 ShowsUsage old new =
     Writes usage_line old new ⊎ Begun usage_line (one_more old.write_faults) old new
 
--- one session of a service that was just opened, from the source to the sink
+-- where a replay starts: at a service that was just opened
+abbrev pub start : Digest → Outside → Point
+start admin outside = record {
+  link = outside.link;
+  coming = outside.coming;
+  desk = record { seen = opened admin };
+}
+
+-- one session from the source to the sink
 pub record Replays (admin : Digest) (old : Outside) (new : Told) (ending : Status) : Type 0 where
   pub served : Served
   pub later : Option (ℕ → ℕ)
   pub desk : Parts
   pub ending_is : ending ≡ status_of served
   pub session :
-      Session (record {
-        link = old.link;
-        coming = old.coming;
-        desk = record { seen = opened admin };
-      })
-      (record { link = new; coming = later; desk = desk }) served
+      Session (start admin old) (record { link = new; coming = later; desk = desk }) served
 
 -- the run of a command, or of words that are none
 abbrev pub Runs : Option Command → Outside → Told → Status → Type 0
