@@ -1,4 +1,4 @@
-ghost use Rattle.std.specs.Prelude.{◌≡◌, ℕ, List, [], ◌∷◌, ◌++◌, nat_eq, codes, IfOk};
+ghost use Rattle.std.specs.Prelude.{◌≡◌, ℕ, List, [], ◌∷◌, ◌++◌, nat_eq, codes, IfOk, OnOk};
 ghost use Rattle.std.specs.List.{starts_with};
 ghost use Rattle.std.specs.Option.{option_map_or};
 ghost use Rattle.std.specs.Ordering.{nat_cmp};
@@ -9,6 +9,7 @@ ghost use Rattle.pl_line.specs.Trees as spec;
 use pl_base::{ExactCopy, List as ItemList, Memory, NodePair, Text};
 use std::alloc::Global;
 use std::collections::BTreeSet;
+use std::mem;
 
 /// How many pairs a mapping has before their keys are kept in an ordered set.
 const FEW: usize = 8;
@@ -66,6 +67,15 @@ impl Pairs {
             pairs,
             keys: Some(keys),
         })
+    }
+
+    /// Puts one more behind them.
+    pub fn push(&mut self, alloc: Global, pair: NodePair) -> Result<(), Memory>
+        ensures { OnOk result (self.new.pairs ≡ self.old.pairs ++ pair ∷ []) }
+    {
+        let before = mem::replace(self, Pairs::new(alloc));
+        *self = before.with(alloc, pair)?;
+        Ok(())
     }
 
     /// The pairs as a list.

@@ -8,6 +8,7 @@ ghost use Rattle.pl_yaml.specs.Keys.{found_key};
 ghost use Rattle.pl_yaml.specs.Nodes as spec;
 ghost use Rattle.pl_yaml.specs.Stack as stack;
 ghost use Rattle.pl_yaml.specs.Stack.{Leads};
+ghost use Rattle.pl_yaml.specs.declared.stack.Open.TheVariants as opens;
 
 use crate::content::to_content;
 use crate::head::Head;
@@ -17,11 +18,9 @@ use crate::key::Key;
 use crate::keys::next_key;
 use crate::reader::Reader;
 use crate::slot::Slot;
-use crate::stack::{Found, Mapping, Sequence, Step, Waiting};
-use pl_base::{FileKey, NodeBody, Shared};
-use pl_line::{
-    Line, Pairs, ReadFault, YamlCode, behind, fault_at, is_done, line_end, node_at, spaces_only,
-};
+use crate::stack::{Found, Mapping, Open, Sequence, Start};
+use pl_base::{FileKey, Shared};
+use pl_line::{Line, Pairs, ReadFault, YamlCode, behind, fault_at, is_done, line_end, spaces_only};
 use std::alloc::Global;
 
 /// Goes to the next entry of a sequence at this column, held by a block of that other column.
@@ -49,6 +48,16 @@ fn next_item<'t>(
         Head::Dash => Ok(Some(line)),
         _ if parent == column => Ok(None),
         _ => Err(fault_at(YamlCode::NoEntry, &line)),
+    }
+}
+
+/// Where a line's column is.
+pub(crate) fn start_of(line: &Line) -> Start
+    ensures { result ≡ stack.start_of (row line.now) }
+{
+    Start {
+        line: line.number,
+        column: line.column,
     }
 }
 
@@ -130,41 +139,58 @@ fn pair(
     value(alloc, file, depth, slot, &key.left, reader)
 }
 
-/// Goes to the next item of a sequence, or makes its node where no more follow.
-pub(crate) fn next_of_sequence<'t>(
+/// Goes to the next item of a sequence, or says that no more follow.
+fn next_of_sequence(
     alloc: Global,
     file: &Shared<FileKey>,
-    sequence: Sequence<'t>,
-    reader: &mut Reader<'t>,
-) -> Result<Step<'t>, ReadFault>
-    ensures gives { (turns : ℕ) → 0 < turns → Leads (λ step. stack.reads file.now (turns - 1) step reader.new) result (stack.in_sequence file.now turns sequence.entry reader.old) }
-    ensures falls { IfOk result (λ step. stack.weight step reader.new ≤ 4 * size reader.old) }
+    sequence: &Sequence,
+    reader: &mut Reader,
+) -> Result<Option<Found>, ReadFault>
+    ensures gives { (turns : ℕ) → 0 < turns → Leads (λ next. stack.goes file.now (turns - 1) (opens.Sequence sequence.now) next reader.new) result (stack.in_sequence file.now turns sequence.now reader.old) }
+    ensures falls { IfOk result (λ next. stack.Falls next reader.old reader.new) }
 {
     let Some(line) = next_item(sequence.parent, sequence.start.column, reader)? else {
-        let items = NodeBody::Seq(sequence.items);
-        let node = node_at(alloc, file, &sequence.start, items)?;
-        return Ok(Step::Made(node));
+        return Ok(None);
     };
     let found = item(alloc, file, sequence.depth, &line, reader)?;
-    Ok(Step::Entry(Waiting::Sequence(sequence), found))
+    Ok(Some(found))
 }
 
-/// Goes to the next pair of a mapping, or makes its node where no more follow.
-pub(crate) fn next_of_mapping<'t>(
+/// Goes to the next pair of a mapping, and keeps its key, or says that no more follow.
+fn next_of_mapping(
     alloc: Global,
     file: &Shared<FileKey>,
-    mapping: Mapping<'t>,
-    reader: &mut Reader<'t>,
-) -> Result<Step<'t>, ReadFault>
-    ensures gives { (turns : ℕ) → 0 < turns → Leads (λ step. stack.reads file.now (turns - 1) step reader.new) result (stack.in_mapping file.now turns mapping.entry reader.old) }
-    ensures falls { IfOk result (λ step. stack.weight step reader.new ≤ 4 * size reader.old) }
+    mapping: &mut Mapping,
+    reader: &mut Reader,
+) -> Result<Option<Found>, ReadFault>
+    ensures gives { (turns : ℕ) → 0 < turns → Leads (λ next. stack.goes file.now (turns - 1) (opens.Mapping mapping.new) next reader.new) result (stack.in_mapping file.now turns mapping.old reader.old) }
+    ensures falls { IfOk result (λ next. stack.Falls next reader.old reader.new) }
 {
     let depth = mapping.depth;
     let Some(key) = next_key(alloc, file, depth, mapping.start.column, reader)? else {
-        let pairs = NodeBody::Map(mapping.pairs.into_pairs());
-        let node = node_at(alloc, file, &mapping.start, pairs)?;
-        return Ok(Step::Made(node));
+        return Ok(None);
     };
     let found = pair(alloc, file, depth, &mapping.pairs, &key, reader)?;
-    Ok(Step::Entry(Waiting::Mapping(mapping, key), found))
+    mapping.key_start = start_of(&key.start);
+    mapping.key = key.text;
+    Ok(Some(found))
+}
+
+impl Open {
+    /// Goes to the next entry, and reads its value if that stands on the entry's line; None where no
+    /// more follow.
+    pub(crate) fn next(
+        &mut self,
+        alloc: Global,
+        file: &Shared<FileKey>,
+        reader: &mut Reader,
+    ) -> Result<Option<Found>, ReadFault>
+        ensures gives { (turns : ℕ) → 0 < turns → Leads (λ next. stack.goes file.now (turns - 1) self.new next reader.new) result (stack.in_open file.now turns self.old reader.old) }
+        ensures falls { IfOk result (λ next. stack.Falls next reader.old reader.new) }
+    {
+        match self {
+            Open::Sequence(sequence) => next_of_sequence(alloc, file, sequence, reader),
+            Open::Mapping(mapping) => next_of_mapping(alloc, file, mapping, reader),
+        }
+    }
 }

@@ -8,7 +8,7 @@ ghost use Rattle.pl_yaml.specs.Stack.{Leads};
 
 use crate::block_scalar::block;
 use crate::content::to_content;
-use crate::entries::{next_of_mapping, next_of_sequence};
+use crate::entries::start_of;
 use crate::head::Head;
 use crate::heads::{head_of, refusal};
 use crate::inline::{flow_node, quoted_node};
@@ -16,10 +16,11 @@ use crate::keys::is_colon;
 use crate::reader::Reader;
 use crate::scalar::word;
 use crate::slot::Slot;
-use crate::stack::{Found, Mapping, Sequence, Step};
+use crate::stack::{Begun, Found, Mapping, Open, Sequence};
 use pl_base::{FileKey, List as ItemList, Memory, Node, NodeBody, Place, Shared, Text};
 use pl_line::{Line, Pairs, ReadFault, YamlCode, begins_with, behind, fault_at, flow, quoted};
 use std::alloc::Global;
+use std::mem;
 
 /// Whether a line may hold the value that stands there.
 fn fits(slot: Slot, line: &Line) -> bool
@@ -41,58 +42,55 @@ fn empty(alloc: Global, file: &Shared<FileKey>, slot: Slot) -> Result<Node, Memo
 }
 
 /// The sequence that begins at a line, where so many collections may still open.
-fn sequence<'t>(
-    alloc: Global,
-    depth: u32,
-    parent: u32,
-    line: &Line<'t>,
-) -> Result<Sequence<'t>, ReadFault>
-    ensures { (file : file_key) (rows : list Row) → Leads (λ sequence. stack.in_sequence file (size rows + 1) sequence rows) result (spec.sequence file (spec.inner file depth) parent (row line.now) rows) }
+fn sequence(alloc: Global, depth: u32, parent: u32, line: &Line) -> Result<Open, ReadFault>
+    ensures { (file : file_key) (rows : list Row) → Leads (λ begun. stack.in_open file (size rows + 1) begun rows) result (spec.sequence file (spec.inner file depth) parent (row line.now) rows) }
 {
     if depth == 0 {
         return Err(fault_at(YamlCode::TooDeep, line));
     }
-    Ok(Sequence {
-        start: *line,
+    Ok(Open::Sequence(Sequence {
+        start: start_of(line),
         parent,
         depth: depth - 1,
         items: ItemList::new(alloc),
-    })
+    }))
 }
 
 /// The mapping that begins at a line, where so many collections may still open.
-fn mapping<'t>(alloc: Global, depth: u32, line: &Line<'t>) -> Result<Mapping<'t>, ReadFault>
-    ensures { (file : file_key) (rows : list Row) → Leads (λ mapping. stack.in_mapping file (size rows + 1) mapping rows) result (spec.mapping file (spec.inner file depth) (row line.now) rows) }
+fn mapping(alloc: Global, depth: u32, line: &Line) -> Result<Open, ReadFault>
+    ensures { (file : file_key) (rows : list Row) → Leads (λ begun. stack.in_open file (size rows + 1) begun rows) result (spec.mapping file (spec.inner file depth) (row line.now) rows) }
 {
     if depth == 0 {
         return Err(fault_at(YamlCode::TooDeep, line));
     }
-    Ok(Mapping {
-        start: *line,
+    Ok(Open::Mapping(Mapping {
+        start: start_of(line),
         depth: depth - 1,
         pairs: Pairs::new(alloc),
-    })
+        key: Text::new(alloc),
+        key_start: start_of(line),
+    }))
 }
 
 /// Reads the quoted scalar, or begins the mapping with that first key, that stands at a line, the
 /// first one left.
-fn begun_quoted<'t>(
+fn begun_quoted(
     alloc: Global,
     file: &Shared<FileKey>,
     depth: u32,
-    line: &Line<'t>,
-    reader: &mut Reader<'t>,
-) -> Result<Step<'t>, ReadFault>
-    ensures gives { Leads (λ step. stack.reads file.now (size reader.new + 1) step reader.new) result (spec.in_quotes file.now (spec.inner file.now depth) (row line.now) reader.old) }
-    ensures falls { IfOk result (λ step. stack.weight step reader.new ≤ 4 * size reader.old + 1) }
+    line: &Line,
+    reader: &mut Reader,
+) -> Result<Begun, ReadFault>
+    ensures gives { Leads (λ begun. stack.begins file.now begun reader.new) result (spec.in_quotes file.now (spec.inner file.now depth) (row line.now) reader.old) }
+    ensures falls { OnOk result (size reader.new ≤ size reader.old) }
 {
     let read = quoted(alloc, line)?;
     if is_colon(&behind(line, read.len)) {
-        return Ok(Step::Pairs(mapping(alloc, depth, line)?));
+        return Ok(Begun::Opened(mapping(alloc, depth, line)?));
     }
     let node = quoted_node(alloc, file, line, read)?;
     reader.advance();
-    Ok(Step::Made(node))
+    Ok(Begun::Made(node))
 }
 
 /// Reads the flow collection that begins at a line, which can't be a key.
@@ -115,35 +113,35 @@ fn begun_flow(
 /// Reads the scalar or flow collection, or begins the block collection, that stands at a line, the
 /// first one left, in a block of this column.
 #[tactic(auto, unfolding(crate::specs::Nodes::begun))]
-fn begun<'t>(
+fn begun(
     alloc: Global,
     file: &Shared<FileKey>,
     depth: u32,
     parent: u32,
-    line: &Line<'t>,
-    reader: &mut Reader<'t>,
-) -> Result<Step<'t>, ReadFault>
-    ensures gives { Leads (λ step. stack.reads file.now (size reader.new + 1) step reader.new) result (spec.begun file.now depth (spec.inner file.now depth) parent (row line.now) reader.old) }
-    ensures falls { IfOk result (λ step. stack.weight step reader.new ≤ 4 * size reader.old + 1) }
+    line: &Line,
+    reader: &mut Reader,
+) -> Result<Begun, ReadFault>
+    ensures gives { Leads (λ begun. stack.begins file.now begun reader.new) result (spec.begun file.now depth (spec.inner file.now depth) parent (row line.now) reader.old) }
+    ensures falls { OnOk result (size reader.new ≤ size reader.old) }
 {
     match head_of(line) {
-        Head::Dash => Ok(Step::Items(sequence(alloc, depth, parent, line)?)),
-        Head::Key(_) => Ok(Step::Pairs(mapping(alloc, depth, line)?)),
+        Head::Dash => Ok(Begun::Opened(sequence(alloc, depth, parent, line)?)),
+        Head::Key(_) => Ok(Begun::Opened(mapping(alloc, depth, line)?)),
         Head::Word(len) => {
             reader.advance();
             let node = word(alloc, file, parent, line, len, reader)?;
-            Ok(Step::Made(node))
+            Ok(Begun::Made(node))
         }
         Head::Block => {
             reader.advance();
             let node = block(alloc, file, parent, line, reader)?;
-            Ok(Step::Made(node))
+            Ok(Begun::Made(node))
         }
         Head::Quote => begun_quoted(alloc, file, depth, line, reader),
         Head::Flow => {
             let node = begun_flow(alloc, file, depth, line)?;
             reader.advance();
-            Ok(Step::Made(node))
+            Ok(Begun::Made(node))
         }
         head => Err(fault_at(refusal(head), line)),
     }
@@ -151,57 +149,78 @@ fn begun<'t>(
 
 /// Reads or begins the node that stands there, in which so many collections may still open.
 #[tactic(auto, unfolding(crate::specs::Nodes::node))]
-fn begin<'t>(
+fn begin(
     alloc: Global,
     file: &Shared<FileKey>,
     depth: u32,
     slot: Slot,
-    reader: &mut Reader<'t>,
-) -> Result<Step<'t>, ReadFault>
-    ensures gives { Leads (λ step. stack.reads file.now (size reader.new + 1) step reader.new) result (spec.node file.now depth slot reader.old) }
-    ensures falls { IfOk result (λ step. stack.weight step reader.new ≤ 4 * size reader.old + 1) }
+    reader: &mut Reader,
+) -> Result<Begun, ReadFault>
+    ensures gives { Leads (λ begun. stack.begins file.now begun reader.new) result (spec.node file.now depth slot reader.old) }
+    ensures falls { OnOk result (size reader.new ≤ size reader.old) }
 {
     to_content(reader)?;
     let Some(line) = reader.first() else {
-        return Ok(Step::Made(empty(alloc, file, slot)?));
+        return Ok(Begun::Made(empty(alloc, file, slot)?));
     };
     if !fits(slot, &line) {
-        return Ok(Step::Made(empty(alloc, file, slot)?));
+        return Ok(Begun::Made(empty(alloc, file, slot)?));
     }
     begun(alloc, file, depth, slot.parent, &line, reader)
 }
 
-/// Reads the node that stands there, in which so many collections may still open.
+/// Goes on with the collection that waits on the stack's top, whose value was read: its node is put
+/// there. The node is the whole where none waits.
+fn close(alloc: Global, file: &Shared<FileKey>, top: &mut Open, waiting: Open) -> Result<(), Memory>
+    ensures { OnOk result ((turns : ℕ) (rows : list Row) → stack.in_open file.now turns top.new rows ≡ stack.into file.now turns waiting (stack.made file.now top.old, rows)) }
+{
+    let done = mem::replace(top, waiting);
+    let node = done.into_node(alloc, file)?;
+    top.take(alloc, file, node)
+}
+
+/// Reads the entries of a collection that has begun, and makes its node.
 ///
-/// Block collections are read by one loop. Those that wait for a value stand on a stack, the innermost
-/// on top: a collection is put there when a value of it is to be read on later lines, and taken off
-/// when that value was read.
-pub(crate) fn node<'t>(
+/// Collections in one another are read by one loop. Those that wait for a value stand on a stack, the
+/// innermost on top: a collection is put there when a value of it has begun on later lines, and taken
+/// off when that value was read.
+fn entries(
+    alloc: Global,
+    file: &Shared<FileKey>,
+    begun: Open,
+    reader: &mut Reader,
+) -> Result<Node, ReadFault>
+    ensures { Gives (λ node. (node, reader.new)) result (stack.in_open file.now (size reader.old + 1) begun reader.old) }
+{
+    let mut top = begun;
+    let mut outer = ItemList::new(alloc);
+    loop {
+        match top.next(alloc, file, reader)? {
+            Some(Found::Here(node)) => top.take(alloc, file, node)?,
+            Some(Found::Below(depth, slot)) => match begin(alloc, file, depth, slot, reader)? {
+                Begun::Made(node) => top.take(alloc, file, node)?,
+                Begun::Opened(inner) => outer.push(mem::replace(&mut top, inner))?,
+            },
+            None => match outer.pop() {
+                Some(waiting) => close(alloc, file, &mut top, waiting)?,
+                None => return Ok(top.into_node(alloc, file)?),
+            },
+        }
+    }
+}
+
+/// Reads the node that stands there, in which so many collections may still open.
+pub(crate) fn node(
     alloc: Global,
     file: &Shared<FileKey>,
     depth: u32,
     slot: Slot,
-    reader: &mut Reader<'t>,
+    reader: &mut Reader,
 ) -> Result<Node, ReadFault>
     ensures { Gives (λ node. (node, reader.new)) result (spec.node file.now depth slot reader.old) }
 {
-    let mut stack = ItemList::new(alloc);
-    let mut step = begin(alloc, file, depth, slot, reader)?;
-    loop {
-        step = match step {
-            Step::Items(sequence) => next_of_sequence(alloc, file, sequence, reader)?,
-            Step::Pairs(mapping) => next_of_mapping(alloc, file, mapping, reader)?,
-            Step::Entry(waiting, found) => match found {
-                Found::Here(node) => waiting.with(alloc, file, node)?,
-                Found::Below(depth, slot) => {
-                    stack.push(waiting)?;
-                    begin(alloc, file, depth, slot, reader)?
-                }
-            },
-            Step::Made(node) => match stack.pop() {
-                Some(waiting) => waiting.with(alloc, file, node)?,
-                None => return Ok(node),
-            },
-        };
+    match begin(alloc, file, depth, slot, reader)? {
+        Begun::Made(node) => Ok(node),
+        Begun::Opened(begun) => entries(alloc, file, begun, reader),
     }
 }

@@ -11,10 +11,10 @@ use Rattle.pl_line.specs.declared.line_fault.ReadFault.TheVariants as faults
 use Rattle.pl_line.specs.Rows.{Row}
 use Rattle.pl_yaml.specs.Reading.{Read, many, many_step}
 use Rattle.pl_line.specs.Reading.{◌>>=◌, Fails, fault_at}
-use Rattle.pl_line.specs.Trees.{node_at}
 use Rattle.pl_yaml.specs.Keys.{FoundKey, next_key}
 use Rattle.pl_yaml.specs.Nodes.{Values, values_at, inner, node, next_item, item, items, sequence, sequence_of, pair, pairs, mapping, mapping_of}
-use Rattle.pl_yaml.specs.Stack.{items_from, pairs_from}
+use Rattle.pl_yaml.specs.declared.stack.Start.{Start}
+use Rattle.pl_yaml.specs.Stack.{node_from, items_from, pairs_from}
 
 -- in a collection one less may open
 pub inner_some : (file : FileKey) (depth : ℕ) → (depth ≡ 0 → ⊥) → inner file depth ≡ Some (values_at file (depth - 1))
@@ -83,64 +83,64 @@ bind_bind (Ok x) f g = refl
 bind_bind (Err fault) f g = refl
 
 -- the same for the two collections
-module _ (file : FileKey) (values : Values) (parent : ℕ) (row : Row) (turns : ℕ) (before : List Node) (rows : List Row) (some : 0 < turns) where
-  pub items_stop : (e : ReadFault) → Fails e (next_item parent row.column rows) → Fails e (items_from file values parent row turns before rows)
+module _ (file : FileKey) (values : Values) (parent : ℕ) (start : Start) (turns : ℕ) (before : List Node) (rows : List Row) (some : 0 < turns) where
+  pub items_stop : (e : ReadFault) → Fails e (next_item parent start.column rows) → Fails e (items_from file values parent start turns before rows)
   items_stop e fails =
-      fails_along e (next_item parent row.column rows) (items_from file values parent row turns before rows)
-      (λ fault is. ap (λ r. r >>= λ read. Ok (node_at file row (Seq read.0), read.1))
-      (many_stops (next_item parent row.column) (λ _ r left. item file values r left) turns before rows fault some is))
+      fails_along e (next_item parent start.column rows) (items_from file values parent start turns before rows)
+      (λ fault is. ap (λ r. r >>= λ read. Ok (node_from file start (Seq read.0), read.1))
+      (many_stops (next_item parent start.column) (λ _ r left. item file values r left) turns before rows fault some is))
       fails
 
-  pub items_break : (left : List Row) (x : Row) (e : ReadFault) → next_item parent row.column rows ≡ Ok (Some x, left) → Fails e (item file values x left)
-      → Fails e (items_from file values parent row turns before rows)
+  pub items_break : (left : List Row) (x : Row) (e : ReadFault) → next_item parent start.column rows ≡ Ok (Some x, left) → Fails e (item file values x left)
+      → Fails e (items_from file values parent start turns before rows)
   items_break left x e found fails =
-      fails_along e (item file values x left) (items_from file values parent row turns before rows)
-      (λ fault is. ap (λ r. r >>= λ read. Ok (node_at file row (Seq read.0), read.1))
-      (many_breaks (next_item parent row.column) (λ _ r rest. item file values r rest) turns before rows left x fault some found is))
+      fails_along e (item file values x left) (items_from file values parent start turns before rows)
+      (λ fault is. ap (λ r. r >>= λ read. Ok (node_from file start (Seq read.0), read.1))
+      (many_breaks (next_item parent start.column) (λ _ r rest. item file values r rest) turns before rows left x fault some found is))
       fails
 
-  pub items_end : (left : List Row) (made : Node) → next_item parent row.column rows ≡ Ok (None, left) → made ≡ node_at file row (Seq before)
-      → items_from file values parent row turns before rows ≡ Ok (made, left)
+  pub items_end : (left : List Row) (made : Node) → next_item parent start.column rows ≡ Ok (None, left) → made ≡ node_from file start (Seq before)
+      → items_from file values parent start turns before rows ≡ Ok (made, left)
   items_end left made none is =
-      ap (λ r. r >>= λ read. Ok (node_at file row (Seq read.0), read.1))
-      (many_ends (next_item parent row.column) (λ _ r left. item file values r left) turns before rows left some none)
+      ap (λ r. r >>= λ read. Ok (node_from file start (Seq read.0), read.1))
+      (many_ends (next_item parent start.column) (λ _ r left. item file values r left) turns before rows left some none)
       ∙ ap (λ n. Ok (n, left)) (sym is)
 
-  pub items_go : (left : List Row) (x : Row) → next_item parent row.column rows ≡ Ok (Some x, left)
-      → items_from file values parent row turns before rows ≡ (item file values x left >>= λ read. items_from file values parent row (turns - 1) (before ++ read.0 ∷ []) read.1)
+  pub items_go : (left : List Row) (x : Row) → next_item parent start.column rows ≡ Ok (Some x, left)
+      → items_from file values parent start turns before rows ≡ (item file values x left >>= λ read. items_from file values parent start (turns - 1) (before ++ read.0 ∷ []) read.1)
   items_go left x found =
-      ap (λ r. r >>= λ read. Ok (node_at file row (Seq read.0), read.1))
-      (many_goes (next_item parent row.column) (λ _ r left. item file values r left) turns before rows left x some found)
-      ∙ bind_bind (item file values x left) (λ next. items file values parent row.column (turns - 1) (before ++ next.0 ∷ []) next.1)
-      (λ read. Ok (node_at file row (Seq read.0), read.1))
+      ap (λ r. r >>= λ read. Ok (node_from file start (Seq read.0), read.1))
+      (many_goes (next_item parent start.column) (λ _ r left. item file values r left) turns before rows left x some found)
+      ∙ bind_bind (item file values x left) (λ next. items file values parent start.column (turns - 1) (before ++ next.0 ∷ []) next.1)
+      (λ read. Ok (node_from file start (Seq read.0), read.1))
 
-module _ (file : FileKey) (values : Values) (row : Row) (turns : ℕ) (before : List NodePair) (rows : List Row) (some : 0 < turns) where
-  pub pairs_stop : (e : ReadFault) → Fails e (next_key file values.depth row.column rows) → Fails e (pairs_from file values row turns before rows)
+module _ (file : FileKey) (values : Values) (start : Start) (turns : ℕ) (before : List NodePair) (rows : List Row) (some : 0 < turns) where
+  pub pairs_stop : (e : ReadFault) → Fails e (next_key file values.depth start.column rows) → Fails e (pairs_from file values start turns before rows)
   pairs_stop e fails =
-      fails_along e (next_key file values.depth row.column rows) (pairs_from file values row turns before rows)
-      (λ fault is. ap (λ r. r >>= λ read. Ok (node_at file row (Map read.0), read.1))
-      (many_stops (next_key file values.depth row.column) (pair file values) turns before rows fault some is))
+      fails_along e (next_key file values.depth start.column rows) (pairs_from file values start turns before rows)
+      (λ fault is. ap (λ r. r >>= λ read. Ok (node_from file start (Map read.0), read.1))
+      (many_stops (next_key file values.depth start.column) (pair file values) turns before rows fault some is))
       fails
 
-  pub pairs_break : (left : List Row) (x : FoundKey) (e : ReadFault) → next_key file values.depth row.column rows ≡ Ok (Some x, left) → Fails e (pair file values before x left)
-      → Fails e (pairs_from file values row turns before rows)
+  pub pairs_break : (left : List Row) (x : FoundKey) (e : ReadFault) → next_key file values.depth start.column rows ≡ Ok (Some x, left) → Fails e (pair file values before x left)
+      → Fails e (pairs_from file values start turns before rows)
   pairs_break left x e found fails =
-      fails_along e (pair file values before x left) (pairs_from file values row turns before rows)
-      (λ fault is. ap (λ r. r >>= λ read. Ok (node_at file row (Map read.0), read.1))
-      (many_breaks (next_key file values.depth row.column) (pair file values) turns before rows left x fault some found is))
+      fails_along e (pair file values before x left) (pairs_from file values start turns before rows)
+      (λ fault is. ap (λ r. r >>= λ read. Ok (node_from file start (Map read.0), read.1))
+      (many_breaks (next_key file values.depth start.column) (pair file values) turns before rows left x fault some found is))
       fails
 
-  pub pairs_end : (left : List Row) (made : Node) → next_key file values.depth row.column rows ≡ Ok (None, left) → made ≡ node_at file row (Map before)
-      → pairs_from file values row turns before rows ≡ Ok (made, left)
+  pub pairs_end : (left : List Row) (made : Node) → next_key file values.depth start.column rows ≡ Ok (None, left) → made ≡ node_from file start (Map before)
+      → pairs_from file values start turns before rows ≡ Ok (made, left)
   pairs_end left made none is =
-      ap (λ r. r >>= λ read. Ok (node_at file row (Map read.0), read.1))
-      (many_ends (next_key file values.depth row.column) (pair file values) turns before rows left some none)
+      ap (λ r. r >>= λ read. Ok (node_from file start (Map read.0), read.1))
+      (many_ends (next_key file values.depth start.column) (pair file values) turns before rows left some none)
       ∙ ap (λ n. Ok (n, left)) (sym is)
 
-  pub pairs_go : (left : List Row) (x : FoundKey) → next_key file values.depth row.column rows ≡ Ok (Some x, left)
-      → pairs_from file values row turns before rows ≡ (pair file values before x left >>= λ read. pairs_from file values row (turns - 1) (before ++ read.0 ∷ []) read.1)
+  pub pairs_go : (left : List Row) (x : FoundKey) → next_key file values.depth start.column rows ≡ Ok (Some x, left)
+      → pairs_from file values start turns before rows ≡ (pair file values before x left >>= λ read. pairs_from file values start (turns - 1) (before ++ read.0 ∷ []) read.1)
   pairs_go left x found =
-      ap (λ r. r >>= λ read. Ok (node_at file row (Map read.0), read.1))
-      (many_goes (next_key file values.depth row.column) (pair file values) turns before rows left x some found)
-      ∙ bind_bind (pair file values before x left) (λ next. pairs file values row.column (turns - 1) (before ++ next.0 ∷ []) next.1)
-      (λ read. Ok (node_at file row (Map read.0), read.1))
+      ap (λ r. r >>= λ read. Ok (node_from file start (Map read.0), read.1))
+      (many_goes (next_key file values.depth start.column) (pair file values) turns before rows left x some found)
+      ∙ bind_bind (pair file values before x left) (λ next. pairs file values start.column (turns - 1) (before ++ next.0 ∷ []) next.1)
+      (λ read. Ok (node_from file start (Map read.0), read.1))

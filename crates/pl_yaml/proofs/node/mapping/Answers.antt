@@ -1,4 +1,4 @@
-use Rattle.std.proofs.Common.{◌+◌, ◌-◌, sym, ap, ◌∙◌}
+use Rattle.std.proofs.Common.{◌+◌, ◌-◌, sym, ap₂, ◌∙◌}
 use Rattle.pl_line.specs.Rows.{row, size}
 use Rattle.pl_yaml.specs.Nodes.{values_at}
 use Rattle.pl_yaml.specs.Stack.{pairs_from}
@@ -11,4 +11,4 @@ returns-then-depth-eq0 c = λ file rows. mapping_shuts file c.args.depth (row c.
 pub returns : goal.returns
 returns c = λ file rows.
     mapping_opens file c.args.depth (row c.args.line.now) rows c.if-depth-eq0.false
-    ∙ ap (λ before. pairs_from file (values_at file (c.args.depth - 1)) (row c.args.line.now) (size rows + 1) before rows) (sym c.new.ensures)
+    ∙ ap₂ (λ start before. pairs_from file (values_at file (c.args.depth - 1)) start (size rows + 1) before rows) (sym c.start_of.ensures) (sym c.new.ensures)

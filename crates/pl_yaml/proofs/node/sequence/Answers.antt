@@ -1,4 +1,4 @@
-use Rattle.std.proofs.Common.{◌+◌, ◌-◌, sym, ap, ◌∙◌}
+use Rattle.std.proofs.Common.{◌+◌, ◌-◌, sym, ap₂, ◌∙◌}
 use Rattle.pl_line.specs.Rows.{row, size}
 use Rattle.pl_yaml.specs.Nodes.{values_at}
 use Rattle.pl_yaml.specs.Stack.{items_from}
@@ -11,4 +11,4 @@ returns-then-depth-eq0 c = λ file rows. sequence_shuts file c.args.depth c.args
 pub returns : goal.returns
 returns c = λ file rows.
     sequence_opens file c.args.depth c.args.parent (row c.args.line.now) rows c.if-depth-eq0.false
-    ∙ ap (λ before. items_from file (values_at file (c.args.depth - 1)) c.args.parent (row c.args.line.now) (size rows + 1) before rows) (sym c.new.ensures)
+    ∙ ap₂ (λ start before. items_from file (values_at file (c.args.depth - 1)) c.args.parent start (size rows + 1) before rows) (sym c.start_of.ensures) (sym c.new.ensures)
