@@ -1,5 +1,6 @@
 pub mod Characters
 pub mod Flow
+pub mod Keys
 pub mod Left
 pub mod Quoted
 pub mod Reading

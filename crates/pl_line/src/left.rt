@@ -105,7 +105,8 @@ pub fn is_bare(line: &Line) -> bool
 {
     match line.text.first() {
         Some(first) if !is_blank(first) => false,
-        _ => behind(line, 0).text.is_empty() && line.whole,
+        Some(_) => behind(line, 0).text.is_empty() && line.whole,
+        None => line.whole,
     }
 }
 
@@ -123,5 +124,8 @@ pub fn is_comment(line: &Line) -> bool
 pub fn is_empty(line: &Line) -> bool
     ensures { result ≡ spec.is_empty (row line.now) }
 {
-    is_bare(line) || is_comment(line)
+    match line.text.first() {
+        Some(first) if !is_blank(first) => first == '#',
+        _ => is_bare(line) || is_comment(line),
+    }
 }
