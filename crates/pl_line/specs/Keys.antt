@@ -1,5 +1,5 @@
 -- How a key is found among a mapping's pairs. Any number that is made from a key's bytes serves.
-use Rattle.std.specs.Prelude.{◌≡◌, ℕ, ◌+◌, ◌*◌, ◌^◌, ◌%◌, Bool, true, false, nat_eq, nat_lt, List, [], ◌∷◌, length, is_some, Option, Some, None}
+use Rattle.std.specs.Prelude.{◌≡◌, ℕ, ◌+◌, ◌*◌, ◌^◌, ◌%◌, ◌/◌, Bool, true, false, nat_eq, nat_lt, List, [], ◌∷◌, length, Option, Some, None}
 use Rattle.std.specs.List.{slice_get}
 use Rattle.std.specs.Option.{option_map_or}
 use Rattle.std.specs.Ordering.{nat_cmp}
@@ -11,13 +11,16 @@ use Rattle.pl_line.specs.declared.keys.Keys.{Keys}
 use Rattle.pl_line.specs.declared.keys.Keys.TheVariants.{Few, Numbered, Ordered}
 use Rattle.pl_line.specs.Trees.{has_key}
 
--- a key's number: its bytes as digits, up to 54 bits
+-- a key's number: its bytes as digits, up to 54 bits, of which the low half is spread over the high bits
 unfoldable pub number_from : ℕ → List ℕ → ℕ
 number_from number [] = number
 number_from number (byte ∷ bytes) = number_from ((number * 257 + byte) % (2 ^ 54)) bytes
 
+unfoldable pub spread : ℕ → ℕ
+spread number = number % 2 ^ 27 * 0x9e3779b97 % 2 ^ 36 * 2 ^ 27 + number / 2 ^ 27
+
 abbrev pub number_of : List ℕ → ℕ
-number_of key = number_from 0 key
+number_of key = spread (number_from 0 key)
 
 -- whether that key stands there
 abbrev pub stands_at : List NodePair → List ℕ → Option ℕ → Bool
@@ -39,13 +42,10 @@ all_within Few len number = true
 all_within (Numbered places) len number = is_within len (map.get nat_cmp places number)
 all_within (Ordered keys) len number = true
 
--- numbers that find the keys of these pairs, a number that none of them has, and keys that are those of these pairs
+-- numbers that find the keys of these pairs, and keys that are those of these pairs
 abbrev pub IsNumbered : map.BTreeMap ℕ ℕ → List NodePair → Type 0
 IsNumbered places pairs = ((key : List ℕ) → stands_at pairs key (map.get nat_cmp places (number_of key)) ≡ has_key key pairs)
     × ((number : ℕ) → is_within (length pairs) (map.get nat_cmp places number) ≡ true)
-
-abbrev pub IsNew : map.BTreeMap ℕ ℕ → ℕ → Type 0
-IsNew places number = is_some (map.get nat_cmp places number) ≡ false
 
 abbrev pub IsOrdered : set.BTreeSet (List ℕ) → List NodePair → Type 0
 IsOrdered keys pairs = (key : List ℕ) → set.contains (slice_cmp nat_cmp) keys key ≡ has_key key pairs

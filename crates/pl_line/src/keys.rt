@@ -5,6 +5,7 @@ ghost use Rattle.std.specs.BTreeSet.{contains};
 ghost use Rattle.pl_base.specs.declared.node.NodePair.{NodePair as node_pair};
 ghost use Rattle.pl_line.specs.Trees as trees;
 ghost use Rattle.pl_line.specs.Keys as spec;
+ghost use Rattle.pl_line.specs.declared.keys.Keys.TheVariants as keys;
 
 use crate::numbers::number_of;
 use pl_base::{ExactCopy, Memory, NodePair, Text};
@@ -61,28 +62,26 @@ fn numbered_with(
     requires { spec.IsNumbered places pairs.now }
     ensures { IfOk result (λ more. (pair : node_pair) → pair.key ≡ key.now → spec.IsKept more (pairs.now ++ pair ∷ [])) }
 {
-    let number = number_of(key);
-    if places.contains_key(&number) {
-        ordered_with(alloc, keys_of(alloc, pairs)?, pairs, key)
-    } else {
-        placed(places, number, pairs, key)
+    match placed(places, pairs, key)? {
+        Some(places) => Ok(Keys::Numbered(places)),
+        None => ordered_with(alloc, keys_of(alloc, pairs)?, pairs, key),
     }
 }
 
-/// These places with one more.
+/// These places with that of one more key, or None where another key has its number.
 fn placed(
     mut places: BTreeMap<u64, usize>,
-    number: u64,
     pairs: &[NodePair],
     key: &Text,
-) -> Result<Keys, Memory>
-    requires numbered { spec.IsNumbered places pairs.now }
-    requires number { number ≡ spec.number_of key.now }
-    requires new { spec.IsNew places number }
-    ensures { IfOk result (λ more. (pair : node_pair) → pair.key ≡ key.now → spec.IsKept more (pairs.now ++ pair ∷ [])) }
+) -> Result<Option<BTreeMap<u64, usize>>, Memory>
+    requires { spec.IsNumbered places pairs.now }
+    ensures { IfOk result (λ found. IfSome found (λ places. (pair : node_pair) → pair.key ≡ key.now → spec.IsKept (keys.Numbered places) (pairs.now ++ pair ∷ []))) }
 {
-    places.insert(number, pairs.len())?;
-    Ok(Keys::Numbered(places))
+    let before = places.insert(number_of(key), pairs.len())?;
+    if before.is_some() {
+        return Ok(None);
+    }
+    Ok(Some(places))
 }
 
 /// These keys and one more, in order.

@@ -3,8 +3,9 @@ ghost use Rattle.pl_line.specs.Keys as spec;
 
 use pl_base::Text;
 
-/// A key's number.
-#[tactic(auto, unfolding(crate::specs::Keys::number_from))]
+/// A key's number. Its low digits are spread over the high ones, since keys that follow one another
+/// would fill the tree of numbers from one side.
+#[tactic(auto, unfolding(crate::specs::Keys::number_from, crate::specs::Keys::spread))]
 pub(crate) fn number_of(key: &Text) -> u64
     ensures { result ≡ spec.number_of key.now }
 {
@@ -12,5 +13,5 @@ pub(crate) fn number_of(key: &Text) -> u64
     for byte in key.as_bytes() {
         number = (number * 257 + u64::from(*byte)) % (1 << 54);
     }
-    number
+    number % (1 << 27) * 0x9_e377_9b97 % (1 << 36) * (1 << 27) + number / (1 << 27)
 }

@@ -11,7 +11,7 @@ use Rattle.pl_base.specs.declared.node.NodePair.{NodePair}
 use Rattle.pl_line.specs.Trees.{has_key}
 use Rattle.pl_line.specs.declared.keys.Keys.{Keys}
 use Rattle.pl_line.specs.declared.keys.Keys.TheVariants.{Numbered}
-use Rattle.pl_line.specs.Keys.{IsKept, IsNew, IsNumbered, is_within, number_of, stands_at}
+use Rattle.pl_line.specs.Keys.{IsKept, IsNumbered, is_within, number_of, stands_at}
 use Rattle.std.proofs.lemmas.List.Folds.{list_any-append}
 use Rattle.std.proofs.lemmas.List.{length-append, length-take-le, take_more}
 use Rattle.std.proofs.lemmas.Bool.{eqb-true, eq-eqb, ltb-true, lt-ltb, false≢true}
@@ -108,13 +108,13 @@ numbered_more old new pairs pair none updated numbered = (
       ∙ within_more (is_at (nat_cmp (number_of pair.key)) n) (get nat_cmp old n) (length pairs) (numbered.1 n),
 )
 
-pub placed_more : (old new : BTreeMap ℕ ℕ) (pairs : List NodePair) (key : List ℕ) (number len : ℕ) → number ≡ number_of key → len ≡ length pairs → IsNew old number
-    → ((n : ℕ) → get nat_cmp new n ≡ cond (is_at (nat_cmp number) n) (Some len) (get nat_cmp old n))
+pub placed_more : (old new : BTreeMap ℕ ℕ) (pairs : List NodePair) (key : List ℕ) (number : ℕ) (place : Option ℕ) → number ≡ number_of key → place ≡ get nat_cmp old number → false ≡ is_some place
+    → ((n : ℕ) → get nat_cmp new n ≡ cond (is_at (nat_cmp number) n) (Some (length pairs)) (get nat_cmp old n))
     → IsNumbered old pairs → (pair : NodePair) → pair.key ≡ key → IsKept (Numbered new) (pairs ++ pair ∷ [])
-placed_more old new pairs key number len is counted none updated numbered pair same =
+placed_more old new pairs key number place is place_is none updated numbered pair same =
     let number_is : number ≡ number_of pair.key = is ∙ sym (ap number_of same) in
-    numbered_more old new pairs pair (subst (λ n. IsNew old n) number_is none)
-    (λ n. updated n ∙ ap₂ (λ m l. cond (is_at (nat_cmp m) n) (Some l) (get nat_cmp old n)) number_is counted) numbered
+    let new_number : is_some (get nat_cmp old (number_of pair.key)) ≡ false = sym (ap is_some (place_is ∙ ap (get nat_cmp old) number_is)) ∙ sym none in
+    numbered_more old new pairs pair new_number (λ n. updated n ∙ ap (λ m. cond (is_at (nat_cmp m) n) (Some (length pairs)) (get nat_cmp old n)) number_is) numbered
 
 pub numbered_turn : (old new : BTreeMap ℕ ℕ) (pairs : List NodePair) (i at number : ℕ) (first : NodePair) (place : Option ℕ) → i < length pairs → first ≡ get_or pairs i first
     → at ≡ i → number ≡ number_of first.key → place ≡ get nat_cmp old number → false ≡ is_some place
