@@ -30,7 +30,14 @@ fn is_word(line: &Line, character: char) -> bool
 pub(crate) fn is_marker(line: &Line) -> bool
     ensures { result ≡ spec.is_marker (row line.now) }
 {
-    line.column == 1 && (is_word(line, '-') || is_word(line, '.'))
+    if line.column != 1 {
+        return false;
+    }
+    match line.text.first() {
+        Some('-') => is_word(line, '-'),
+        Some('.') => is_word(line, '.'),
+        _ => false,
+    }
 }
 
 /// Whether `---` stands alone on a line, perhaps before a comment.
