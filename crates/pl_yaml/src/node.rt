@@ -169,8 +169,8 @@ fn begin(
     begun(alloc, file, depth, slot.parent, &line, reader)
 }
 
-/// Goes on with the collection that waits on the stack's top, whose value was read: its node is put
-/// there. The node is the whole where none waits.
+/// Makes the node of the collection that ended, and goes on with the one that waits for it, which has
+/// it behind its entries.
 fn close(alloc: Global, file: &Shared<FileKey>, top: &mut Open, waiting: Open) -> Result<(), Memory>
     ensures { OnOk result ((turns : ℕ) (rows : list Row) → stack.in_open file.now turns top.new rows ≡ stack.into file.now turns waiting (stack.made file.now top.old, rows)) }
 {
