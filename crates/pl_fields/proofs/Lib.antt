@@ -1,0 +1,4 @@
+pub mod Front
+pub mod Guards
+pub mod Misses
+pub mod Ending

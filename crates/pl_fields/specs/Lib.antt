@@ -1,0 +1,12 @@
+pub mod Fields
+pub mod Reading
+pub mod Kinds
+pub mod Rules
+pub mod Checks
+pub mod WaysOfFields
+pub mod WaysOfCompounds
+pub mod WaysOfDecimals
+pub mod WaysOfKinds
+pub mod WaysOfKeys
+pub mod WaysOfRules
+pub mod WaysOfChecks
