@@ -1,0 +1,20 @@
+//! The rows that the service keeps: what stands in each, how rows stand in bytes, and who keeps them.
+#![tactic(auto)]
+
+mod decoding;
+mod encoding;
+mod ends;
+mod laws;
+mod parts;
+mod records;
+#[cfg(test)]
+mod tests;
+
+pub use decoding::decode;
+pub use encoding::encode;
+pub use laws::record_laws;
+pub use pl_fields::DecodeFault;
+pub use records::{
+    JobEnd, KeptAgent, KeptDecision, KeptFile, KeptJob, KeptPipeline, KeptPrincipal, KeptResource,
+    KeptRun, KeptStage, Meta, Record, StageEnd, Taking,
+};

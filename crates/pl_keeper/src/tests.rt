@@ -1,0 +1,6 @@
+mod cuts;
+mod rows;
+mod runs;
+mod samples;
+mod settings;
+mod trips;
