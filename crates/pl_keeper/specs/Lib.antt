@@ -1,3 +1,5 @@
 pub mod Parts
 pub mod Rows
 pub mod WaysOfParts
+pub mod Limits
+pub mod Keeping

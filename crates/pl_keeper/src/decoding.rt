@@ -1,7 +1,9 @@
-ghost use Rattle.std.specs.Prelude.{◌≡◌, ◌≢◌, IfOk, IsErrOf};
+ghost use Rattle.std.specs.Prelude.{◌≡◌, ◌≢◌, if◌then◌else◌, IfOk, IsErrOf, IsTrue};
 ghost use Rattle.pl_keeper.specs.declared.records.Record.{Record as Kept};
+ghost use Rattle.pl_keeper.specs.Limits.{is_within};
 ghost use Rattle.pl_keeper.specs.Rows.{IsKept, ReadsTable, row_of};
 
+use crate::limits::is_within;
 use crate::parts::parts_of;
 use crate::records::{
     JobEnd, KeptAgent, KeptDecision, KeptFile, KeptJob, KeptPipeline, KeptPrincipal, KeptResource,
@@ -15,8 +17,33 @@ use std::alloc::Global;
 
 /// What a row keeps.
 ///
-/// Torn comes exactly where the row is no record's.
+/// Torn comes exactly where the row is no record's that is within the limits: its key or its body
+/// isn't one of its table's, or has a byte too many, or a name, a ref, a path, a text, a number, a
+/// check or an output is past its limit. Memory comes where there was none for the record.
 pub fn decode(alloc: Global, row: &Row) -> Result<Record, DecodeFault>
+    ensures ok { IfOk result (λ kept. IsKept kept × IsTrue (is_within kept) ×
+        (row.now ≡ row_of kept)) }
+    ensures torn { IsErrOf result DecodeFault.Torn →
+        (kept : Kept) → IsKept kept → IsTrue (is_within kept) → row.now ≢ row_of kept }
+{
+    let record = record_of(alloc, row)?;
+    let is_good = is_within(&record);
+    kept_if(record, is_good)
+}
+
+/// The value where it is good, and Torn where it isn't.
+fn kept_if<T: Drop>(value: T, is_good: bool) -> Result<T, DecodeFault>
+    ensures { result ≡ (if is_good then Ok value else Err DecodeFault.Torn) }
+{
+    if is_good {
+        Ok(value)
+    } else {
+        Err(DecodeFault::Torn)
+    }
+}
+
+/// The record whose row it is, within the limits or not.
+fn record_of(alloc: Global, row: &Row) -> Result<Record, DecodeFault>
     ensures ok { IfOk result (λ kept. IsKept kept × (row.now ≡ row_of kept)) }
     ensures torn { IsErrOf result DecodeFault.Torn →
         (kept : Kept) → IsKept kept → row.now ≢ row_of kept }

@@ -4,7 +4,10 @@
 mod decoding;
 mod encoding;
 mod ends;
+mod fault;
+mod keeper;
 mod laws;
+mod limits;
 mod parts;
 mod records;
 #[cfg(test)]
@@ -12,6 +15,8 @@ mod tests;
 
 pub use decoding::decode;
 pub use encoding::encode;
+pub use fault::KeeperFault;
+pub use keeper::Keeper;
 pub use laws::record_laws;
 pub use pl_fields::DecodeFault;
 pub use records::{
