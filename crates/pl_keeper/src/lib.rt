@@ -1,13 +1,16 @@
 //! The rows that the service keeps: what stands in each, how rows stand in bytes, and who keeps them.
 #![tactic(auto)]
 
+mod copies;
 mod decoding;
 mod encoding;
 mod ends;
 mod fault;
+mod in_memory;
 mod keeper;
 mod laws;
 mod limits;
+mod order;
 mod parts;
 mod records;
 #[cfg(test)]
@@ -16,6 +19,7 @@ mod tests;
 pub use decoding::decode;
 pub use encoding::encode;
 pub use fault::KeeperFault;
+pub use in_memory::MemKeeper;
 pub use keeper::Keeper;
 pub use laws::record_laws;
 pub use pl_fields::DecodeFault;
