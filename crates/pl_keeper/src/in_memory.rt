@@ -103,10 +103,10 @@ impl Keeper for MemKeeper {
         ensures failing { IsErrOf result KeeperFault.Failed ↔
             IsTrue (is_listed self.new.calls self.old.failing) }
     {
-        if self.is_to_fail() {
-            return Err(KeeperFault::Failed);
+        if !self.is_to_fail() {
+            return Ok(row_copies(alloc, self.rows.as_slice())?);
         }
-        Ok(row_copies(alloc, self.rows.as_slice())?)
+        Err(KeeperFault::Failed)
     }
 
     fn faults(&self) -> u64 {
