@@ -1,4 +1,6 @@
 mod cuts;
+mod hostile;
+mod keepers;
 mod rows;
 mod runs;
 mod samples;

@@ -1,5 +1,3 @@
-ghost use Rattle.std.specs.Prelude.{◌<◌};
-
 use pl_base::{Bytes, List, Memory, Row};
 use std::alloc::Global;
 
@@ -84,7 +82,7 @@ fn hex_bytes(alloc: Global, digits: &[u8]) -> Result<Bytes, Memory> {
         match high {
             None => high = Some(value),
             Some(first) => {
-                bytes.push(16 * first + value)?;
+                bytes.push(joined(first, value))?;
                 high = None;
             }
         }
@@ -92,10 +90,13 @@ fn hex_bytes(alloc: Global, digits: &[u8]) -> Result<Bytes, Memory> {
     Ok(bytes)
 }
 
+/// The byte of two digits' values.
+fn joined(high: u8, low: u8) -> u8 {
+    high.wrapping_mul(16).wrapping_add(low)
+}
+
 /// The value of a hexadecimal digit, and 0 of anything else.
-fn digit_value(digit: u8) -> u8
-    ensures { result < 16 }
-{
+fn digit_value(digit: u8) -> u8 {
     match digit {
         b'0'..=b'9' => digit - b'0',
         b'a'..=b'f' => digit - b'a' + 10,

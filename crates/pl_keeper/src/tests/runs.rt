@@ -50,12 +50,16 @@ pub(crate) fn stage_sample(alloc: Global, n: usize) -> Result<Option<Record>, Me
     let ended = match n {
         9 | 10 => None,
         11 => Some(end(6, Outcome::SucceededWithIssues, None)),
-        _ => Some(end(7, Outcome::Failed, ending_rule(alloc, n - 11)?)),
+        _ => Some(end(
+            7,
+            Outcome::Failed,
+            ending_rule(alloc, n.saturating_sub(11))?,
+        )),
     };
     let position = match n {
         9 => 0,
         10 | 11 => 1,
-        _ => (n % 64) as u32 - 11,
+        _ => ((n % 64) as u32).saturating_sub(11),
     };
     Ok(Some(Record::Stage(KeptStage {
         run: if ruled { 2 } else { 1 },
