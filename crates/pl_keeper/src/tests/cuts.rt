@@ -82,6 +82,37 @@ fn cut_rows(rt: HostRuntime) -> Result<(), Fail> {
     Ok(())
 }
 
+/// The row with one byte more in its key or in its body.
+fn longer(alloc: Global, row: &Row, at: usize, byte: u8, in_key: bool) -> Result<Row, Memory> {
+    let bytes = if in_key {
+        row.key.as_slice()
+    } else {
+        row.body.as_slice()
+    };
+    let more = extended(alloc, bytes, at, byte)?;
+    with_bytes(alloc, row, more, in_key)
+}
+
+fn holds_at(alloc: Global, row: &Row, at: usize, in_key: bool) -> Result<bool, DecodeFault> {
+    let longer = longer(alloc, row, at, 1, in_key)?;
+    is_torn_or_whole(alloc, &longer)
+}
+
+fn ends_torn(alloc: Global, row: &Row, at: usize, in_key: bool) -> Result<bool, Memory> {
+    let longer = longer(alloc, row, at, 0, in_key)?;
+    Ok(matches!(decode(alloc, &longer), Err(DecodeFault::Torn)))
+}
+
+/// Whether that holds at each place of the key or of the body.
+fn holds(alloc: Global, row: &Row, len: usize, in_key: bool) -> Result<bool, DecodeFault> {
+    for at in 0..=len {
+        if !holds_at(alloc, row, at, in_key)? {
+            return Ok(false);
+        }
+    }
+    Ok(ends_torn(alloc, row, len, in_key)?)
+}
+
 // A row with one byte more at its end is torn; with one more before any other byte it is torn, or
 // another record's row.
 #[test]
@@ -89,28 +120,8 @@ fn extended_rows(rt: HostRuntime) -> Result<(), Fail> {
     let alloc = rt.alloc();
     for n in 0..row_count() {
         let row = row_at(alloc, n)?.ok_or("a row")?;
-        for at in 0..row.key.len() + 1 {
-            let key = extended(alloc, row.key.as_slice(), at, 1)?;
-            let longer = with_bytes(alloc, &row, key, true)?;
-            assert!(rt; is_torn_or_whole(alloc, &longer)?, "{n} key {at}");
-        }
-        for at in 0..row.body.len() + 1 {
-            let body = extended(alloc, row.body.as_slice(), at, 1)?;
-            let longer = with_bytes(alloc, &row, body, false)?;
-            assert!(rt; is_torn_or_whole(alloc, &longer)?, "{n} body {at}");
-        }
-        let key = extended(alloc, row.key.as_slice(), row.key.len(), 0)?;
-        let longer = with_bytes(alloc, &row, key, true)?;
-        assert!(rt;
-            matches!(decode(alloc, &longer), Err(DecodeFault::Torn)),
-            "{n} key"
-        );
-        let body = extended(alloc, row.body.as_slice(), row.body.len(), 0)?;
-        let longer = with_bytes(alloc, &row, body, false)?;
-        assert!(rt;
-            matches!(decode(alloc, &longer), Err(DecodeFault::Torn)),
-            "{n} body"
-        );
+        assert!(rt; holds(alloc, &row, row.key.len(), true)?, "{n} key");
+        assert!(rt; holds(alloc, &row, row.body.len(), false)?, "{n} body");
     }
     Ok(())
 }

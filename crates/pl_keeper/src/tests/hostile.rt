@@ -1,8 +1,16 @@
 use super::samples::text;
 use crate::{DecodeFault, KeptDecision, KeptPipeline, Record, decode, encode};
-use pl_base::{List, Memory, Row};
+use pl_base::{List, Memory, Row, Text};
 use std::alloc::Global;
 use std::test::Fail;
+
+fn is_torn(alloc: Global, row: &Row) -> bool {
+    matches!(decode(alloc, row), Err(DecodeFault::Torn))
+}
+
+fn is_read(alloc: Global, row: &Row) -> bool {
+    decode(alloc, row).is_ok()
+}
 
 /// The agent `a` with a body of these bytes.
 fn agent(alloc: Global, body: &[u8]) -> Result<Row, Memory> {
@@ -15,16 +23,19 @@ fn agent(alloc: Global, body: &[u8]) -> Result<Row, Memory> {
     })
 }
 
+fn agent_is_torn(alloc: Global, body: &[u8]) -> Result<bool, Memory> {
+    let row = agent(alloc, body)?;
+    Ok(is_torn(alloc, &row))
+}
+
 // A pool `p`, and a list that tells 4,294,967,295 items: no memory is taken by the number told.
 #[test]
 fn told_lengths(rt: HostRuntime) -> Result<(), Fail> {
     let alloc = rt.alloc();
     let list = [0, 0, 0, 1, b'p', 255, 255, 255, 255];
-    let row = agent(alloc, list.as_slice())?;
-    assert!(rt; matches!(decode(alloc, &row), Err(DecodeFault::Torn)));
+    assert!(rt; agent_is_torn(alloc, list.as_slice())?);
     let text = [255, 255, 255, 255, b'p', 0, 0, 0, 0];
-    let row = agent(alloc, text.as_slice())?;
-    assert!(rt; matches!(decode(alloc, &row), Err(DecodeFault::Torn)));
+    assert!(rt; agent_is_torn(alloc, text.as_slice())?);
     Ok(())
 }
 
@@ -41,38 +52,64 @@ fn decision(alloc: Global, name: &str) -> Result<Row, Memory> {
     encode(alloc, &Record::Decision(kept))
 }
 
-/// A pipeline of a file at such a path.
-fn pipeline(alloc: Global, path: &str) -> Result<Row, Memory> {
+fn name_is_torn(alloc: Global, name: &str) -> Result<bool, Memory> {
+    let row = decision(alloc, name)?;
+    Ok(is_torn(alloc, &row))
+}
+
+fn name_is_read(alloc: Global, name: &str) -> Result<bool, Memory> {
+    let row = decision(alloc, name)?;
+    Ok(is_read(alloc, &row))
+}
+
+/// A name and a repository.
+fn ci_of_app(alloc: Global) -> Result<(Text, Text), Memory> {
     let name = text(alloc, "ci")?;
     let repo = text(alloc, "app")?;
+    Ok((name, repo))
+}
+
+/// A pipeline of a file at such a path.
+fn pipeline(alloc: Global, path: &str) -> Result<Row, Memory> {
     let path = text(alloc, path)?;
+    let (name, repo) = ci_of_app(alloc)?;
     encode(alloc, &Record::Pipeline(KeptPipeline { name, repo, path }))
 }
 
-// Names have 1 to 100 bytes and no control characters; paths have no empty, `.` or `..` piece.
+fn path_is_torn(alloc: Global, path: &str) -> Result<bool, Memory> {
+    let row = pipeline(alloc, path)?;
+    Ok(is_torn(alloc, &row))
+}
+
+fn path_is_read(alloc: Global, path: &str) -> Result<bool, Memory> {
+    let row = pipeline(alloc, path)?;
+    Ok(is_read(alloc, &row))
+}
+
+const HUNDRED: &str = "0123456789012345678901234567890123456789012345678901234567890123456789\
+                       012345678901234567890123456789";
+
+const ONE_MORE: &str = "0123456789012345678901234567890123456789012345678901234567890123456789\
+                        0123456789012345678901234567890";
+
+// Names have 1 to 100 bytes and no control characters.
 #[test]
-fn limits(rt: HostRuntime) -> Result<(), Fail> {
+fn limits_of_names(rt: HostRuntime) -> Result<(), Fail> {
     let alloc = rt.alloc();
-    let ten = "0123456789";
-    let hundred = format!(in alloc; "{ten}{ten}{ten}{ten}{ten}{ten}{ten}{ten}{ten}{ten}")?;
-    let more = format!(in alloc; "{hundred}x")?;
-    assert!(rt; decode(alloc, &decision(alloc, hundred.as_str())?).is_ok());
-    for name in ["", more.as_str(), "a\u{7}", "\u{85}b"] {
-        assert!(rt;
-            matches!(
-                decode(alloc, &decision(alloc, name)?),
-                Err(DecodeFault::Torn)
-            )
-        );
+    assert!(rt; name_is_read(alloc, HUNDRED)?);
+    for name in ["", ONE_MORE, "a\u{7}", "\u{85}b"] {
+        assert!(rt; name_is_torn(alloc, name)?);
     }
-    assert!(rt; decode(alloc, &pipeline(alloc, "/a/.b/..c")?).is_ok());
+    Ok(())
+}
+
+// Paths have no empty, `.` or `..` piece.
+#[test]
+fn limits_of_paths(rt: HostRuntime) -> Result<(), Fail> {
+    let alloc = rt.alloc();
+    assert!(rt; path_is_read(alloc, "/a/.b/..c")?);
     for path in ["a", "/", "/a/", "//a", "/./a", "/a/..", "/../a"] {
-        assert!(rt;
-            matches!(
-                decode(alloc, &pipeline(alloc, path)?),
-                Err(DecodeFault::Torn)
-            )
-        );
+        assert!(rt; path_is_torn(alloc, path)?);
     }
     Ok(())
 }
