@@ -1,5 +1,5 @@
 use super::rows::{row_at, row_count};
-use crate::{DecodeFault, decode, encode};
+use crate::{DecodeFault, Record, decode, encode};
 use pl_base::{Bytes, List, Memory, Row};
 use std::alloc::Global;
 use std::test::Fail;
@@ -47,12 +47,18 @@ fn with_bytes(alloc: Global, row: &Row, bytes: Bytes, in_key: bool) -> Result<Ro
     }
 }
 
+/// Whether a row is the record's.
+fn is_row_of(alloc: Global, row: &Row, record: &Record) -> Result<bool, DecodeFault> {
+    let made = encode(alloc, record)?;
+    Ok(made == *row)
+}
+
 /// Whether a row is torn, or is the row of what it is read as.
 fn is_torn_or_whole(alloc: Global, row: &Row) -> Result<bool, DecodeFault> {
     match decode(alloc, row) {
         Err(DecodeFault::Torn) => Ok(true),
         Err(DecodeFault::Memory) => Err(DecodeFault::Memory),
-        Ok(record) => Ok(encode(alloc, &record)? == *row),
+        Ok(record) => is_row_of(alloc, row, &record),
     }
 }
 
