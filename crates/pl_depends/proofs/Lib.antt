@@ -1,0 +1,3 @@
+pub mod Circles
+pub mod Found
+pub mod Within
