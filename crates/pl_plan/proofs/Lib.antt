@@ -1,0 +1,6 @@
+pub mod Acyclic
+pub mod LegCounts
+pub mod LegEdges
+pub mod Slices
+pub mod Sound
+pub mod Spending

@@ -1,0 +1,5 @@
+pub mod Laws
+pub mod Legs
+pub mod Limits
+pub mod Making
+pub mod Plans
