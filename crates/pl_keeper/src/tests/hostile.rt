@@ -1,6 +1,5 @@
-use super::samples::text;
-use crate::{DecodeFault, KeptDecision, KeptPipeline, Record, decode, encode};
-use pl_base::{List, Memory, Row, Text};
+use crate::{DecodeFault, decode};
+use pl_base::{Bytes, List, Memory, Row};
 use std::alloc::Global;
 use std::test::Fail;
 
@@ -39,17 +38,34 @@ fn told_lengths(rt: HostRuntime) -> Result<(), Fail> {
     Ok(())
 }
 
+/// Puts a text of fewer than 256 bytes as a field.
+fn put_text(field: &mut Bytes, text: &str) -> Result<(), Memory> {
+    for byte in [0, 0, 0, text.len() as u8] {
+        field.push(byte)?;
+    }
+    for byte in text.as_bytes() {
+        field.push(*byte)?;
+    }
+    Ok(())
+}
+
+/// Run 1, stage 0 and that approver.
+fn decision_key(alloc: Global, name: &str) -> Result<Bytes, Memory> {
+    let numbers = [0, 0, 0, 0, 0, 0, 0, 1, 0, 0, 0, 0, 0, 0, 0, 0];
+    let mut key = List::from_slice(alloc, numbers.as_slice())?;
+    put_text(&mut key, name)?;
+    Ok(key)
+}
+
 /// A decision of an approver with such a name.
 fn decision(alloc: Global, name: &str) -> Result<Row, Memory> {
-    let approver = text(alloc, name)?;
-    let kept = KeptDecision {
-        run: 1,
-        stage: 0,
-        approver,
-        approve: true,
-        moment: 1,
-    };
-    encode(alloc, &Record::Decision(kept))
+    let key = decision_key(alloc, name)?;
+    let body = List::from_slice(alloc, [1, 0, 0, 0, 0, 0, 0, 0, 1].as_slice())?;
+    Ok(Row {
+        table: 9,
+        key,
+        body,
+    })
 }
 
 fn name_is_torn(alloc: Global, name: &str) -> Result<bool, Memory> {
@@ -62,18 +78,23 @@ fn name_is_read(alloc: Global, name: &str) -> Result<bool, Memory> {
     Ok(is_read(alloc, &row))
 }
 
-/// A name and a repository.
-fn ci_of_app(alloc: Global) -> Result<(Text, Text), Memory> {
-    let name = text(alloc, "ci")?;
-    let repo = text(alloc, "app")?;
-    Ok((name, repo))
+/// The repository `app` and such a path.
+fn pipeline_body(alloc: Global, path: &str) -> Result<Bytes, Memory> {
+    let mut body = List::new(alloc);
+    put_text(&mut body, "app")?;
+    put_text(&mut body, path)?;
+    Ok(body)
 }
 
-/// A pipeline of a file at such a path.
+/// The pipeline `ci` of a file at such a path.
 fn pipeline(alloc: Global, path: &str) -> Result<Row, Memory> {
-    let path = text(alloc, path)?;
-    let (name, repo) = ci_of_app(alloc)?;
-    encode(alloc, &Record::Pipeline(KeptPipeline { name, repo, path }))
+    let body = pipeline_body(alloc, path)?;
+    let key = List::from_slice(alloc, [0, 0, 0, 2, b'c', b'i'].as_slice())?;
+    Ok(Row {
+        table: 2,
+        key,
+        body,
+    })
 }
 
 fn path_is_torn(alloc: Global, path: &str) -> Result<bool, Memory> {
