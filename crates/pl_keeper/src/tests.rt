@@ -2,7 +2,4 @@ mod cuts;
 mod hostile;
 mod keepers;
 mod rows;
-mod runs;
-mod samples;
-mod settings;
 mod trips;

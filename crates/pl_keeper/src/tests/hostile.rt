@@ -40,7 +40,7 @@ fn told_lengths(rt: HostRuntime) -> Result<(), Fail> {
 
 /// Puts a text of fewer than 256 bytes as a field.
 fn put_text(field: &mut Bytes, text: &str) -> Result<(), Memory> {
-    for byte in [0, 0, 0, text.len() as u8] {
+    for byte in [0, 0, 0, u8::try_from(text.len()).unwrap_or(0)] {
         field.push(byte)?;
     }
     for byte in text.as_bytes() {
