@@ -20,8 +20,6 @@ fn shown_node(alloc: Global, node: &Node) -> Result<String, Memory> {
 
 /// A value in short, with its place and the number of borders that it crossed.
 fn shown_value(alloc: Global, node: &MarkedNode) -> Result<String, Memory> {
-    let crossed = node.origin.crossings.to_vec(alloc)?.len();
-    let place = shown_place(alloc, &node.origin.source)?;
     let inner = match &node.value {
         Value::Str(text) => format!(in alloc; "'{}'", text.as_str())?,
         Value::Array(items) => format!(in alloc; "[{}]", items.len())?,
@@ -29,38 +27,23 @@ fn shown_value(alloc: Global, node: &MarkedNode) -> Result<String, Memory> {
         Value::Null => String::from_str(alloc, "Null")?,
         atom => String::from_str(alloc, to_text(alloc, atom)?.as_str())?,
     };
+    let place = shown_place(alloc, &node.origin.source)?;
+    let crossed = node.origin.crossings.to_vec(alloc)?.len();
     Ok(format!(in alloc; "{inner}@{place}+{crossed}")?)
 }
 
-/// A parameter's name, place and type.
-fn shown_head(alloc: Global, param: &Param) -> Result<String, Memory> {
+fn shown_param(alloc: Global, param: &Param) -> Result<String, Memory> {
     let place = shown_place(alloc, &param.place)?;
     let name = param.name.as_str();
-    Ok(format!(in alloc; "{name}@{place} {:?}", param.kind)?)
-}
-
-/// Writes a node behind a mark.
-fn push_node(alloc: Global, all: &mut String, mark: &str, node: &Node) -> Result<(), Memory> {
-    let shown = shown_node(alloc, node)?;
-    all.push_str(mark)?;
-    all.push_str(shown.as_str())?;
-    Ok(())
-}
-
-/// Writes the allowed values.
-fn push_values(alloc: Global, all: &mut String, values: &List<Node>) -> Result<(), Memory> {
-    for entry in values.as_slice() {
-        push_node(alloc, all, " | ", entry)?;
-    }
-    Ok(())
-}
-
-fn shown_param(alloc: Global, param: &Param) -> Result<String, Memory> {
-    let mut all = shown_head(alloc, param)?;
+    let mut all = format!(in alloc; "{name}@{place} {:?}", param.kind)?;
     if let Some(node) = &param.default {
-        push_node(alloc, &mut all, " = ", node)?;
+        all.push_str(" = ")?;
+        all.push_str(shown_node(alloc, node)?.as_str())?;
     }
-    push_values(alloc, &mut all, &param.values)?;
+    for entry in param.values.as_slice() {
+        all.push_str(" | ")?;
+        all.push_str(shown_node(alloc, entry)?.as_str())?;
+    }
     Ok(all)
 }
 
@@ -71,15 +54,6 @@ fn shown_bound(alloc: Global, bound: &Bound) -> Result<String, Memory> {
     Ok(format!(in alloc; "{name} = {value}{how}")?)
 }
 
-/// Writes one behind those before it.
-fn push_one(all: &mut String, one: &str) -> Result<(), Memory> {
-    if !all.is_empty() {
-        all.push_str("; ")?;
-    }
-    all.push_str(one)?;
-    Ok(())
-}
-
 /// The parameters in short.
 pub fn shown_params(alloc: Global, declared: &Declared) -> Result<String, Memory> {
     if declared.is_empty() {
@@ -87,8 +61,10 @@ pub fn shown_params(alloc: Global, declared: &Declared) -> Result<String, Memory
     }
     let mut all = String::new(alloc);
     for param in declared.as_slice() {
-        let shown = shown_param(alloc, param)?;
-        push_one(&mut all, shown.as_str())?;
+        if !all.is_empty() {
+            all.push_str("; ")?;
+        }
+        all.push_str(shown_param(alloc, param)?.as_str())?;
     }
     Ok(all)
 }
@@ -100,8 +76,10 @@ pub fn shown_all(alloc: Global, bound: &List<Bound>) -> Result<String, Memory> {
     }
     let mut all = String::new(alloc);
     for one in bound.as_slice() {
-        let shown = shown_bound(alloc, one)?;
-        push_one(&mut all, shown.as_str())?;
+        if !all.is_empty() {
+            all.push_str("; ")?;
+        }
+        all.push_str(shown_bound(alloc, one)?.as_str())?;
     }
     Ok(all)
 }

@@ -1,29 +1,18 @@
 use super::notation::{tree, value};
 use super::shown::{shown_all, shown_fault, shown_params};
 use crate::{Bound, Declared, Given, ParamFault, bind, declare};
-use pl_base::{ExactCopy, List, Memory, Node, NodeBody, NodePair, Place, Text};
+use pl_base::{ExactCopy, List, Memory, Node, NodeBody};
 use std::alloc::Global;
-
-/// A key and where it stands.
-fn key_of(alloc: Global, pair: &NodePair) -> Result<(Text, Place), Memory> {
-    let place = pair.key_place.copy(alloc)?;
-    let name = pair.key.copy(alloc)?;
-    Ok((name, place))
-}
-
-/// What a pair gives.
-fn given_by(alloc: Global, pair: &NodePair) -> Result<Given, Memory> {
-    let value = value(alloc, &pair.item)?;
-    let (name, place) = key_of(alloc, pair)?;
-    Ok(Given { name, place, value })
-}
 
 /// What a mapping gives, each value under its key.
 fn given_in(alloc: Global, node: &Node) -> Result<List<Given>, Memory> {
     let mut all = List::new(alloc);
     if let NodeBody::Map(pairs) = &node.body {
         for pair in pairs.as_slice() {
-            all.push(given_by(alloc, pair)?)?;
+            let name = pair.key.copy(alloc)?;
+            let place = pair.key_place.copy(alloc)?;
+            let value = value(alloc, &pair.item)?;
+            all.push(Given { name, place, value })?;
         }
     }
     Ok(all)
@@ -35,17 +24,11 @@ pub fn declared_by(alloc: Global, declarations: &str) -> Result<Declared, ParamF
     declare(alloc, &node)
 }
 
-/// What is bound to declared parameters by the mapping on line 2.
-fn bound_to(alloc: Global, declared: &Declared, given: &str) -> Result<List<Bound>, ParamFault> {
-    let node = tree(alloc, 2, given)?;
-    let given = given_in(alloc, &node)?;
-    bind(alloc, declared, &given)
-}
-
-/// What is bound to the declarations on line 1 by the mapping on line 2.
+/// What is bound to them by the mapping on line 2.
 pub fn bound_by(alloc: Global, declarations: &str, given: &str) -> Result<List<Bound>, ParamFault> {
     let declared = declared_by(alloc, declarations)?;
-    bound_to(alloc, &declared, given)
+    let given = given_in(alloc, &tree(alloc, 2, given)?)?;
+    bind(alloc, &declared, &given)
 }
 
 /// What a line `DECLARATIONS` declares, or what a line `DECLARATIONS <- GIVEN` binds, in short.
