@@ -1,0 +1,4 @@
+pub mod Bundles
+pub mod Cuts
+pub mod Heads
+pub mod Taking

@@ -1,0 +1,12 @@
+//! Bundles: files in one text, each behind a line `%%% REPO REF PATH`, the root file first.
+#![tactic(auto)]
+
+mod bundle;
+mod head;
+mod lines;
+mod reading;
+#[cfg(test)]
+mod tests;
+
+pub use bundle::Bundle;
+pub use reading::bundle_of;

@@ -1,0 +1,10 @@
+//! What names, repositories, refs, paths and keys of files may be.
+#![tactic(auto)]
+
+mod keys;
+mod names;
+#[cfg(test)]
+mod tests;
+
+pub use keys::{is_key, is_path, is_ref, is_repository};
+pub use names::{is_name, is_plain};

@@ -1,0 +1,27 @@
+ghost use Rattle.std.specs.Prelude.{◌≡◌};
+ghost use Rattle.std.specs.Char.{is_control};
+ghost use Rattle.std.specs.List.{list_any};
+ghost use Rattle.std.specs.Str.{chars};
+ghost use Rattle.pl_names.specs.Names.{is_name, is_plain};
+
+/// Whether a text has from one byte to so many, and no control character (U+0000 to U+001F and
+/// U+007F to U+009F). It takes no memory.
+pub fn is_plain(most: usize, text: &str) -> bool
+    ensures { result ≡ is_plain most text.now }
+{
+    !text.is_empty() && text.len() <= most && !has_control(text)
+}
+
+/// Whether a text is a name: from 1 to 100 bytes without control characters. It takes no memory.
+pub fn is_name(text: &str) -> bool
+    ensures { result ≡ is_name text.now }
+{
+    is_plain(100, text)
+}
+
+/// Whether a text has a control character.
+fn has_control(text: &str) -> bool
+    ensures { result ≡ list_any is_control (chars text.now) }
+{
+    text.chars().any(|character| character.is_control())
+}
