@@ -1,4 +1,4 @@
-use crate::bundle_of;
+use crate::{Bundle, bundle_of};
 use pl_base::{FileKey, Memory, Text};
 use std::alloc::Global;
 use std::test::Fail;
@@ -105,22 +105,33 @@ fn key(alloc: Global, path: &str) -> Result<FileKey, Memory> {
 
 /// Whether bytes are a bundle that has that text at that path.
 fn holds(alloc: Global, bytes: &[u8], path: &str, text: &[u8]) -> Result<bool, Memory> {
+    let bundle = bundle_of(alloc, bytes)?;
+    match &bundle {
+        Some(bundle) => has_text(alloc, bundle, path, text),
+        None => Ok(false),
+    }
+}
+
+fn has_text(alloc: Global, bundle: &Bundle, path: &str, text: &[u8]) -> Result<bool, Memory> {
     let key = key(alloc, path)?;
-    let Some(bundle) = bundle_of(alloc, bytes)? else {
-        return Ok(false);
-    };
     Ok(match bundle.files.get(&key) {
         Some(found) => found.as_slice() == text,
         None => false,
     })
 }
 
-/// The path of the root file.
-fn root_path(alloc: Global, bytes: &[u8]) -> Result<Text, Memory> {
-    match bundle_of(alloc, bytes)? {
-        Some(bundle) => Ok(bundle.root.path),
-        None => Text::from_str(alloc, "no bundle"),
-    }
+/// Whether bytes are a bundle whose root file has that path.
+fn has_root(alloc: Global, bytes: &[u8], path: &str) -> Result<bool, Memory> {
+    let bundle = bundle_of(alloc, bytes)?;
+    Ok(match &bundle {
+        Some(bundle) => bundle.root.path.as_str() == path,
+        None => false,
+    })
+}
+
+fn is_bundle(alloc: Global, bytes: &[u8]) -> Result<bool, Memory> {
+    let bundle = bundle_of(alloc, bytes)?;
+    Ok(bundle.is_some())
 }
 
 #[test]
@@ -136,7 +147,7 @@ fn files_have_the_lines_up_to_the_next_name(rt: HostRuntime) -> Result<(), Fail>
 fn anything_else_is_no_bundle(rt: HostRuntime) -> Result<(), Fail> {
     let alloc = rt.alloc();
     for bytes in REFUSED {
-        assert_eq!(rt; root_path(alloc, bytes)?.as_str(), "no bundle", "{bytes:?}");
+        assert!(rt; !is_bundle(alloc, bytes)?, "{bytes:?}");
     }
     Ok(())
 }
@@ -145,6 +156,7 @@ fn anything_else_is_no_bundle(rt: HostRuntime) -> Result<(), Fail> {
 fn the_first_file_is_the_root(rt: HostRuntime) -> Result<(), Fail> {
     let alloc = rt.alloc();
     let bytes = b"%%% lib refs/heads/main /z.yml\n%%% app refs/heads/main /a.yml\n".as_slice();
-    assert_eq!(rt; root_path(alloc, bytes)?.as_str(), "/z.yml");
+    assert!(rt; has_root(alloc, bytes, "/z.yml")?);
+    assert!(rt; !has_root(alloc, bytes, "/a.yml")?);
     Ok(())
 }
