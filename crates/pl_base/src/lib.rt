@@ -25,8 +25,6 @@ mod shared;
 mod shared_list;
 mod sink;
 mod source;
-#[cfg(test)]
-mod tests;
 mod text;
 mod value;
 

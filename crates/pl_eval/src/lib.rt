@@ -9,11 +9,9 @@ mod look_ups;
 mod manner;
 mod names;
 mod projecting;
-#[cfg(test)]
-mod tests;
 mod texts;
 
 pub use evaluate::eval;
 pub use fault::{EvalCode, EvalFault};
-pub use look_ups::find_member;
+pub use look_ups::{find_member, is_named, place_of};
 pub use names::{Names, RootMember};

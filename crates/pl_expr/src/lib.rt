@@ -21,5 +21,3 @@ pub use laws::grammar_laws;
 pub use parser::parse;
 pub use printing::print;
 
-#[cfg(test)]
-mod tests;

@@ -14,8 +14,6 @@ mod moving;
 mod names;
 mod origins;
 mod problem;
-#[cfg(test)]
-mod tests;
 mod variables;
 
 pub use bindings::parameters_of;

@@ -13,8 +13,6 @@ mod param;
 mod parts;
 mod reading;
 mod refusing;
-#[cfg(test)]
-mod tests;
 
 pub use binding::bind;
 pub use declaring::declare;

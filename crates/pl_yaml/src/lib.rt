@@ -21,8 +21,6 @@ mod reader;
 mod scalar;
 mod slot;
 mod stack;
-#[cfg(test)]
-mod tests;
 
 pub use document::read;
 pub use fault::YamlFault;
