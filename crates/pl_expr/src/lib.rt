@@ -20,4 +20,3 @@ pub use fault::{ExprCode, ExprFault};
 pub use laws::grammar_laws;
 pub use parser::parse;
 pub use printing::print;
-
