@@ -10,7 +10,6 @@ use Rattle.pl_base.specs.declared.value.MarkedNode.{MarkedNode}
 use Rattle.pl_base.specs.declared.value.MarkedPair.{MarkedPair}
 use Rattle.pl_eval.specs.LookUps.{made}
 use Rattle.pl_frame.specs.Doubles.{first_double}
-use Rattle.pl_frame.specs.declared.frame.Frame.{Frame}
 use Rattle.pl_directives.specs.declared.fault.ExpandFault.{ExpandFault}
 use Rattle.pl_directives.specs.declared.fault.ExpandProblem.{ExpandProblem}
 use Rattle.pl_directives.specs.declared.fault.ExpandProblem.TheVariants.{KeyTwice, WrongKind}
@@ -22,10 +21,7 @@ use Rattle.pl_directives.specs.declared.progress.Content.{Content}
 use Rattle.pl_directives.specs.declared.progress.Content.TheVariants.{Unknown, Items, Pairs}
 use Rattle.pl_directives.specs.declared.progress.Counted.{Counted}
 use Rattle.pl_directives.specs.declared.progress.Progress.{Progress}
-use Rattle.pl_directives.specs.declared.region.Region.{Region}
-use Rattle.pl_directives.specs.Calls.{called}
 use Rattle.pl_directives.specs.Complaints.{refused}
-use Rattle.pl_directives.specs.Regions.{is_call}
 use Rattle.pl_directives.specs.Steps.{◌>>=◌}
 
 -- ---- progress
@@ -93,12 +89,6 @@ abbrev pub add_pairs : Place → List MarkedPair → Progress → Result Progres
 add_pairs place pairs progress =
     pairs_behind place pairs progress.content >>= λ content. Ok (with_content content progress)
 
--- an item of a list in a region: a call is followed, anything else stands there
-abbrev pub add_item : Frame → Region → MarkedNode → Progress → Result Progress ExpandFault
-add_item frame region item progress =
-    if is_call region item then called frame region item progress
-    else add_items item.origin.source (item ∷ []) progress
-
 -- a pair of its own ends a chain of branches
 abbrev pub put_pair : MarkedPair → ℕ → Progress → Result Progress ExpandFault
 put_pair pair count progress =
@@ -124,28 +114,7 @@ abbrev pub finished : Origin → Progress → Result Counted ExpandFault
 finished origin progress =
     node_of origin progress.content >>= λ node. Ok (record { node = node; count = progress.count })
 
--- ---- what directives alone put in an item's place, behind the items that are there
-
--- where pairs came of it they are one item; where nothing came of it there is none
-abbrev pub splice : Frame → Region → Origin → Content → Progress → Result Progress ExpandFault
-splice frame region origin Unknown progress = Ok progress
-splice frame region origin (Items items) progress = add_items origin.source items progress
-splice frame region origin (Pairs []) progress = Ok progress
-splice frame region origin (Pairs (pair ∷ pairs)) progress =
-    object_of origin (pair ∷ pairs) >>= λ item. add_item frame region item progress
-
--- an expression's value as an item: an array's items stand in its place
-abbrev pub spread_of :
-    Value-F Value MarkedNode MarkedPair → Frame → Region → MarkedNode → Progress →
-    Result Progress ExpandFault
-spread_of (layer.Array items) frame region node progress =
-    add_items node.origin.source items progress
-spread_of other frame region node progress = add_item frame region node progress
-
-abbrev pub spread : Frame → Region → MarkedNode → Progress → Result Progress ExpandFault
-spread frame region node progress = spread_of (out-Value node.value) frame region node progress
-
--- an expression's value in a directive's place: an array gives items, an object pairs
+-- ---- an expression's value in a directive's place: an array gives items, an object pairs
 abbrev pub absorbed_of :
     Value-F Value MarkedNode MarkedPair → ExpandProblem → Place → Progress →
     Result Progress ExpandFault

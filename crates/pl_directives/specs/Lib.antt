@@ -1,10 +1,8 @@
 pub mod Actions
-pub mod Calls
 pub mod Codes
 pub mod Complaints
 pub mod Contents
 pub mod Counting
-pub mod Expanding
 pub mod Gives
 pub mod Keys
 pub mod Manners

@@ -9,10 +9,12 @@ use Rattle.pl_base.specs.declared.value.Value.TheOpen as layer
 use Rattle.pl_base.specs.declared.value.MarkedNode.{MarkedNode}
 use Rattle.pl_base.specs.declared.value.MarkedPair.{MarkedPair}
 use Rattle.pl_literal.specs.Items.{is}
+use Rattle.pl_directives.specs.declared.progress.Content.{Content}
+use Rattle.pl_directives.specs.declared.progress.Content.TheVariants.{Pairs}
 use Rattle.pl_directives.specs.declared.region.Form.{Form}
 use Rattle.pl_directives.specs.declared.region.Form.TheVariants.{Stages, Jobs, Steps, Variables}
 use Rattle.pl_directives.specs.declared.region.Region.{Region}
-use Rattle.pl_directives.specs.declared.region.Region.TheVariants.{Free, Calls, Quiet}
+use Rattle.pl_directives.specs.declared.region.Region.TheVariants.{Free, Calls, Item, Quiet}
 
 -- the keys whose lists may call templates
 abbrev pub form_named : List ℕ → Option Form
@@ -46,17 +48,35 @@ abbrev pub inside : Region → Region
 inside Quiet = Quiet
 inside region = Free
 
+-- the region of the pairs of a mapping that is an item of a list
+abbrev pub of_item : Region → Region
+of_item (Calls form) = Item form
+of_item region = region
+
 -- ---- calls
 
 abbrev pub is_template : Value-F Value MarkedNode MarkedPair → Bool
 is_template (layer.Object (pair ∷ pairs)) = is pair.key (codes "template")
 is_template value = false
 
--- whether the items of a list in a region may be calls
-abbrev pub may_call : Region → Bool
-may_call (Calls form) = true
-may_call region = false
+-- what the items of a list in a region may call: what a directive puts in an item's place stands in
+-- the list like any item
+abbrev pub form_at : Region → Option Form
+form_at (Calls form) = Some form
+form_at (Item form) = Some form
+form_at region = None
 
 -- an item of such a list is a call where its first key is `template`
-abbrev pub is_call : Region → MarkedNode → Bool
-is_call region node = may_call region && is_template (out-Value node.value)
+abbrev pub call_form : Region → MarkedNode → Option Form
+call_form region node =
+    if is_template (out-Value node.value) then form_at region else None
+
+-- ---- The path of a call is the value of the first key of an item that may be one.
+
+abbrev pub is_begun : Content → Bool
+is_begun (Pairs []) = true
+is_begun content = false
+
+abbrev pub is_path : Region → Content → List ℕ → Bool
+is_path (Item form) content key = is_begun content && is key (codes "template")
+is_path region content key = false

@@ -11,22 +11,16 @@ use Rattle.pl_frame.specs.Trees.{nodes_in}
 use Rattle.pl_frame.specs.declared.frame.Frame.{Frame}
 use Rattle.pl_frame.specs.declared.problem.ExpressionProblem.{ExpressionProblem}
 use Rattle.pl_frame.specs.declared.problem.ExpressionProblem.TheVariants.{Unparsed, Undefined}
-use Rattle.pl_template.specs.Forms.{form_of}
 use Rattle.pl_template.specs.declared.forms.Piece.{Piece}
 use Rattle.pl_template.specs.declared.forms.Piece.TheVariants.{Literal}
 use Rattle.pl_template.specs.declared.forms.Piece.TheVariants as piece
-use Rattle.pl_template.specs.declared.forms.ScalarForm.{ScalarForm}
-use Rattle.pl_template.specs.declared.forms.ScalarForm.TheVariants.{Plain, Whole, Joined, Unclosed}
 use Rattle.pl_directives.specs.declared.fault.ExpandFault.{ExpandFault}
 use Rattle.pl_directives.specs.declared.fault.ExpandProblem.{ExpandProblem}
-use Rattle.pl_directives.specs.declared.fault.ExpandProblem.TheVariants.{BadDirective, WrongKind}
 use Rattle.pl_directives.specs.declared.fault.ExpandProblem.TheVariants.{Expression, Evaluation}
 use Rattle.pl_directives.specs.declared.progress.Counted.{Counted}
 use Rattle.pl_directives.specs.declared.scalars.JoinedText.{JoinedText}
-use Rattle.pl_directives.specs.declared.region.Region.{Region}
-use Rattle.pl_directives.specs.Calls.{settled}
 use Rattle.pl_directives.specs.Complaints.{refused}
-use Rattle.pl_directives.specs.Counting.{counted, entered}
+use Rattle.pl_directives.specs.Counting.{counted}
 use Rattle.pl_directives.specs.Steps.{◌>>=◌}
 
 -- ---- expressions
@@ -68,34 +62,15 @@ pieces_behind frame place [] joined = Ok joined
 pieces_behind frame place (first ∷ pieces) joined =
     piece_behind frame place first joined >>= pieces_behind frame place pieces
 
--- ---- a scalar in a region
+-- ---- a scalar that is no single expression
 
 -- without an expression it is its text
 abbrev pub plain_scalar : List ℕ → Frame → Place → ℕ → Counted
 plain_scalar text frame place count =
     record { node = made (literal_at frame place) (Str text); count = count }
 
--- where it is one expression it is that value, of its own kind and with its own origin
-abbrev pub whole_scalar : List ℕ → Frame → Region → Place → ℕ → Result Counted ExpandFault
-whole_scalar inside frame region place count =
-    counted_value_at frame place inside count >>= λ one.
-    settled region one.node >>= λ node.
-    Ok (record { node = node; count = one.count })
-
--- else it is the text of its pieces, which is made here
+-- with pieces it is their text, which is made here
 abbrev pub joined_scalar : List Piece → Frame → Place → ℕ → Result Counted ExpandFault
 joined_scalar pieces frame place count =
     pieces_behind frame place pieces (record { text = []; count = count }) >>= λ joined.
     Ok (record { node = made (made_at frame place) (Str joined.text); count = joined.count })
-
-abbrev pub scalar_by :
-    ScalarForm → List ℕ → Frame → Region → Place → ℕ → Result Counted ExpandFault
-scalar_by Plain text frame region place count = Ok (plain_scalar text frame place count)
-scalar_by (Whole inside) text frame region place count =
-    whole_scalar inside frame region place count
-scalar_by (Joined pieces) text frame region place count = joined_scalar pieces frame place count
-scalar_by Unclosed text frame region place count = refused BadDirective place
-
-abbrev pub scalar_at : List ℕ → Frame → Region → Place → ℕ → Result Counted ExpandFault
-scalar_at text frame region place count =
-    entered place count >>= scalar_by (form_of text) text frame region place

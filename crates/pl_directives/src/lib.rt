@@ -1,13 +1,10 @@
-//! Directives and expressions of templates: the expansion of a node in a frame, with where each
-//! node comes from.
+//! Directives and expressions of templates: what a key asks for, what a scalar's expressions give,
+//! and a collection as far as it is expanded.
 #![tactic(auto)]
 
 mod action;
 mod asking;
-mod calls;
 mod contents;
-mod expanding;
-mod facets;
 mod fault;
 mod keys;
 mod manner;
@@ -18,11 +15,15 @@ mod region;
 mod scalars;
 mod wholes;
 
-pub use contents::begin;
-pub use expanding::{expand_node, fill_pair};
+pub use action::{Action, Turns};
+pub use asking::key_asks;
+pub use contents::{add_items, add_pairs, as_items, as_pairs, begin, begin_spliced};
 pub use fault::{Complaint, ExpandFault, ExpandProblem};
-pub use manner::Kind;
+pub use keys::{MadeKey, key_by};
+pub use manner::{Kind, Manner};
+pub use misfit::Misfit;
 pub use progress::{Chain, Content, Counted, Progress};
 pub use refusing::{complain, enter};
 pub use region::{Form, Region, Standing};
-pub use wholes::put_pair;
+pub use scalars::{counted_value_at, joined_scalar, plain_scalar};
+pub use wholes::{absorb, finish, object_of, put_pair};

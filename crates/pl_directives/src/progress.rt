@@ -64,6 +64,17 @@ impl Progress {
         }
     }
 
+    /// The same with another count.
+    pub fn counting(self, count: u32) -> Progress
+        ensures { result ≡ with_count count self }
+    {
+        Progress {
+            content: self.content,
+            chain: self.chain,
+            count,
+        }
+    }
+
     /// The same before the turns of a loop, which end a chain of branches, with another count.
     pub fn before_turns(self, count: u32) -> Progress
         ensures { result ≡ with_chain Closed (with_count count self) }

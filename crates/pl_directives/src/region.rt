@@ -2,9 +2,10 @@ ghost use Rattle.std.specs.Prelude.{◌≡◌, ◌+◌, codes, IfOk};
 ghost use Rattle.pl_base.specs.declared.value.Value.{out-Value};
 ghost use Rattle.pl_literal.specs.Items.{is};
 ghost use Rattle.pl_directives.specs.Regions.{form_named, is_quiet, region_of_key, under, inside};
-ghost use Rattle.pl_directives.specs.Regions.{is_call};
-ghost use Rattle.pl_directives.specs.Regions.{is_template, may_call};
+ghost use Rattle.pl_directives.specs.Regions.{of_item, form_at, call_form, is_begun, is_path};
+ghost use Rattle.pl_directives.specs.Regions.{is_template};
 
+use crate::progress::Content;
 use pl_base::{MarkedNode, Memory, Text, Value};
 
 /// The lists whose items may call templates, by their keys.
@@ -23,6 +24,8 @@ pub enum Region {
     Free,
     /// It's the value of such a key: where it is a list, its items may be calls.
     Calls(Form),
+    /// It's such an item: its first key may be that of a call.
+    Item(Form),
     /// Nothing in it is a call.
     Quiet,
 }
@@ -67,7 +70,7 @@ impl Region {
     {
         match self {
             Region::Quiet => Region::Quiet,
-            Region::Free | Region::Calls(_) => region_of_key(key),
+            Region::Free | Region::Calls(_) | Region::Item(_) => region_of_key(key),
         }
     }
 
@@ -77,25 +80,49 @@ impl Region {
     {
         match self {
             Region::Quiet => Region::Quiet,
-            Region::Free | Region::Calls(_) => Region::Free,
+            Region::Free | Region::Calls(_) | Region::Item(_) => Region::Free,
         }
     }
 
-    /// Whether the items of a list that stands here may be calls.
-    pub fn may_call(self) -> bool
-        ensures { result ≡ may_call self }
+    /// The region of the pairs of a mapping that is an item of a list that stands here.
+    pub fn of_item(self) -> Region
+        ensures { result ≡ of_item self }
     {
         match self {
-            Region::Calls(_) => true,
-            Region::Free | Region::Quiet => false,
+            Region::Calls(form) => Region::Item(form),
+            Region::Free | Region::Item(_) | Region::Quiet => self,
         }
     }
 
-    /// Whether an item of a list that stands here calls a template.
-    pub fn is_call(self, item: &MarkedNode) -> bool
-        ensures { result ≡ is_call self item.now }
+    /// What the items of a list that stands here may call.
+    pub fn form_at(self) -> Option<Form>
+        ensures { result ≡ form_at self }
     {
-        self.may_call() && is_template(&item.value)
+        match self {
+            Region::Calls(form) | Region::Item(form) => Some(form),
+            Region::Free | Region::Quiet => None,
+        }
+    }
+
+    /// What an item of a list that stands here calls, if it is a call.
+    pub fn call_form(self, item: &MarkedNode) -> Option<Form>
+        ensures { result ≡ call_form self item.now }
+    {
+        if is_template(&item.value) {
+            self.form_at()
+        } else {
+            None
+        }
+    }
+
+    /// Whether the value of a key behind what is there is the path of a call.
+    pub fn is_path(self, content: &Content, key: &Text) -> bool
+        ensures { result ≡ is_path self content.now key.now }
+    {
+        match self {
+            Region::Item(_) => is_begun(content) && names_template(key),
+            Region::Free | Region::Calls(_) | Region::Quiet => false,
+        }
     }
 }
 
@@ -104,6 +131,16 @@ pub fn names_template(key: &Text) -> bool
     ensures { result ≡ is key.now (codes "template") }
 {
     key.as_str() == "template"
+}
+
+/// Whether what is there are pairs, and none yet.
+fn is_begun(content: &Content) -> bool
+    ensures { result ≡ is_begun content.now }
+{
+    match content {
+        Content::Pairs(pairs) => pairs.is_empty(),
+        Content::Items(_) | Content::Unknown => false,
+    }
 }
 
 fn is_template(value: &Value) -> bool
@@ -118,11 +155,13 @@ fn is_template(value: &Value) -> bool
     }
 }
 
-/// Where a node stands, and how many nodes may still stand in it in one another.
+/// Where a node stands, how many nodes may still stand in it in one another, and how many levels of
+/// templates may still be called from it.
 #[derive(Clone, Copy)]
 pub struct Standing {
     pub region: Region,
     pub levels: u32,
+    pub calls: u32,
 }
 
 impl Standing {
@@ -130,11 +169,13 @@ impl Standing {
     pub fn under(self, key: &Text) -> Standing
         ensures region { result.region ≡ under key.now self.region }
         ensures levels { result.levels ≡ self.levels }
+        ensures calls { result.calls ≡ self.calls }
     {
         let region = self.region.under(key);
         Standing {
             region,
             levels: self.levels,
+            calls: self.calls,
         }
     }
 
@@ -142,11 +183,27 @@ impl Standing {
     pub fn inside(self) -> Standing
         ensures region { result.region ≡ inside self.region }
         ensures levels { result.levels ≡ self.levels }
+        ensures calls { result.calls ≡ self.calls }
     {
         let region = self.region.inside();
         Standing {
             region,
             levels: self.levels,
+            calls: self.calls,
+        }
+    }
+
+    /// Where the pairs of a mapping that is an item stand.
+    pub fn of_item(self) -> Standing
+        ensures region { result.region ≡ of_item self.region }
+        ensures levels { result.levels ≡ self.levels }
+        ensures calls { result.calls ≡ self.calls }
+    {
+        let region = self.region.of_item();
+        Standing {
+            region,
+            levels: self.levels,
+            calls: self.calls,
         }
     }
 
@@ -154,11 +211,13 @@ impl Standing {
     pub fn below(self) -> Result<Standing, Memory>
         ensures region { IfOk result (λ at. at.region ≡ self.region) }
         ensures levels { IfOk result (λ at. at.levels + 1 ≡ self.levels) }
+        ensures calls { IfOk result (λ at. at.calls ≡ self.calls) }
     {
         let levels = self.levels.checked_sub(1).ok_or(Memory)?;
         Ok(Standing {
             region: self.region,
             levels,
+            calls: self.calls,
         })
     }
 }

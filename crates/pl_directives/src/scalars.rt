@@ -5,21 +5,19 @@ ghost use Rattle.pl_frame.specs.declared.problem.ExpressionProblem.{ExpressionPr
 ghost use Rattle.pl_directives.specs.Gives.{Gives};
 ghost use Rattle.pl_directives.specs.Scalars.{problem_of, told_at, value_at, truth_at, one_more};
 ghost use Rattle.pl_directives.specs.Scalars.{counted_value_at, piece_behind, pieces_behind};
-ghost use Rattle.pl_directives.specs.Scalars.{plain_scalar, whole_scalar, joined_scalar, scalar_at};
+ghost use Rattle.pl_directives.specs.Scalars.{plain_scalar, joined_scalar};
 ghost use Rattle.pl_directives.specs.Counting.{counted};
 ghost use Rattle.pl_frame.specs.Trees.{nodes_in};
 
-use crate::calls::settle;
 use crate::fault::{ExpandFault, ExpandProblem};
 use crate::progress::Counted;
-use crate::refusing::{MOST_NODES, complain, count_more, enter};
-use crate::region::Region;
+use crate::refusing::{MOST_NODES, complain, count_more};
 use pl_base::{ExactCopy, List, MarkedNode, Memory, Place, Text, Value};
 use pl_expr::{to_bool, to_text};
 use pl_frame::{
     ExpressionFault, ExpressionProblem, Frame, count_nodes, expression_at, literal_at, made_at,
 };
-use pl_template::{Piece, ScalarForm, scalar_form};
+use pl_template::Piece;
 use std::alloc::Global;
 
 fn problem_of(problem: ExpressionProblem) -> ExpandProblem
@@ -176,7 +174,7 @@ fn join_pieces(
 }
 
 /// A scalar without an expression.
-fn plain_scalar(
+pub fn plain_scalar(
     alloc: Global,
     text: &Text,
     frame: &Frame,
@@ -192,7 +190,7 @@ fn plain_scalar(
 }
 
 /// A scalar that pieces are joined to.
-fn joined_scalar(
+pub fn joined_scalar(
     alloc: Global,
     pieces: &List<Piece>,
     frame: &Frame,
@@ -213,47 +211,4 @@ fn joined_scalar(
     let value = Value::Str(text);
     let node = MarkedNode { origin, value };
     Ok(Counted { node, count })
-}
-
-/// A scalar that is one expression.
-fn whole_scalar(
-    alloc: Global,
-    inside: &Text,
-    frame: &Frame,
-    region: Region,
-    place: &Place,
-    count: u32,
-) -> Result<Counted, ExpandFault>
-    ensures { Gives result (whole_scalar inside.now frame.now region place.now count) }
-{
-    let one = counted_value_at(alloc, frame, place, inside, count)?;
-    let node = settle(alloc, region, one.node)?;
-    Ok(Counted {
-        node,
-        count: one.count,
-    })
-}
-
-/// A scalar in a region: its text where no expression stands in it, the value of the one expression
-/// that it is, else the joined text. X5 where an expression has no end.
-pub fn expand_scalar(
-    alloc: Global,
-    text: &Text,
-    frame: &Frame,
-    region: Region,
-    place: &Place,
-    count: u32,
-) -> Result<Counted, ExpandFault>
-    ensures { Gives result (scalar_at text.now frame.now region place.now count) }
-{
-    let count = enter(alloc, place, count)?;
-    match scalar_form(alloc, text)? {
-        ScalarForm::Plain => Ok(plain_scalar(alloc, text, frame, place, count)?),
-        ScalarForm::Whole(inside) => whole_scalar(alloc, &inside, frame, region, place, count),
-        ScalarForm::Joined(pieces) => joined_scalar(alloc, &pieces, frame, place, count),
-        ScalarForm::Unclosed => {
-            let first = complain(alloc, ExpandProblem::BadDirective, place)?;
-            Err(ExpandFault::Refused(first))
-        }
-    }
 }

@@ -1,2 +1,5 @@
+pub mod Alone
+pub mod Entries
 pub mod Finding
 pub mod OneFile
+pub mod Sides

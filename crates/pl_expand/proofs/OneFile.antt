@@ -6,7 +6,7 @@ use Rattle.std.specs.declared.cmp.Ordering.{Ordering}
 use Rattle.pl_base.proofs.FileKeys.{files_total}
 use Rattle.pl_base.specs.Files.{file_cmp}
 use Rattle.pl_base.specs.declared.place.FileKey.{FileKey}
-use Rattle.pl_expand.specs.declared.files.Parsed.{Parsed}
+use Rattle.pl_calls.specs.declared.files.Parsed.{Parsed}
 
 -- what it has at a key, by the order of that key and the file's
 pub one_file :

@@ -1,2 +1,4 @@
+pub mod Extending
+pub mod Reading
 pub mod Resources
 pub mod Tree

@@ -17,6 +17,7 @@ use Rattle.pl_template.specs.Cutting.{holds_opening}
 use Rattle.pl_directives.specs.declared.fault.Complaint.{Complaint}
 use Rattle.pl_directives.specs.declared.fault.ExpandProblem.TheVariants.{BadDirective, WrongKind}
 use Rattle.pl_directives.specs.Complaints.{complaint}
+use Rattle.pl_calls.specs.Parts.{body_of, text_in, items_in, pairs_in, under, text_under}
 use Rattle.pl_expand.specs.declared.resources.Judging.{Judging}
 
 -- ---- Expressions have no place in resources: the first key or scalar that holds one.
@@ -47,34 +48,7 @@ abbrev pub pair_opening : NodePair → Option Place
 pair_opening =
     fold-NodePair Opened (Option Place) (Option Place) opened_in opened_at opened_in_pair
 
--- ---- parts of nodes
-
-abbrev pub Body : Type 0
-Body = NodeBody-F NodeBody Node NodePair
-
-abbrev pub body_of : Node → Body
-body_of node = out-NodeBody node.body
-
-abbrev pub text_in : Body → Option (List ℕ)
-text_in (Scalar text) = Some text
-text_in other = None
-
-abbrev pub items_in : Body → Option (List Node)
-items_in (Seq items) = Some items
-items_in other = None
-
-abbrev pub pairs_in : Body → Option (List NodePair)
-pairs_in (Map pairs) = Some pairs
-pairs_in other = None
-
--- the value under a key
-abbrev pub under : List ℕ → List NodePair → Option Node
-under key pairs = option_map (λ pair. pair.item) (find (λ pair. is pair.key key) pairs)
-
 -- ---- one repository
-
-abbrev pub text_under : List ℕ → List NodePair → Option (List ℕ)
-text_under key pairs = option_and_then (λ node. text_in (body_of node)) (under key pairs)
 
 -- what is no text, where it stands
 abbrev pub textless : Node → Option (List ℕ) → List Complaint

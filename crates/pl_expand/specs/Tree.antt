@@ -32,25 +32,19 @@ use Rattle.pl_line.specs.declared.code.YamlCode.{YamlCode}
 use Rattle.pl_literal.specs.Booleans.{spells}
 use Rattle.pl_literal.specs.Items.{is}
 use Rattle.pl_literal.specs.Literal.{literal, origin_at}
-use Rattle.pl_params.specs.Binding.{binds}
-use Rattle.pl_params.specs.Declaring.{declares}
-use Rattle.pl_params.specs.declared.fault.Complaint.{Complaint as ParamComplaint}
 use Rattle.pl_params.specs.declared.given.Bound.{Bound}
 use Rattle.pl_params.specs.declared.given.Given.{Given}
 use Rattle.pl_params.specs.declared.kind.ParamKind.{ParamKind}
 use Rattle.pl_params.specs.declared.kind.ParamKind.TheVariants as kind
 use Rattle.pl_params.specs.declared.param.Param.{Param}
 use Rattle.pl_yaml.specs.Spells as yaml
-use Rattle.pl_yaml.specs.declared.fault.YamlFault.{YamlFault}
-use Rattle.pl_yaml.specs.declared.fault.YamlFault.TheVariants as fault
 use Rattle.pl_directives.specs.declared.fault.Complaint.{Complaint}
 use Rattle.pl_directives.specs.declared.fault.ExpandFault.{ExpandFault}
 use Rattle.pl_directives.specs.declared.fault.ExpandFault.TheVariants.{Refused}
 use Rattle.pl_directives.specs.declared.fault.ExpandProblem.TheVariants.{FileMissing, WrongKind}
-use Rattle.pl_directives.specs.declared.fault.ExpandProblem.TheVariants.{BadFile}
-use Rattle.pl_directives.specs.declared.fault.ExpandProblem.TheVariants.{Parameter as BadParameter}
-use Rattle.pl_expand.specs.declared.files.Parsed.{Parsed}
-use Rattle.pl_expand.specs.declared.files.Parsed.TheVariants.{Good, Bad}
+use Rattle.pl_directives.specs.declared.fault.ExpandProblem.TheVariants.{BadFile, KeyTwice}
+use Rattle.pl_calls.specs.declared.files.Parsed.{Parsed}
+use Rattle.pl_calls.specs.declared.reaching.Home.{Home}
 use Rattle.pl_directives.specs.declared.manner.Kind.TheVariants as content
 use Rattle.pl_directives.specs.declared.progress.Chain.TheVariants.{Closed}
 use Rattle.pl_directives.specs.declared.progress.Content.{Content}
@@ -60,15 +54,26 @@ use Rattle.pl_directives.specs.declared.progress.Progress.{Progress}
 use Rattle.pl_directives.specs.declared.region.Form.TheVariants.{Variables as InVariables}
 use Rattle.pl_directives.specs.declared.region.Region.TheVariants.{Free, Calls}
 use Rattle.pl_expand.specs.declared.root.RootTree.{RootTree}
+use Rattle.pl_expand.specs.declared.root.RootNode.{RootNode}
+use Rattle.pl_expand.specs.declared.extending.Extension.{Extension}
+use Rattle.pl_expand.specs.declared.filling.RootFilling.{RootFilling}
 use Rattle.pl_expand.specs.declared.filling.Early.{Early}
 use Rattle.pl_expand.specs.declared.root_key.RootKey.{RootKey}
 use Rattle.pl_expand.specs.declared.root_key.RootKey.TheVariants.{Parameters, Resources, Extends}
 use Rattle.pl_expand.specs.declared.root_key.RootKey.TheVariants.{Variables, Other}
-use Rattle.pl_directives.specs.Complaints.{complaint, refused, wanting}
-use Rattle.pl_directives.specs.Contents.{begun, with_chain, distinct, put_pair}
+use Rattle.pl_directives.specs.Complaints.{complaint, refused}
+use Rattle.pl_directives.specs.Contents.{begun, with_chain, with_count, put_pair}
 use Rattle.pl_directives.specs.Counting.{entered}
-use Rattle.pl_directives.specs.Expanding.{expanded, entry_of, pair_behind}
-use Rattle.pl_expand.specs.Resources.{Body, body_of, under, is_before, earliest}
+use Rattle.pl_calls.specs.Judging.{unless_at}
+use Rattle.pl_calls.specs.Meant.{◌>>>◌, alone}
+use Rattle.pl_calls.specs.Parameters.{declared_by, bound_to}
+use Rattle.pl_calls.specs.Parts.{Body, body_of, under, key_place_of}
+use Rattle.pl_calls.specs.Reaching.{Opens, node_in, opens, same_file}
+use Rattle.pl_expanding.specs.Expanding.{expanded, entry_of, pair_behind}
+use Rattle.pl_expanding.specs.Following.{Follow}
+use Rattle.pl_expanding.specs.Levels.{followed}
+use Rattle.pl_expand.specs.Extending.{extended, merged}
+use Rattle.pl_expand.specs.Resources.{is_before, earliest}
 use Rattle.pl_expand.specs.Resources.{resources_complaints, repositories_in}
 use Rattle.pl_directives.specs.Steps.{◌>>=◌}
 
@@ -76,9 +81,7 @@ use Rattle.pl_directives.specs.Steps.{◌>>=◌}
 
 abbrev pub root_node : FileKey → Option Parsed → Result Node ExpandFault
 root_node root None = refused FileMissing (place_at root 1 1)
-root_node root (Some (Good node)) = Ok node
-root_node root (Some (Bad (fault.Refused code place))) = refused (BadFile code) place
-root_node root (Some (Bad fault.Memory)) = wanting
+root_node root (Some file) = node_in file
 
 -- ---- what its literal keys say before anything is expanded
 
@@ -89,9 +92,6 @@ later left right = if is_before left right then right else left
 abbrev pub beside : Option Place → Option Place → List Complaint
 beside (Some extends) (Some form) = complaint WrongKind (later extends form) ∷ []
 beside extends form = []
-
-abbrev pub key_place_of : List ℕ → List NodePair → Option Place
-key_place_of key pairs = option_map (λ pair. pair.key_place) (find (λ pair. is pair.key key) pairs)
 
 abbrev pub form_beside : List ℕ → List NodePair → List Complaint
 form_beside form pairs = beside (key_place_of (codes "extends") pairs) (key_place_of form pairs)
@@ -114,14 +114,6 @@ abbrev pub repositories_of : Option Node → List Repository
 repositories_of resources = option_map_or repositories_in resources []
 
 -- ---- its parameters
-
-abbrev pub parameter_told : {X : Type 0} → Result X ParamComplaint → Result X ExpandFault
-parameter_told (Ok value) = Ok value
-parameter_told (Err first) = refused (BadParameter first.problem) first.place
-
-abbrev pub declared_by : Option Node → Result (List Param) ExpandFault
-declared_by None = Ok []
-declared_by (Some node) = parameter_told (declares node)
 
 -- the file in which a run argument stands
 abbrev pub argument_file : List ℕ → FileKey
@@ -175,7 +167,7 @@ arguments_given declared (argument ∷ arguments) given =
 
 abbrev pub bound_by : List Param → List Argument → Result (List Bound) ExpandFault
 bound_by declared arguments =
-    arguments_given declared arguments [] >>= λ given. parameter_told (binds declared given)
+    arguments_given declared arguments [] >>= bound_to declared
 
 abbrev pub parameters_by : Option Node → List Argument → Result (List Parameter) ExpandFault
 parameters_by node arguments =
@@ -201,11 +193,12 @@ first_frame root parameters = root_frame root parameters (variables_of root.git_
 
 -- ---- its variables, which are expanded before all else
 
-abbrev pub early_by : Option Node → Frame → ℕ → Result Early ExpandFault
-early_by None frame count = Ok (record { node = None; count = count })
-early_by (Some node) frame count =
-    expanded node frame (Calls InVariables) count >>= λ one.
-    Ok (record { node = Some one.node; count = one.count })
+abbrev pub early_by :
+    Option Node → Follow → Frame → ℕ → List FileKey → Result (Early × List FileKey) ExpandFault
+early_by None follow frame count used = Ok (record { node = None; count = count }, used)
+early_by (Some node) follow frame count used =
+    expanded node follow frame (Calls InVariables) count used >>> λ one used.
+    Ok (record { node = Some one.node; count = one.count }, used)
 
 -- what templates see of it
 abbrev pub early_value : Option MarkedNode → Value
@@ -230,16 +223,49 @@ put_variables node pair frame progress =
     (record { key = pair.key; key_origin = literal_at frame pair.key_place; item = node })
     progress.count progress
 
--- The pair of `variables` has the value that was expanded early. Within one file nothing is
--- extended.
-abbrev pub root_pair :
-    RootKey → Option MarkedNode → NodePair → Frame → Progress → Result Progress ExpandFault
-root_pair Parameters early pair frame progress = Ok (with_chain Closed progress)
-root_pair Resources early pair frame progress = Ok (with_chain Closed progress)
-root_pair Extends early pair frame progress = refused WrongKind pair.key_place
-root_pair Variables (Some node) pair frame progress = put_variables node pair frame progress
-root_pair Variables None pair frame progress = pair_behind (entry_of pair) frame Free progress
-root_pair Other early pair frame progress = pair_behind (entry_of pair) frame Free progress
+-- The pair of `variables` has the value that was expanded early, and `extends` is followed where it
+-- stands.
+abbrev pub filled_with : Option Extension → Progress → RootFilling
+filled_with extension progress = record { progress = progress; extension = extension }
+
+abbrev pub Rooting : Type 0
+Rooting =
+    Opens → Frame → RootFilling → List FileKey → Result (RootFilling × List FileKey) ExpandFault
+
+abbrev pub ordinary_pair : NodePair → Rooting
+ordinary_pair pair opens frame filling used =
+    pair_behind (entry_of pair) (followed 100 opens) frame Free filling.progress used >>>
+    λ after used. Ok (filled_with filling.extension after, used)
+
+-- what the template gives that `extends` leads to; a chain of branches ends there
+abbrev pub extends_pair : NodePair → Rooting
+extends_pair pair opens frame filling used =
+    extended opens pair.item frame filling.progress.count used >>> λ extension used.
+    Ok (
+      filled_with (Some extension)
+          (with_chain Closed (with_count extension.count filling.progress)),
+      used,
+    )
+
+-- a pair that gives nothing ends one too
+abbrev pub passed_over : RootFilling → RootFilling
+passed_over filling = filled_with filling.extension (with_chain Closed filling.progress)
+
+abbrev pub variables_pair :
+    MarkedNode → NodePair → Frame → RootFilling → Result RootFilling ExpandFault
+variables_pair node pair frame filling =
+    put_variables node pair frame filling.progress >>= λ after.
+    Ok (filled_with filling.extension after)
+
+abbrev pub root_pair : RootKey → Option MarkedNode → NodePair → Rooting
+root_pair Parameters early pair opens frame filling used = Ok (passed_over filling, used)
+root_pair Resources early pair opens frame filling used = Ok (passed_over filling, used)
+root_pair Extends early pair opens frame filling used = extends_pair pair opens frame filling used
+root_pair Variables (Some node) pair opens frame filling used =
+    alone (variables_pair node pair frame filling) used
+root_pair Variables None pair opens frame filling used =
+    ordinary_pair pair opens frame filling used
+root_pair Other early pair opens frame filling used = ordinary_pair pair opens frame filling used
 
 -- the early value goes to the first key `variables`
 abbrev pub given_to : RootKey → Option MarkedNode → Option MarkedNode
@@ -250,34 +276,47 @@ abbrev pub early_behind : RootKey → Option MarkedNode → Option MarkedNode
 early_behind Variables early = None
 early_behind key early = early
 
-abbrev pub root_pairs :
-    Option MarkedNode → List NodePair → Frame → Progress → Result Progress ExpandFault
-root_pairs early [] frame progress = Ok progress
-root_pairs early (pair ∷ pairs) frame progress =
-    root_pair (root_key pair.key) (given_to (root_key pair.key) early) pair frame progress >>=
-    root_pairs (early_behind (root_key pair.key) early) pairs frame
+abbrev pub root_pairs : Option MarkedNode → List NodePair → Rooting
+root_pairs early [] opens frame filling used = Ok (filling, used)
+root_pairs early (pair ∷ pairs) opens frame filling used =
+    root_pair (root_key pair.key) (given_to (root_key pair.key) early) pair opens frame filling
+    used >>>
+    root_pairs (early_behind (root_key pair.key) early) pairs opens frame
 
 -- the keys of a file that never stand in the tree, wherever they came from
 abbrev pub stands : MarkedPair → Bool
 stands pair =
     not (list_any (is pair.key) (codes "parameters" ∷ codes "resources" ∷ codes "extends" ∷ []))
 
-abbrev pub root_object : Origin → Content → Result MarkedNode ExpandFault
-root_object origin (Pairs pairs) =
-    distinct (first_double pairs) pairs >>= λ pairs.
-    Ok (made origin (Object (filter stands pairs)))
-root_object origin other = refused WrongKind origin.source
+-- its own, of which no key stands twice, and those of the template that it extends
+abbrev pub object_pairs :
+    Option Extension → List MarkedPair → Result (List MarkedPair) ExpandFault
+object_pairs extension pairs =
+    unless_at {X = Unit {0}} KeyTwice (first_double pairs) tt >>= λ none. merged extension (filter stands pairs)
+
+abbrev pub root_object :
+    Option Extension → Origin → Content → Result MarkedNode ExpandFault
+root_object extension origin (Pairs pairs) =
+    object_pairs extension pairs >>= λ all. Ok (made origin (Object all))
+root_object extension origin other = refused WrongKind origin.source
 
 -- ---- the whole
 
-abbrev pub whole : FileKey → List Repository → Counted → RootTree
-whole root repositories one = record {
+-- the root is reached first
+abbrev pub used_files : FileKey → List FileKey → List FileKey
+used_files root used = root ∷ filter (λ key. not (same_file key root)) used
+
+abbrev pub file_of : Extension → FileKey
+file_of extension = extension.file
+
+abbrev pub whole : Home → RootNode → List FileKey → RootTree
+whole home one used = record {
   expanded = record {
     tree = one.node;
-    root = root;
-    extends = None;
-    repositories = repositories;
-    used = root ∷ [];
+    root = home.root;
+    extends = one.extends;
+    repositories = home.repositories;
+    used = used_files home.root used;
   };
   count = one.count;
 }
@@ -287,56 +326,87 @@ second_frame root parameters early =
     root_frame root parameters (variables_of root.git_ref (early_value early))
 
 -- the pairs of the root's mapping, once its variables were expanded
+abbrev pub root_from : Origin → RootFilling → Result RootNode ExpandFault
+root_from origin filling =
+    root_object filling.extension origin filling.progress.content >>= λ node.
+    Ok (record {
+      node = node;
+      extends = option_map file_of filling.extension;
+      count = filling.progress.count;
+    })
+
+abbrev pub filled_in :
+    Place → List NodePair → Frame → Opens → Early → List FileKey →
+    Result (RootNode × List FileKey) ExpandFault
+filled_in place pairs frame opens early used =
+    root_pairs early.node pairs opens frame
+    (filled_with None (begun content.Pairs Closed early.count)) used >>> λ filling used.
+    alone (root_from (literal_at frame place) filling) used
+
 abbrev pub filled_root :
-    FileKey → Place → List NodePair → List Parameter → Early →
-    Result Counted ExpandFault
-filled_root root place pairs parameters early =
-    root_pairs early.node pairs (second_frame root parameters early.node)
-    (begun content.Pairs Closed early.count) >>= λ progress.
-    root_object (literal_at (second_frame root parameters early.node) place) progress.content >>=
-    λ node.
-    Ok (record { node = node; count = progress.count })
+    FileKey → Place → List NodePair → List Parameter → Opens → Early → List FileKey →
+    Result (RootNode × List FileKey) ExpandFault
+filled_root root place pairs parameters opens early used =
+    filled_in place pairs (second_frame root parameters early.node) opens early used
 
 abbrev pub pairs_expanded :
-    FileKey → Place → List NodePair → List Parameter → Result Counted ExpandFault
-pairs_expanded root place pairs parameters =
+    FileKey → Place → List NodePair → List Parameter → Opens →
+    Result (RootNode × List FileKey) ExpandFault
+pairs_expanded root place pairs parameters opens =
     entered place 0 >>= λ count.
-    early_by (under (codes "variables") pairs) (first_frame root parameters) count >>=
-    filled_root root place pairs parameters
+    early_by (under (codes "variables") pairs) (followed 100 opens) (first_frame root parameters)
+    count [] >>>
+    filled_root root place pairs parameters opens
+
+abbrev pub Set : Type 0
+Set = finite.FinMap file_cmp Parsed
+
+abbrev pub home_of : FileKey → List NodePair → Home
+home_of root pairs =
+    record { root = root; repositories = repositories_of (under (codes "resources") pairs) }
 
 abbrev pub mapping_expanded :
-    FileKey → Place → List NodePair → List Argument → Result RootTree ExpandFault
-mapping_expanded root place pairs arguments =
+    Set → FileKey → Place → List NodePair → List Argument → Result RootTree ExpandFault
+mapping_expanded files root place pairs arguments =
     unless (earliest (root_complaints pairs)) pairs >>= λ pairs.
     parameters_by (under (codes "parameters") pairs) arguments >>= λ parameters.
-    pairs_expanded root place pairs parameters >>= λ one.
-    Ok (whole root (repositories_of (under (codes "resources") pairs)) one)
+    pairs_expanded root place pairs parameters (opens files (home_of root pairs)) >>>
+    λ one used. Ok (whole (home_of root pairs) one used)
 
--- a root that is no mapping declares nothing; its schema is judged later
-abbrev pub other_expanded : FileKey → Node → List Argument → Result RootTree ExpandFault
-other_expanded root node arguments =
+-- A root that is no mapping declares nothing, and its schema is judged later. 100 levels of
+-- templates may be called from the root.
+abbrev pub bare_home : FileKey → Home
+bare_home root = record { root = root; repositories = [] }
+
+abbrev pub bare_expanded : Set → FileKey → Node → Frame → Result RootTree ExpandFault
+bare_expanded files root node frame =
+    expanded node (followed 100 (opens files (bare_home root))) frame Free 0 [] >>> λ one used.
+    Ok (whole (bare_home root) (record { node = one.node; extends = None; count = one.count }) used)
+
+abbrev pub other_expanded : Set → FileKey → Node → List Argument → Result RootTree ExpandFault
+other_expanded files root node arguments =
     parameters_by None arguments >>= λ parameters.
-    expanded node (first_frame root parameters) Free 0 >>= λ one.
-    Ok (whole root [] one)
+    bare_expanded files root node (first_frame root parameters)
 
-abbrev pub body_expanded_by : Body → FileKey → Node → List Argument → Result RootTree ExpandFault
-body_expanded_by (Map pairs) root node arguments =
-    mapping_expanded root node.place pairs arguments
-body_expanded_by other root node arguments = other_expanded root node arguments
+abbrev pub body_expanded_by :
+    Body → Set → FileKey → Node → List Argument → Result RootTree ExpandFault
+body_expanded_by (Map pairs) files root node arguments =
+    mapping_expanded files root node.place pairs arguments
+body_expanded_by other files root node arguments = other_expanded files root node arguments
 
-abbrev pub body_expanded : FileKey → Node → List Argument → Result RootTree ExpandFault
-body_expanded root node arguments = body_expanded_by (body_of node) root node arguments
+abbrev pub body_expanded : Set → FileKey → Node → List Argument → Result RootTree ExpandFault
+body_expanded files root node arguments =
+    body_expanded_by (body_of node) files root node arguments
 
-abbrev pub file_expanded : FileKey → Option Parsed → List Argument → Result RootTree ExpandFault
-file_expanded root file arguments =
-    root_node root file >>= λ node. body_expanded root node arguments
+abbrev pub file_expanded :
+    Set → FileKey → Option Parsed → List Argument → Result RootTree ExpandFault
+file_expanded files root file arguments =
+    root_node root file >>= λ node. body_expanded files root node arguments
 
 -- what files, a root and run arguments expand to, with the count
-abbrev pub tree_of :
-    finite.FinMap file_cmp Parsed → FileKey → List Argument → Result RootTree ExpandFault
-tree_of files root arguments = file_expanded root (finite.get files root) arguments
+abbrev pub tree_of : Set → FileKey → List Argument → Result RootTree ExpandFault
+tree_of files root arguments = file_expanded files root (finite.get files root) arguments
 
 -- the same without the count
-abbrev pub expansion :
-    finite.FinMap file_cmp Parsed → FileKey → List Argument → Result Expanded ExpandFault
+abbrev pub expansion : Set → FileKey → List Argument → Result Expanded ExpandFault
 expansion files root arguments = tree_of files root arguments >>= λ whole. Ok whole.expanded

@@ -1,16 +1,12 @@
-ghost use Rattle.std.specs.Prelude.{◌≡◌, ◌++◌, [], List as list, Result as Answer, codes, IfOk};
+ghost use Rattle.std.specs.Prelude.{◌≡◌, ◌++◌, [], Result as Answer, codes, IfOk};
 ghost use Rattle.std.specs.Option.{option_copied};
 ghost use Rattle.pl_base.specs.Places.{place_at};
 ghost use Rattle.pl_base.specs.declared.node.Node.{Node as Tree};
 ghost use Rattle.pl_base.specs.declared.place.Place.{Place as Where};
 ghost use Rattle.pl_line.specs.declared.code.YamlCode.{YamlCode as Code};
 ghost use Rattle.pl_yaml.specs.Spells as yaml;
-ghost use Rattle.pl_params.specs.Gives as params;
-ghost use Rattle.pl_params.specs.declared.fault.Complaint.{Complaint as ParamComplaint};
-ghost use Rattle.pl_params.specs.declared.given.Bound.{Bound as BoundTo};
-ghost use Rattle.pl_params.specs.declared.param.Param.{Param as Declaration};
 ghost use Rattle.pl_directives.specs.Gives.{Gives};
-ghost use Rattle.pl_expand.specs.Tree.{parameter_told, declared_by, argument_file, whole_text};
+ghost use Rattle.pl_expand.specs.Tree.{argument_file, whole_text};
 ghost use Rattle.pl_expand.specs.Tree.{read_told, argument_value, kind_for, argument_given};
 ghost use Rattle.pl_expand.specs.Tree.{arguments_given, bound_by, parameters_by, is_text};
 
@@ -18,54 +14,13 @@ use pl_base::{
     Argument, ExactCopy, FileKey, List, MarkedNode, Memory, Node, Origin, Place, Shared,
     SharedList, Text, Value,
 };
+use pl_calls::{bound_to, declared_by};
 use pl_directives::{Complaint, ExpandFault, ExpandProblem};
 use pl_frame::{Parameter, parameters_of};
 use pl_literal::{literal, spells};
-use pl_params::{Bound, Declared, Given, ParamFault, ParamKind, bind, declare};
+use pl_params::{Bound, Declared, Given, ParamKind};
 use pl_yaml::{YamlFault, read};
 use std::alloc::Global;
-
-/// Declarations, or what is wrong with them.
-fn told_declared(found: Result<Declared, ParamFault>) -> Result<Declared, ExpandFault>
-    ensures { (meant : Answer (list Declaration) ParamComplaint) → params.Gives found meant →
-        Gives result (parameter_told meant) }
-{
-    match found {
-        Ok(declared) => Ok(declared),
-        Err(ParamFault::Refused(first)) => {
-            let problem = ExpandProblem::Parameter(first.problem);
-            let place = first.place;
-            Err(ExpandFault::Refused(Complaint { problem, place }))
-        }
-        Err(ParamFault::Memory) => Err(ExpandFault::Memory),
-    }
-}
-
-/// What is bound, or what is wrong with it.
-fn told_bound(found: Result<List<Bound>, ParamFault>) -> Result<List<Bound>, ExpandFault>
-    ensures { (meant : Answer (list BoundTo) ParamComplaint) → params.Gives found meant → Gives
-        result (parameter_told meant) }
-{
-    match found {
-        Ok(bound) => Ok(bound),
-        Err(ParamFault::Refused(first)) => {
-            let problem = ExpandProblem::Parameter(first.problem);
-            let place = first.place;
-            Err(ExpandFault::Refused(Complaint { problem, place }))
-        }
-        Err(ParamFault::Memory) => Err(ExpandFault::Memory),
-    }
-}
-
-/// The declared parameters. X14 where a declaration is wrong.
-fn declared_by(alloc: Global, node: Option<&Node>) -> Result<Declared, ExpandFault>
-    ensures { Gives result (declared_by (option_copied node.entry)) }
-{
-    match node {
-        Some(node) => told_declared(declare(alloc, node)),
-        None => Ok(List::new(alloc)),
-    }
-}
 
 /// The path of the file in which a run argument stands.
 fn argument_path(alloc: Global, name: &Text) -> Result<Text, Memory>
@@ -239,7 +194,7 @@ fn bound_by(
     ensures { Gives result (bound_by declared.now arguments.now) }
 {
     let given = arguments_given(alloc, declared, arguments)?;
-    told_bound(bind(alloc, declared, &given))
+    bound_to(alloc, declared, &given)
 }
 
 /// The root file's parameters: what is declared, bound to the run arguments.

@@ -1,11 +1,11 @@
 ghost use Rattle.std.specs.Prelude.{◌≡◌, ◌++◌, IfOk};
 ghost use Rattle.std.specs.Option.{option_copied};
 ghost use Rattle.pl_expand.specs.Resources.{is_before, earlier, earliest, resources_complaints};
-ghost use Rattle.pl_expand.specs.Tree.{later, beside, key_place_of, root_complaints};
+ghost use Rattle.pl_expand.specs.Tree.{later, beside, root_complaints};
 
-use crate::parts::under;
 use crate::resources::{judge_mapping, opening};
 use pl_base::{List, Memory, Node, NodePair, Place};
+use pl_calls::{key_place, under};
 use pl_directives::{Complaint, ExpandProblem, complain};
 use std::alloc::Global;
 
@@ -62,19 +62,6 @@ fn judge_resources(alloc: Global, node: &Node) -> Result<List<Complaint>, Memory
     }
     let more = judge_mapping(alloc, node)?;
     joined(all, more)
-}
-
-/// Where a key stands.
-#[tactic(auto, using(crate::proofs::Finding::find_drop_yes, crate::proofs::Finding::find_drop_no))]
-fn key_place<'n>(key: &str, pairs: &'n List<NodePair>) -> Option<&'n Place>
-    ensures { option_copied result ≡ key_place_of key.now pairs.now }
-{
-    for pair in pairs.as_slice() {
-        if pair.key.as_str() == key {
-            return Some(&pair.key_place);
-        }
-    }
-    None
 }
 
 /// The later of two places of a file.

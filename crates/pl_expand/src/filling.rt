@@ -1,19 +1,33 @@
 ghost use Rattle.std.specs.Prelude.{◌≡◌, filter, IfOk};
-ghost use Rattle.std.specs.Option.{option_copied};
+ghost use Rattle.std.specs.Option.{option_copied, option_map};
+ghost use Rattle.pl_calls.specs.Gives.{GivesUsed};
+ghost use Rattle.pl_calls.specs.Judging.{unless_at};
+ghost use Rattle.pl_calls.specs.Reaching.{opens};
 ghost use Rattle.pl_directives.specs.Gives.{Gives};
+ghost use Rattle.pl_directives.specs.declared.fault.ExpandProblem.TheVariants.{KeyTwice};
+ghost use Rattle.pl_directives.specs.declared.region.Region.TheVariants.{Free};
+ghost use Rattle.pl_expanding.specs.Levels.{followed};
 ghost use Rattle.pl_expand.specs.Tree.{early_by, given_to, early_behind, root_pair, root_pairs};
-ghost use Rattle.pl_expand.specs.Tree.{put_variables, stands, root_object, filled_root};
+ghost use Rattle.pl_expand.specs.Tree.{put_variables, stands, root_object, filled_root, root_from};
+ghost use Rattle.pl_expand.specs.Tree.{ordinary_pair, filled_in, file_of};
+ghost use Rattle.pl_expand.specs.Tree.{extends_pair, variables_pair, object_pairs, passed_over};
+ghost use Rattle.pl_frame.specs.Doubles.{first_double};
 
+use crate::extending::{Extension, extend};
 use crate::frames::second_frame;
+use crate::merging::merge;
+use crate::root::RootNode;
 use crate::root_key::RootKey;
 use pl_base::{
     DEEPEST, ExactCopy, FileKey, List, MarkedNode, MarkedPair, Memory, Node, NodePair, Origin,
     Place, Shared, Value,
 };
+use pl_calls::{Files, Reach};
 use pl_directives::{
-    Chain, Content, Counted, ExpandFault, ExpandProblem, Form, Kind, Progress, Region, Standing,
-    begin, complain, expand_node, fill_pair, put_pair,
+    Chain, Content, ExpandFault, ExpandProblem, Form, Kind, Progress, Region, Standing, begin,
+    complain, put_pair,
 };
+use pl_expanding::{MOST_LEVELS, expand_node, fill_pair};
 use pl_frame::{Frame, Parameter, first_double, literal_at};
 use std::alloc::Global;
 
@@ -25,19 +39,25 @@ pub struct Early {
 }
 
 /// Where the root's mapping stands.
-const ROOT: Standing = Standing {
+pub const ROOT: Standing = Standing {
     region: Region::Free,
     levels: DEEPEST,
+    calls: MOST_LEVELS,
 };
 
 /// The root's variables.
-pub fn early_by(
+pub fn early_by<F: Files>(
     alloc: Global,
     node: Option<&Node>,
     frame: &Frame,
     count: u32,
+    files: &mut F,
+    reach: &mut Reach,
 ) -> Result<Early, ExpandFault>
-    ensures { Gives result (early_by (option_copied node.entry) frame.now count) }
+    ensures early { GivesUsed result reach.new.used (early_by (option_copied node.entry) (followed
+        100 (opens (F.files files.old) reach.old.home)) frame.now count reach.old.used) }
+    ensures files { F.files files.new ≡ F.files files.old }
+    ensures home { reach.new.home ≡ reach.old.home }
 {
     let Some(node) = node else {
         return Ok(Early { node: None, count });
@@ -45,8 +65,9 @@ pub fn early_by(
     let at = Standing {
         region: Region::Calls(Form::Variables),
         levels: DEEPEST,
+        calls: MOST_LEVELS,
     };
-    let one = expand_node(alloc, node, frame, at, count)?;
+    let one = expand_node(alloc, node, frame, at, count, files, reach)?;
     Ok(Early {
         node: Some(one.node),
         count: one.count,
@@ -85,47 +106,148 @@ fn put_variables(
     put_pair(alloc, made, count, progress)
 }
 
-/// A pair of the root's mapping. Within one file X9 stands at `extends`.
-fn fill_root_pair(
+/// The root's pairs so far, and what the template gives that it extends.
+#[derive(Drop)]
+pub struct RootFilling {
+    pub progress: Progress,
+    pub extension: Option<Extension>,
+}
+
+/// A pair that is expanded like any other.
+fn ordinary_pair<F: Files>(
+    alloc: Global,
+    pair: &NodePair,
+    frame: &Frame,
+    filling: RootFilling,
+    files: &mut F,
+    reach: &mut Reach,
+) -> Result<RootFilling, ExpandFault>
+    ensures filled { GivesUsed result reach.new.used (ordinary_pair pair.now (opens (F.files
+        files.old) reach.old.home) frame.now filling reach.old.used) }
+    ensures files { F.files files.new ≡ F.files files.old }
+    ensures home { reach.new.home ≡ reach.old.home }
+{
+    let RootFilling {
+        progress,
+        extension,
+    } = filling;
+    let progress = fill_pair(alloc, pair, frame, ROOT, progress, files, reach)?;
+    Ok(RootFilling {
+        progress,
+        extension,
+    })
+}
+
+/// A pair that gives nothing ends a chain of branches.
+fn passed_over(filling: RootFilling) -> RootFilling
+    ensures { result ≡ passed_over filling }
+{
+    let RootFilling {
+        progress,
+        extension,
+    } = filling;
+    RootFilling {
+        progress: progress.chained(Chain::Closed),
+        extension,
+    }
+}
+
+/// The pair of `extends`.
+fn fill_extends<F: Files>(
+    alloc: Global,
+    pair: &NodePair,
+    frame: &Frame,
+    filling: RootFilling,
+    files: &mut F,
+    reach: &mut Reach,
+) -> Result<RootFilling, ExpandFault>
+    ensures filled { GivesUsed result reach.new.used (extends_pair pair.now (opens (F.files
+        files.old) reach.old.home) frame.now filling reach.old.used) }
+    ensures files { F.files files.new ≡ F.files files.old }
+    ensures home { reach.new.home ≡ reach.old.home }
+{
+    let RootFilling {
+        progress,
+        extension: _,
+    } = filling;
+    let extension = extend(alloc, &pair.item, frame, progress.count, files, reach)?;
+    let progress = progress.at(Chain::Closed, extension.count);
+    Ok(RootFilling {
+        progress,
+        extension: Some(extension),
+    })
+}
+
+/// The pair of the root's variables, where their value is known.
+fn fill_variables(
+    alloc: Global,
+    node: MarkedNode,
+    pair: &NodePair,
+    frame: &Frame,
+    filling: RootFilling,
+) -> Result<RootFilling, ExpandFault>
+    ensures { Gives result (variables_pair node pair.now frame.now filling) }
+{
+    let RootFilling {
+        progress,
+        extension,
+    } = filling;
+    let progress = put_variables(alloc, node, pair, frame, progress)?;
+    Ok(RootFilling {
+        progress,
+        extension,
+    })
+}
+
+/// A pair of the root's mapping.
+#[tactic(auto, using(crate::proofs::Alone::gives_alone))]
+fn fill_root_pair<F: Files>(
     alloc: Global,
     key: RootKey,
     early: Option<MarkedNode>,
     pair: &NodePair,
     frame: &Frame,
-    progress: Progress,
-) -> Result<Progress, ExpandFault>
-    ensures { Gives result (root_pair key early pair.now frame.now progress) }
+    filling: RootFilling,
+    files: &mut F,
+    reach: &mut Reach,
+) -> Result<RootFilling, ExpandFault>
+    ensures filled { GivesUsed result reach.new.used (root_pair key early pair.now (opens (F.files
+        files.old) reach.old.home) frame.now filling reach.old.used) }
+    ensures files { F.files files.new ≡ F.files files.old }
+    ensures home { reach.new.home ≡ reach.old.home }
 {
     match key {
-        RootKey::Parameters | RootKey::Resources => Ok(progress.chained(Chain::Closed)),
-        RootKey::Extends => {
-            let first = complain(alloc, ExpandProblem::WrongKind, &pair.key_place)?;
-            Err(ExpandFault::Refused(first))
-        }
+        RootKey::Parameters | RootKey::Resources => Ok(passed_over(filling)),
+        RootKey::Extends => fill_extends(alloc, pair, frame, filling, files, reach),
         RootKey::Variables => match early {
-            Some(node) => put_variables(alloc, node, pair, frame, progress),
-            None => fill_pair(alloc, pair, frame, ROOT, progress),
+            Some(node) => fill_variables(alloc, node, pair, frame, filling),
+            None => ordinary_pair(alloc, pair, frame, filling, files, reach),
         },
-        RootKey::Other => fill_pair(alloc, pair, frame, ROOT, progress),
+        RootKey::Other => ordinary_pair(alloc, pair, frame, filling, files, reach),
     }
 }
 
 /// The pairs of the root's mapping.
-fn fill_root_pairs(
+fn fill_root_pairs<F: Files>(
     alloc: Global,
     early: Option<MarkedNode>,
     pairs: &List<NodePair>,
     frame: &Frame,
-    progress: Progress,
-) -> Result<Progress, ExpandFault>
-    ensures { Gives result (root_pairs early pairs.now frame.now progress) }
+    filling: RootFilling,
+    files: &mut F,
+    reach: &mut Reach,
+) -> Result<RootFilling, ExpandFault>
+    ensures filled { GivesUsed result reach.new.used (root_pairs early pairs.now (opens (F.files
+        files.old) reach.old.home) frame.now filling reach.old.used) }
+    ensures files { F.files files.new ≡ F.files files.old }
+    ensures home { reach.new.home ≡ reach.old.home }
 {
     let mut left = early;
-    let mut after = progress;
+    let mut after = filling;
     for pair in pairs.as_slice() {
         let key = RootKey::of(&pair.key);
         let given = given_to(key, &mut left);
-        after = fill_root_pair(alloc, key, given, pair, frame, after)?;
+        after = fill_root_pair(alloc, key, given, pair, frame, after, files, reach)?;
     }
     Ok(after)
 }
@@ -153,43 +275,129 @@ fn standing(alloc: Global, pairs: List<MarkedPair>) -> Result<List<MarkedPair>, 
     Ok(kept)
 }
 
-/// The root's object. X15 stands at the first key that stands before.
-fn root_object(alloc: Global, origin: Origin, content: Content) -> Result<MarkedNode, ExpandFault>
-    ensures { Gives result (root_object origin content) }
+/// X15 at the first key that stands before.
+fn judge_keys(alloc: Global, pairs: &List<MarkedPair>) -> Result<(), ExpandFault>
+    ensures { Gives result (unless_at KeyTwice (first_double pairs.now) tt) }
 {
-    let Content::Pairs(pairs) = content else {
-        let first = complain(alloc, ExpandProblem::WrongKind, &origin.source)?;
-        return Err(ExpandFault::Refused(first));
-    };
-    if let Some(place) = first_double(alloc, &pairs)? {
-        let first = complain(alloc, ExpandProblem::KeyTwice, &place)?;
-        return Err(ExpandFault::Refused(first));
+    match first_double(alloc, pairs)? {
+        None => Ok(()),
+        Some(place) => {
+            let first = complain(alloc, ExpandProblem::KeyTwice, &place)?;
+            Err(ExpandFault::Refused(first))
+        }
     }
-    let value = Value::Object(standing(alloc, pairs)?);
-    Ok(MarkedNode { origin, value })
+}
+
+/// The pairs of the root's object, with those that the template gives that it extends.
+fn object_pairs(
+    alloc: Global,
+    extension: Option<Extension>,
+    pairs: List<MarkedPair>,
+) -> Result<List<MarkedPair>, ExpandFault>
+    ensures { Gives result (object_pairs extension pairs) }
+{
+    judge_keys(alloc, &pairs)?;
+    merge(alloc, extension, standing(alloc, pairs)?)
+}
+
+/// The root's object, with what the template gives that it extends.
+fn root_object(
+    alloc: Global,
+    extension: Option<Extension>,
+    origin: Origin,
+    content: Content,
+) -> Result<MarkedNode, ExpandFault>
+    ensures { Gives result (root_object extension origin content) }
+{
+    match content {
+        Content::Pairs(pairs) => {
+            let all = object_pairs(alloc, extension, pairs)?;
+            Ok(MarkedNode {
+                origin,
+                value: Value::Object(all),
+            })
+        }
+        Content::Items(_) | Content::Unknown => {
+            let first = complain(alloc, ExpandProblem::WrongKind, &origin.source)?;
+            Err(ExpandFault::Refused(first))
+        }
+    }
+}
+
+/// The file of an extension.
+fn file_of(alloc: Global, extension: Option<&Extension>) -> Result<Option<FileKey>, Memory>
+    ensures { IfOk result (λ file. file ≡ option_map file_of (option_copied extension.entry)) }
+{
+    match extension {
+        Some(extension) => Ok(Some(extension.file.copy(alloc)?)),
+        None => Ok(None),
+    }
+}
+
+/// The root's node, once its pairs are there.
+fn root_from(alloc: Global, origin: Origin, filling: RootFilling) -> Result<RootNode, ExpandFault>
+    ensures { Gives result (root_from origin filling) }
+{
+    let RootFilling {
+        progress,
+        extension,
+    } = filling;
+    let Progress {
+        content,
+        chain: _,
+        count,
+    } = progress;
+    let extends = file_of(alloc, extension.as_ref())?;
+    let node = root_object(alloc, extension, origin, content)?;
+    Ok(RootNode {
+        node,
+        extends,
+        count,
+    })
+}
+
+/// The root's mapping, in its frame.
+#[tactic(auto, using(crate::proofs::Alone::gives_alone))]
+fn fill_in<F: Files>(
+    alloc: Global,
+    place: &Place,
+    pairs: &List<NodePair>,
+    frame: &Frame,
+    early: Early,
+    files: &mut F,
+    reach: &mut Reach,
+) -> Result<RootNode, ExpandFault>
+    ensures filled { GivesUsed result reach.new.used (filled_in place.now pairs.now frame.now
+        (opens (F.files files.old) reach.old.home) early reach.old.used) }
+    ensures files { F.files files.new ≡ F.files files.old }
+    ensures home { reach.new.home ≡ reach.old.home }
+{
+    let Early { node, count } = early;
+    let filling = RootFilling {
+        progress: begin(alloc, Kind::Pairs, Chain::Closed, count),
+        extension: None,
+    };
+    let filling = fill_root_pairs(alloc, node, pairs, frame, filling, files, reach)?;
+    let origin = literal_at(alloc, frame, place)?;
+    root_from(alloc, origin, filling)
 }
 
 /// The root's mapping, once its variables were expanded.
-pub fn fill_root(
+pub fn fill_root<F: Files>(
     alloc: Global,
     root: &FileKey,
     place: &Place,
     pairs: &List<NodePair>,
     parameters: &Shared<List<Parameter>>,
     early: Early,
-) -> Result<Counted, ExpandFault>
-    ensures { Gives result (filled_root root.now place.now pairs.now parameters.now early) }
+    files: &mut F,
+    reach: &mut Reach,
+) -> Result<RootNode, ExpandFault>
+    ensures filled { GivesUsed result reach.new.used (filled_root root.now place.now pairs.now
+        parameters.now (opens (F.files files.old) reach.old.home) early reach.old.used) }
+    ensures files { F.files files.new ≡ F.files files.old }
+    ensures home { reach.new.home ≡ reach.old.home }
 {
-    let Early { node, count } = early;
-    let frame = second_frame(alloc, root, parameters, node.as_ref())?;
-    let begun = begin(alloc, Kind::Pairs, Chain::Closed, count);
-    let progress = fill_root_pairs(alloc, node, pairs, &frame, begun)?;
-    let Progress {
-        content,
-        chain: _,
-        count,
-    } = progress;
-    let origin = literal_at(alloc, &frame, place)?;
-    let node = root_object(alloc, origin, content)?;
-    Ok(Counted { node, count })
+    let frame = second_frame(alloc, root, parameters, early.node.as_ref())?;
+    fill_in(alloc, place, pairs, &frame, early, files, reach)
 }

@@ -1,13 +1,14 @@
-//! Pipelines of one file, expanded: directives, expressions, parameters, variables and resources.
+//! Pipelines, expanded: directives, expressions, parameters, variables, resources and templates.
 #![tactic(auto)]
 
 mod arguments;
 mod complaints;
 mod expansion;
-mod files;
+mod extending;
 mod filling;
 mod frames;
-mod parts;
+mod mem_files;
+mod merging;
 mod repositories;
 mod resources;
 mod root;
@@ -16,5 +17,6 @@ mod root_key;
 mod tests;
 
 pub use expansion::expand;
-pub use files::{Files, Parsed};
+pub use mem_files::MemFiles;
+pub use pl_calls::{Files, Parsed};
 pub use pl_directives::{Complaint, ExpandFault, ExpandProblem};

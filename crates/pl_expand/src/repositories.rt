@@ -1,10 +1,11 @@
 ghost use Rattle.std.specs.Prelude.{◌≡◌, codes, map, unwrap_or, IfOk};
 ghost use Rattle.std.specs.Option.{option_copied};
-ghost use Rattle.pl_expand.specs.Resources.{repository_of, repository_at, text_under, listed};
+ghost use Rattle.pl_calls.specs.Parts.{text_under};
+ghost use Rattle.pl_expand.specs.Resources.{repository_of, repository_at, listed};
 ghost use Rattle.pl_expand.specs.Tree.{repositories_of};
 
-use crate::parts::{items_of, pairs_of, text_under, under};
 use pl_base::{ExactCopy, List, Memory, Node, NodePair, Repository, Text};
+use pl_calls::{items_of, pairs_of, text_under, under};
 use std::alloc::Global;
 
 /// The text under a key, or another one where there is none.

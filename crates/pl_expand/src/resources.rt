@@ -8,10 +8,11 @@ ghost use Rattle.pl_expand.specs.Resources.{first_of, opening, pair_opening, no_
 ghost use Rattle.pl_expand.specs.Resources.{taken_alias, repository_complaints};
 ghost use Rattle.pl_expand.specs.Resources.{alias_of, judged_item, judged_items};
 ghost use Rattle.pl_expand.specs.Resources.{repositories_complaints, mapping_complaints};
-ghost use Rattle.pl_expand.specs.Resources.{item_complaints, pairs_in, body_of};
+ghost use Rattle.pl_calls.specs.Parts.{pairs_in, body_of};
+ghost use Rattle.pl_expand.specs.Resources.{item_complaints};
 
-use crate::parts::{items_of, pairs_of, text_of, text_under, under};
 use pl_base::{ExactCopy, List, Memory, Node, NodeBody, NodePair, Place, Text};
+use pl_calls::{items_of, pairs_of, text_of, text_under, under};
 use pl_directives::{Complaint, ExpandProblem, complain};
 use pl_template::begins_expression;
 use std::alloc::Global;

@@ -1,8 +1,8 @@
 ghost use Rattle.std.specs.Prelude.{◌∷◌, []};
 ghost use Rattle.std.specs.FinMap as finite;
 
-use crate::files::{Files, Parsed};
 use pl_base::{ExactCopy, FileKey, Memory, Shared};
+use pl_calls::{Files, Parsed};
 use std::alloc::Global;
 use std::cmp::Ordering;
 

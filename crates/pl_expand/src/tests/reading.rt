@@ -2,9 +2,9 @@ use super::faults::put_fault;
 use super::one_file::OneFile;
 use super::shown::{ROOT, put_node};
 use crate::expansion::expand_counted;
-use crate::files::Parsed;
 use crate::root::RootTree;
 use pl_base::{Argument, FileKey, List, Memory, Shared, Text};
+use pl_calls::Parsed;
 use pl_directives::ExpandFault;
 use pl_yaml::read;
 use std::alloc::Global;
@@ -46,7 +46,7 @@ fn argument(alloc: Global, line: &str) -> Result<Option<Argument>, Memory> {
     }
 }
 
-fn arguments(alloc: Global, lines: &str) -> Result<List<Argument>, Memory> {
+pub fn arguments(alloc: Global, lines: &str) -> Result<List<Argument>, Memory> {
     let mut all = List::new(alloc);
     for line in lines.lines() {
         if let Some(one) = argument(alloc, line)? {

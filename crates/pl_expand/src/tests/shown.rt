@@ -1,15 +1,35 @@
-use pl_base::{Crossing, List, MarkedNode, MarkedPair, Memory, Origin, Place, Text, Value};
+use pl_base::{
+    Crossing, FileKey, List, MarkedNode, MarkedPair, Memory, Origin, Place, Text, Value,
+};
 use pl_expr::to_text;
 use std::alloc::Global;
 
 /// The path of the root file.
 pub const ROOT: &str = "/ci.yml";
 
-/// A place, with its path where it isn't in the root file.
+/// A file: its path, behind its repository and its ref where they aren't those of the root.
+pub fn put_file(out: &mut Text, file: &FileKey) -> Result<(), Memory> {
+    let repo = file.repo.as_str();
+    let git_ref = file.git_ref.as_str();
+    if !(is_root_repo(file) || repo.is_empty()) {
+        out.push_str(repo)?;
+        out.push_str(":")?;
+        if git_ref != "refs/heads/main" {
+            out.push_str(git_ref)?;
+            out.push_str(":")?;
+        }
+    }
+    out.push_str(file.path.as_str())
+}
+
+fn is_root_repo(file: &FileKey) -> bool {
+    file.repo.as_str() == "app" && file.git_ref.as_str() == "refs/heads/main"
+}
+
+/// A place, with its file where it isn't in the root file.
 pub fn put_place(alloc: Global, out: &mut Text, place: &Place) -> Result<(), Memory> {
-    let path = place.file.path.as_str();
-    if path != ROOT {
-        out.push_str(path)?;
+    if !(is_root_repo(&place.file) && place.file.path.as_str() == ROOT) {
+        put_file(out, &place.file)?;
         out.push_str(":")?;
     }
     let numbers = format!(in alloc; "{}:{}", place.line, place.col)?;
@@ -25,7 +45,16 @@ fn put_crossing(alloc: Global, out: &mut Text, crossing: &Crossing) -> Result<()
             out.push_str("@")?;
             put_place(alloc, out, place)
         }
-        Crossing::Extends(_) | Crossing::Include(_, _) => out.push_str("?"),
+        Crossing::Extends(file) => {
+            out.push_str("*")?;
+            put_file(out, file)
+        }
+        Crossing::Include(file, place) => {
+            out.push_str("+")?;
+            put_file(out, file)?;
+            out.push_str("@")?;
+            put_place(alloc, out, place)
+        }
     }
 }
 

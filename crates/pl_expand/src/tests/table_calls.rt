@@ -6,14 +6,14 @@ const STOPS_AT_CALLS: &str = r#"%% a call's item is refused at its mapping
 steps:
 - template: /t.yml
 %out
-fault X9 2:3
+fault X1 2:3
 %% an item of variables is a call, and variables come first
 %in
 a: ${{ foo }}
 variables:
 - template: v.yml
 %out
-fault X9 3:3
+fault X1 3:3
 %% an item of another key is no call
 %in
 a:
@@ -62,14 +62,14 @@ steps:
 - ${{ if true }}:
   - template: t.yml
 %out
-fault X9 3:5
+fault X1 3:5
 %% an item whose branch puts the key first is a call
 %in
 steps:
 - ${{ if true }}:
     template: t.yml
 %out
-fault X9 2:3
+fault X1 2:3
 %% an item of a list within the list is no call
 %in
 steps:
@@ -103,7 +103,7 @@ parameters:
 steps:
 - ${{ parameters.s }}
 %out
-fault X9 4:13
+fault X1 4:13
 %% the key extends is refused at it, in document order
 %in
 a: ${{ foo }}
@@ -117,7 +117,7 @@ extends:
   template: t.yml
 a: ${{ foo }}
 %out
-fault X9 1:1
+fault X1 2:3
 %% a form beside extends is refused at the later key: extends
 %in
 a: ${{ foo }}
@@ -145,7 +145,7 @@ stages:
 - stage: A
 - template: s.yml
 %out
-fault X9 3:3
+fault X1 3:3
 %% an item of jobs within a stage is a call
 %in
 stages:
@@ -153,7 +153,7 @@ stages:
   jobs:
   - template: j.yml
 %out
-fault X9 4:5
+fault X1 4:5
 %% in a branch that isn't taken no item is a call
 %in
 steps:

@@ -161,7 +161,7 @@ count 14
 ${{ 'steps' }}:
 - template: t.yml
 %out
-fault X9 2:3
+fault X1 2:3
 %% an item of steps within a job is a call
 %in
 jobs:
@@ -169,7 +169,7 @@ jobs:
   steps:
   - template: t.yml
 %out
-fault X9 4:5
+fault X1 4:5
 %% an inner mapping is judged for keys that stand twice before what follows it
 %in
 a:

@@ -1,6 +1,6 @@
 use Rattle.std.proofs.Common.{Some, ap, refl, ◌∙◌}
 use Rattle.std.specs.declared.cmp.Ordering.TheVariants.{Less, Equal, Greater}
-use Rattle.pl_expand.specs.declared.files.Parsed.{Parsed}
+use Rattle.pl_calls.specs.declared.files.Parsed.{Parsed}
 use Rattle.pl_expand.proofs.OneFile.{one_file}
 use Rattle.pl_expand.proofs.tests.one_file.OneFileFiles.node.Goals as goal
 

@@ -1,0 +1,7 @@
+pub mod Expanding
+pub mod Following
+pub mod Levels
+pub mod Putting
+pub mod Scalars
+pub mod Settling
+pub mod Steps

@@ -1,0 +1,67 @@
+-- A scalar in a region, and the path of a call (Microsoft Learn, Azure Pipelines, "Template
+-- expressions").
+use Rattle.std.specs.Prelude.{ℕ, List, Result, Ok}
+use Rattle.pl_base.specs.declared.place.FileKey.{FileKey}
+use Rattle.pl_base.specs.declared.place.Place.{Place}
+use Rattle.pl_base.specs.declared.value.Value.{Str}
+use Rattle.pl_eval.specs.LookUps.{made}
+use Rattle.pl_frame.specs.Origins.{literal_at}
+use Rattle.pl_frame.specs.declared.frame.Frame.{Frame}
+use Rattle.pl_template.specs.Forms.{form_of}
+use Rattle.pl_template.specs.declared.forms.ScalarForm.{ScalarForm}
+use Rattle.pl_template.specs.declared.forms.ScalarForm.TheVariants.{Plain, Whole, Joined, Unclosed}
+use Rattle.pl_directives.specs.declared.fault.ExpandFault.{ExpandFault}
+use Rattle.pl_directives.specs.declared.fault.ExpandProblem.TheVariants.{BadDirective}
+use Rattle.pl_directives.specs.declared.keys.MadeKey.{MadeKey}
+use Rattle.pl_directives.specs.declared.progress.Counted.{Counted}
+use Rattle.pl_directives.specs.declared.region.Region.{Region}
+use Rattle.pl_directives.specs.Complaints.{refused}
+use Rattle.pl_directives.specs.Counting.{entered}
+use Rattle.pl_directives.specs.Keys.{key_by}
+use Rattle.pl_directives.specs.Scalars.{counted_value_at, plain_scalar, joined_scalar}
+use Rattle.pl_directives.specs.Steps.{◌>>=◌}
+use Rattle.pl_calls.specs.Meant.{◌>>>◌, alone}
+use Rattle.pl_expanding.specs.Following.{Follow}
+use Rattle.pl_expanding.specs.Settling.{node_settling}
+
+-- ---- a scalar in a region
+
+-- where it is one expression it is that value, of its own kind and with its own origin, in which
+-- calls are followed
+abbrev pub whole_scalar :
+    List ℕ → Follow → Frame → Region → Place → ℕ → List FileKey →
+    Result (Counted × List FileKey) ExpandFault
+whole_scalar inside follow frame region place count used =
+    counted_value_at frame place inside count >>= λ one.
+    node_settling one.node follow frame region one.count used
+
+abbrev pub scalar_by :
+    ScalarForm → List ℕ → Follow → Frame → Region → Place → ℕ → List FileKey →
+    Result (Counted × List FileKey) ExpandFault
+scalar_by Plain text follow frame region place count used =
+    Ok (plain_scalar text frame place count, used)
+scalar_by (Whole inside) text follow frame region place count used =
+    whole_scalar inside follow frame region place count used
+scalar_by (Joined pieces) text follow frame region place count used =
+    alone (joined_scalar pieces frame place count) used
+scalar_by Unclosed text follow frame region place count used = refused BadDirective place
+
+abbrev pub scalar_at :
+    List ℕ → Follow → Frame → Region → Place → ℕ → List FileKey →
+    Result (Counted × List FileKey) ExpandFault
+scalar_at text follow frame region place count used =
+    entered place count >>= λ count.
+    scalar_by (form_of text) text follow frame region place count used
+
+-- ---- the path of a call: a text, and what its expressions yield isn't counted
+
+abbrev pub path_by : ScalarForm → List ℕ → Frame → Place → Result MadeKey ExpandFault
+path_by Plain text frame place =
+    Ok (record { key = text; origin = literal_at frame place })
+path_by form text frame place = key_by form frame place
+
+abbrev pub path_at : List ℕ → Frame → Place → ℕ → Result Counted ExpandFault
+path_at text frame place count =
+    entered place count >>= λ count.
+    path_by (form_of text) text frame place >>= λ path.
+    Ok (record { node = made path.origin (Str path.key); count = count })

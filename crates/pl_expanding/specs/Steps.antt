@@ -1,0 +1,50 @@
+-- The steps of a call, one behind the other.
+use Rattle.std.specs.Prelude.{ℕ, zero, suc, ◌-◌, List, Result}
+use Rattle.pl_base.specs.declared.node.Node.{Node}
+use Rattle.pl_base.specs.declared.place.FileKey.{FileKey}
+use Rattle.pl_base.specs.declared.place.Place.{Place}
+use Rattle.pl_frame.specs.declared.frame.Frame.{Frame}
+use Rattle.pl_directives.specs.declared.fault.ExpandFault.{ExpandFault}
+use Rattle.pl_directives.specs.declared.region.Form.{Form}
+use Rattle.pl_directives.specs.declared.region.Region.TheVariants.{Calls as InCalls}
+use Rattle.pl_directives.specs.declared.fault.ExpandProblem.TheVariants.{NestedTooDeep}
+use Rattle.pl_directives.specs.Complaints.{refused}
+use Rattle.pl_directives.specs.Counting.{entered}
+use Rattle.pl_directives.specs.Steps.{◌>>=◌}
+use Rattle.pl_calls.specs.Calls.{Called}
+use Rattle.pl_calls.specs.Judging.{template_in, body_in}
+use Rattle.pl_calls.specs.Meant.{◌>>>◌, alone}
+use Rattle.pl_calls.specs.Reaching.{Opens, node_in}
+use Rattle.pl_calls.specs.declared.reaching.Opened.{Opened}
+use Rattle.pl_expanding.specs.Expanding.{expanded}
+use Rattle.pl_expanding.specs.Levels.{followed, frame_for, items_from}
+use Rattle.pl_expanding.specs.declared.followed.Followed.{Followed}
+
+-- the body in its frame
+abbrev pub filled_in :
+    Place → Node → Frame → ℕ → Opens → Form → ℕ → List FileKey →
+    Result (Followed × List FileKey) ExpandFault
+filled_in place body inner left opens form count used =
+    entered place count >>= λ count.
+    expanded body (followed left opens) inner (InCalls form) count used >>> λ one used.
+    alone (items_from form body.place one) used
+
+-- from the file on
+abbrev pub found_in :
+    Opened → ℕ → Opens → Frame → Form → Called → ℕ → List FileKey →
+    Result (Followed × List FileKey) ExpandFault
+found_in opened left opens frame form call count used =
+    node_in opened.file >>= λ node.
+    template_in node >>= λ pairs.
+    body_in form node.place pairs >>= λ body.
+    frame_for opened.key (100 - left) pairs call frame >>= λ inner.
+    filled_in node.place body inner left opens form count used
+
+-- from the level on
+abbrev pub reached :
+    ℕ → Opens → Frame → Form → Called → ℕ → List FileKey →
+    Result (Followed × List FileKey) ExpandFault
+reached zero opens frame form call count used = refused NestedTooDeep call.at
+reached (suc left) opens frame form call count used =
+    opens call.at call.path used >>> λ opened used.
+    found_in opened left opens frame form call count used

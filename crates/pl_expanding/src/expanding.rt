@@ -1,0 +1,421 @@
+ghost use Rattle.std.specs.Prelude.{◌≡◌, map};
+ghost use Rattle.pl_calls.specs.Gives.{GivesUsed};
+ghost use Rattle.pl_calls.specs.Reaching.{opens};
+ghost use Rattle.pl_directives.specs.Gives.{Gives};
+ghost use Rattle.pl_directives.specs.Misfits.{problem_of};
+ghost use Rattle.pl_expanding.specs.Expanding.{part_of, entry_of, expanded, body, turns, done};
+ghost use Rattle.pl_expanding.specs.Expanding.{pair_behind, pairs_behind, item_behind};
+ghost use Rattle.pl_expanding.specs.Expanding.{items_behind, mapping_item, path_by, value_under};
+ghost use Rattle.pl_expanding.specs.Levels.{followed};
+
+use crate::facets::manner_of;
+use crate::putting::{add_item, put_alone, splice, spread};
+use crate::scalars::{expand_scalar, path_at};
+use pl_base::{ExactCopy, List, MarkedPair, Node, NodeBody, NodePair, Place, Text};
+use pl_calls::{Files, Reach};
+use pl_directives::{
+    Action, Chain, Counted, ExpandFault, ExpandProblem, Kind, Manner, Misfit, Progress, Standing,
+    Turns, absorb, as_items, as_pairs, begin, begin_spliced, complain, enter, finish, key_asks,
+    put_pair,
+};
+use pl_frame::{Frame, within};
+use std::alloc::Global;
+
+/// A node as a value in a frame, where it stands: a scalar, a sequence's items or a mapping's
+/// pairs.
+#[cycle(expansion)]
+#[tactic(auto, using(crate::proofs::Alone::gives_alone))]
+pub fn expand_node<F: Files>(
+    alloc: Global,
+    node: &Node,
+    frame: &Frame,
+    at: Standing,
+    count: u32,
+    files: &mut F,
+    reach: &mut Reach,
+) -> Result<Counted, ExpandFault>
+    ensures gives { GivesUsed result reach.new.used (expanded node.now (followed at.calls (opens
+        (F.files files.old) reach.old.home)) frame.now at.region count reach.old.used) }
+    ensures files { F.files files.new ≡ F.files files.old }
+    ensures home { reach.new.home ≡ reach.old.home }
+{
+    match &node.body {
+        NodeBody::Scalar(text) => {
+            expand_scalar(alloc, text, frame, at, &node.place, count, files, reach)
+        }
+        NodeBody::Seq(items) => {
+            let count = enter(alloc, &node.place, count)?;
+            let begun = begin(alloc, Kind::Items, Chain::Closed, count);
+            let progress = fill_items(alloc, items, frame, at.below()?, begun, files, reach)?;
+            finish(alloc, frame, &node.place, progress)
+        }
+        NodeBody::Map(pairs) => {
+            let count = enter(alloc, &node.place, count)?;
+            let begun = begin(alloc, Kind::Pairs, Chain::Closed, count);
+            let progress = fill_pairs(alloc, pairs, frame, at.below()?, begun, files, reach)?;
+            finish(alloc, frame, &node.place, progress)
+        }
+    }
+}
+
+/// A node in a directive's place: its items or its pairs are put behind what is there.
+#[cycle(expansion)]
+fn fill_body<F: Files>(
+    alloc: Global,
+    node: &Node,
+    misfit: Misfit,
+    frame: &Frame,
+    at: Standing,
+    progress: Progress,
+    files: &mut F,
+    reach: &mut Reach,
+) -> Result<Progress, ExpandFault>
+    ensures gives { GivesUsed result reach.new.used (body (part_of node.now) (problem_of misfit)
+        (followed at.calls (opens (F.files files.old) reach.old.home)) frame.now at.region
+        progress reach.old.used) }
+    ensures files { F.files files.new ≡ F.files files.old }
+    ensures home { reach.new.home ≡ reach.old.home }
+{
+    let place = &node.place;
+    let count = progress.count;
+    let after = match &node.body {
+        NodeBody::Scalar(text) => {
+            let one = expand_scalar(alloc, text, frame, at, place, count, files, reach)?;
+            absorb(
+                alloc,
+                misfit,
+                place,
+                one.node,
+                progress.at(Chain::Closed, one.count),
+            )?
+        }
+        NodeBody::Seq(items) => {
+            let count = enter(alloc, place, count)?;
+            let begun = as_items(alloc, misfit, place, progress.at(Chain::Closed, count))?;
+            fill_items(alloc, items, frame, at.below()?, begun, files, reach)?
+        }
+        NodeBody::Map(pairs) => {
+            let count = enter(alloc, place, count)?;
+            let begun = as_pairs(alloc, misfit, place, progress.at(Chain::Closed, count))?;
+            fill_pairs(alloc, pairs, frame, at.below()?, begun, files, reach)?
+        }
+    };
+    Ok(after.chained(Chain::Closed))
+}
+
+/// A node in a loop's place, once for each item.
+#[cycle(expansion)]
+fn fill_turns<F: Files>(
+    alloc: Global,
+    steps: &Turns,
+    node: &Node,
+    frame: &Frame,
+    at: Standing,
+    progress: Progress,
+    files: &mut F,
+    reach: &mut Reach,
+) -> Result<Progress, ExpandFault>
+    ensures gives { GivesUsed result reach.new.used (turns steps.now.name (part_of node.now)
+        steps.now.items (followed at.calls (opens (F.files files.old) reach.old.home)) frame.now
+        at.region progress reach.old.used) }
+    ensures files { F.files files.new ≡ F.files files.old }
+    ensures home { reach.new.home ≡ reach.old.home }
+{
+    let mut after = progress;
+    for item in steps.items.as_slice() {
+        let inner = within(alloc, frame, &steps.name, item.copy(alloc)?)?;
+        after = fill_body(
+            alloc,
+            node,
+            Misfit::WrongKind,
+            &inner,
+            at,
+            after,
+            files,
+            reach,
+        )?;
+    }
+    Ok(after)
+}
+
+/// A pair behind what is there: what its key asks for.
+#[cycle(expansion)]
+pub fn fill_pair<F: Files>(
+    alloc: Global,
+    pair: &NodePair,
+    frame: &Frame,
+    at: Standing,
+    progress: Progress,
+    files: &mut F,
+    reach: &mut Reach,
+) -> Result<Progress, ExpandFault>
+    ensures gives { GivesUsed result reach.new.used (pair_behind (entry_of pair.now) (followed
+        at.calls (opens (F.files files.old) reach.old.home)) frame.now at.region progress
+        reach.old.used) }
+    ensures files { F.files files.new ≡ F.files files.old }
+    ensures home { reach.new.home ≡ reach.old.home }
+{
+    let chain = progress.chain;
+    let count = progress.count;
+    let action = key_asks(alloc, &pair.key, frame, &pair.key_place, chain, count)?;
+    fill_asked(alloc, action, &pair.item, frame, at, progress, files, reach)
+}
+
+/// What a key asked for.
+#[cycle(expansion)]
+#[tactic(auto, using(crate::proofs::Alone::gives_alone))]
+fn fill_asked<F: Files>(
+    alloc: Global,
+    action: Action,
+    node: &Node,
+    frame: &Frame,
+    at: Standing,
+    progress: Progress,
+    files: &mut F,
+    reach: &mut Reach,
+) -> Result<Progress, ExpandFault>
+    ensures gives { GivesUsed result reach.new.used (done action (part_of node.now) (followed
+        at.calls (opens (F.files files.old) reach.old.home)) frame.now at.region progress
+        reach.old.used) }
+    ensures files { F.files files.new ≡ F.files files.old }
+    ensures home { reach.new.home ≡ reach.old.home }
+{
+    match action {
+        Action::Put(key, key_origin) => {
+            let is_path = at.region.is_path(&progress.content, &key);
+            let count = progress.count;
+            let one = expand_under(alloc, is_path, &key, node, frame, at, count, files, reach)?;
+            let item = one.node;
+            let pair = MarkedPair {
+                key,
+                key_origin,
+                item,
+            };
+            put_pair(alloc, pair, one.count, progress)
+        }
+        Action::Run(chain) => {
+            let after = fill_body(
+                alloc,
+                node,
+                Misfit::WrongKind,
+                frame,
+                at,
+                progress,
+                files,
+                reach,
+            )?;
+            Ok(after.chained(chain))
+        }
+        Action::Pass(chain) => Ok(progress.chained(chain)),
+        Action::Repeat(steps, count) => {
+            let begun = progress.before_turns(count);
+            fill_turns(alloc, &steps, node, frame, at, begun, files, reach)
+        }
+        Action::Insert => fill_body(
+            alloc,
+            node,
+            Misfit::InsertNoMapping,
+            frame,
+            at,
+            progress,
+            files,
+            reach,
+        ),
+    }
+}
+
+/// The value of a key: the path of a call, or a value like any other.
+#[cycle(expansion)]
+#[tactic(auto, using(crate::proofs::Alone::gives_alone))]
+fn expand_under<F: Files>(
+    alloc: Global,
+    is_path: bool,
+    key: &Text,
+    node: &Node,
+    frame: &Frame,
+    at: Standing,
+    count: u32,
+    files: &mut F,
+    reach: &mut Reach,
+) -> Result<Counted, ExpandFault>
+    ensures gives { GivesUsed result reach.new.used (value_under is_path key.now (part_of
+        node.now) (followed at.calls (opens (F.files files.old) reach.old.home)) frame.now
+        at.region count reach.old.used) }
+    ensures files { F.files files.new ≡ F.files files.old }
+    ensures home { reach.new.home ≡ reach.old.home }
+{
+    if is_path {
+        return expand_path(alloc, node, frame, count);
+    }
+    expand_node(alloc, node, frame, at.under(key), count, files, reach)
+}
+
+/// The path of a call. X9 where it is a list or a mapping.
+pub fn expand_path(
+    alloc: Global,
+    node: &Node,
+    frame: &Frame,
+    count: u32,
+) -> Result<Counted, ExpandFault>
+    ensures { Gives result (path_by (part_of node.now).shape (part_of node.now).place frame.now
+        count) }
+{
+    match &node.body {
+        NodeBody::Scalar(text) => path_at(alloc, text, frame, &node.place, count),
+        _ => {
+            enter(alloc, &node.place, count)?;
+            let first = complain(alloc, ExpandProblem::WrongKind, &node.place)?;
+            Err(ExpandFault::Refused(first))
+        }
+    }
+}
+
+/// Pairs behind what is there.
+#[cycle(expansion)]
+fn fill_pairs<F: Files>(
+    alloc: Global,
+    pairs: &List<NodePair>,
+    frame: &Frame,
+    at: Standing,
+    progress: Progress,
+    files: &mut F,
+    reach: &mut Reach,
+) -> Result<Progress, ExpandFault>
+    ensures gives { GivesUsed result reach.new.used (pairs_behind (map entry_of pairs.now)
+        (followed at.calls (opens (F.files files.old) reach.old.home)) frame.now at.region
+        progress reach.old.used) }
+    ensures files { F.files files.new ≡ F.files files.old }
+    ensures home { reach.new.home ≡ reach.old.home }
+{
+    let mut after = progress;
+    for pair in pairs.as_slice() {
+        after = fill_pair(alloc, pair, frame, at, after, files, reach)?;
+    }
+    Ok(after)
+}
+
+/// Items behind those that are there.
+#[cycle(expansion)]
+fn fill_items<F: Files>(
+    alloc: Global,
+    items: &List<Node>,
+    frame: &Frame,
+    at: Standing,
+    progress: Progress,
+    files: &mut F,
+    reach: &mut Reach,
+) -> Result<Progress, ExpandFault>
+    ensures gives { GivesUsed result reach.new.used (items_behind (map part_of items.now)
+        (followed at.calls (opens (F.files files.old) reach.old.home)) frame.now at.region
+        progress reach.old.used) }
+    ensures files { F.files files.new ≡ F.files files.old }
+    ensures home { reach.new.home ≡ reach.old.home }
+{
+    let mut after = progress;
+    for item in items.as_slice() {
+        after = fill_item(alloc, item, frame, at, after, files, reach)?;
+    }
+    Ok(after)
+}
+
+/// An item behind those that are there.
+#[cycle(expansion)]
+fn fill_item<F: Files>(
+    alloc: Global,
+    node: &Node,
+    frame: &Frame,
+    at: Standing,
+    progress: Progress,
+    files: &mut F,
+    reach: &mut Reach,
+) -> Result<Progress, ExpandFault>
+    ensures gives { GivesUsed result reach.new.used (item_behind (part_of node.now) (followed
+        at.calls (opens (F.files files.old) reach.old.home)) frame.now at.region progress
+        reach.old.used) }
+    ensures files { F.files files.new ≡ F.files files.old }
+    ensures home { reach.new.home ≡ reach.old.home }
+{
+    let place = &node.place;
+    let count = progress.count;
+    match &node.body {
+        NodeBody::Scalar(text) => {
+            let one = expand_scalar(alloc, text, frame, at, place, count, files, reach)?;
+            let progress = progress.at(Chain::Closed, one.count);
+            spread(alloc, frame, at, one.node, progress, files, reach)
+        }
+        NodeBody::Seq(items) => {
+            let count = enter(alloc, place, count)?;
+            let begun = begin(alloc, Kind::Items, Chain::Closed, count);
+            let inner = fill_items(
+                alloc,
+                items,
+                frame,
+                at.inside().below()?,
+                begun,
+                files,
+                reach,
+            )?;
+            let list = finish(alloc, frame, place, inner)?;
+            put_alone(alloc, frame, at, list, progress, files, reach)
+        }
+        NodeBody::Map(pairs) => fill_mapping(
+            alloc, place, pairs, frame, at, progress, files, reach,
+        ),
+    }
+}
+
+/// A mapping that is an item.
+#[cycle(expansion)]
+fn fill_mapping<F: Files>(
+    alloc: Global,
+    place: &Place,
+    pairs: &List<NodePair>,
+    frame: &Frame,
+    at: Standing,
+    progress: Progress,
+    files: &mut F,
+    reach: &mut Reach,
+) -> Result<Progress, ExpandFault>
+    ensures gives { GivesUsed result reach.new.used (mapping_item place.now (map entry_of
+        pairs.now) (followed at.calls (opens (F.files files.old) reach.old.home)) frame.now
+        at.region progress reach.old.used) }
+    ensures files { F.files files.new ≡ F.files files.old }
+    ensures home { reach.new.home ≡ reach.old.home }
+{
+    let count = enter(alloc, place, progress.count)?;
+    match manner_of(alloc, pairs)? {
+        Manner::Empty => {
+            let begun = begin(alloc, Kind::Pairs, Chain::Closed, count);
+            let one = finish(alloc, frame, place, begun)?;
+            put_alone(alloc, frame, at, one, progress, files, reach)
+        }
+        Manner::Stays => {
+            let begun = begin(alloc, Kind::Pairs, progress.chain, count);
+            let inner_at = at.of_item().below()?;
+            let inner = fill_pairs(alloc, pairs, frame, inner_at, begun, files, reach)?;
+            let progress = progress.at(inner.chain, inner.count);
+            let one = finish(alloc, frame, place, inner)?;
+            add_item(alloc, frame, at, one.node, progress, files, reach)
+        }
+        Manner::Splices(kind) => {
+            let begun = begin_spliced(alloc, kind, progress.chain, count);
+            let inner_at = at.of_item().below()?;
+            let inner = fill_pairs(alloc, pairs, frame, inner_at, begun, files, reach)?;
+            let progress = progress.at(inner.chain, inner.count);
+            splice(
+                alloc,
+                frame,
+                at,
+                place,
+                inner.content,
+                progress,
+                files,
+                reach,
+            )
+        }
+        Manner::Mixed(other) => {
+            let first = complain(alloc, ExpandProblem::WrongKind, &other)?;
+            Err(ExpandFault::Refused(first))
+        }
+    }
+}

@@ -1,0 +1,17 @@
+//! The expansion of a node in a frame, with the templates that it calls, and with where each node
+//! comes from.
+#![tactic(auto)]
+
+mod expanding;
+mod facets;
+mod followed;
+mod following;
+mod items;
+mod putting;
+mod scalars;
+mod settling;
+
+pub use expanding::{expand_node, expand_path, fill_pair};
+pub use followed::{Followed, SettledPairs};
+pub use following::MOST_LEVELS;
+pub use items::variable_items;

@@ -1,0 +1,195 @@
+ghost use Rattle.std.specs.Prelude.{◌≡◌, [], map};
+ghost use Rattle.pl_calls.specs.Gives.{GivesUsed};
+ghost use Rattle.pl_calls.specs.Reaching.{opens};
+ghost use Rattle.pl_expanding.specs.Levels.{followed};
+ghost use Rattle.pl_expanding.specs.Settling.{node_settling, value_seen, node_seen, pair_seen};
+ghost use Rattle.pl_expanding.specs.Settling.{item_behind, items_behind, pair_behind};
+ghost use Rattle.pl_expanding.specs.Settling.{pairs_behind};
+
+use crate::followed::{Followed, SettledPairs, SettledValue};
+use crate::following::follow;
+use crate::items::{items_and, items_with, pairs_and};
+use pl_base::{ExactCopy, List, MarkedNode, MarkedPair, Value};
+use pl_calls::{Files, Reach};
+use pl_directives::{Counted, ExpandFault, Standing};
+use pl_frame::Frame;
+use std::alloc::Global;
+
+/// A node that an expression gave, where it stands: the calls in it are followed.
+#[cycle(expansion)]
+pub fn settle<F: Files>(
+    alloc: Global,
+    node: &MarkedNode,
+    frame: &Frame,
+    at: Standing,
+    count: u32,
+    files: &mut F,
+    reach: &mut Reach,
+) -> Result<Counted, ExpandFault>
+    ensures settled { GivesUsed result reach.new.used (node_settling node.now (followed at.calls
+        (opens (F.files files.old) reach.old.home)) frame.now at.region count reach.old.used) }
+    ensures files { F.files files.new ≡ F.files files.old }
+    ensures home { reach.new.home ≡ reach.old.home }
+{
+    let one = settle_value(alloc, &node.value, frame, at, count, files, reach)?;
+    let origin = node.origin.copy(alloc)?;
+    let node = MarkedNode {
+        origin,
+        value: one.value,
+    };
+    Ok(Counted {
+        node,
+        count: one.count,
+    })
+}
+
+#[cycle(expansion)]
+fn settle_value<F: Files>(
+    alloc: Global,
+    value: &Value,
+    frame: &Frame,
+    at: Standing,
+    count: u32,
+    files: &mut F,
+    reach: &mut Reach,
+) -> Result<SettledValue, ExpandFault>
+    ensures settled { GivesUsed result reach.new.used ((value_seen value.now).settled (followed
+        at.calls (opens (F.files files.old) reach.old.home)) frame.now at.region count
+        reach.old.used) }
+    ensures files { F.files files.new ≡ F.files files.old }
+    ensures home { reach.new.home ≡ reach.old.home }
+{
+    match value {
+        Value::Array(items) => {
+            let all = settle_items(alloc, items, frame, at.below()?, count, files, reach)?;
+            Ok(SettledValue {
+                value: Value::Array(all.items),
+                count: all.count,
+            })
+        }
+        Value::Object(pairs) => {
+            let all = settle_pairs(alloc, pairs, frame, at.below()?, count, files, reach)?;
+            Ok(SettledValue {
+                value: Value::Object(all.pairs),
+                count: all.count,
+            })
+        }
+        atom => Ok(SettledValue {
+            value: atom.copy(alloc)?,
+            count,
+        }),
+    }
+}
+
+#[cycle(expansion)]
+fn settle_items<F: Files>(
+    alloc: Global,
+    items: &List<MarkedNode>,
+    frame: &Frame,
+    at: Standing,
+    count: u32,
+    files: &mut F,
+    reach: &mut Reach,
+) -> Result<Followed, ExpandFault>
+    ensures settled { GivesUsed result reach.new.used (items_behind (map node_seen items.now)
+        (followed at.calls (opens (F.files files.old) reach.old.home)) frame.now at.region
+        (record { items = []; count = count }) reach.old.used) }
+    ensures files { F.files files.new ≡ F.files files.old }
+    ensures home { reach.new.home ≡ reach.old.home }
+{
+    let mut all = Followed {
+        items: List::new(alloc),
+        count,
+    };
+    for item in items.as_slice() {
+        all = settle_item(alloc, item, frame, at, all, files, reach)?;
+    }
+    Ok(all)
+}
+
+/// An item behind those before it: a call gives what it gives in its place.
+#[cycle(expansion)]
+#[tactic(auto, using(crate::proofs::Itself::node_itself))]
+fn settle_item<F: Files>(
+    alloc: Global,
+    item: &MarkedNode,
+    frame: &Frame,
+    at: Standing,
+    before: Followed,
+    files: &mut F,
+    reach: &mut Reach,
+) -> Result<Followed, ExpandFault>
+    ensures settled { GivesUsed result reach.new.used (item_behind (node_seen item.now)
+        (followed at.calls (opens (F.files files.old) reach.old.home)) frame.now at.region
+        before reach.old.used) }
+    ensures files { F.files files.new ≡ F.files files.old }
+    ensures home { reach.new.home ≡ reach.old.home }
+{
+    match at.region.call_form(item) {
+        Some(form) => {
+            let more = follow(
+                alloc,
+                item,
+                frame,
+                form,
+                at.calls,
+                before.count,
+                files,
+                reach,
+            )?;
+            Ok(items_with(before, more)?)
+        }
+        None => {
+            let one = settle(alloc, item, frame, at.inside(), before.count, files, reach)?;
+            Ok(items_and(before, one)?)
+        }
+    }
+}
+
+#[cycle(expansion)]
+fn settle_pairs<F: Files>(
+    alloc: Global,
+    pairs: &List<MarkedPair>,
+    frame: &Frame,
+    at: Standing,
+    count: u32,
+    files: &mut F,
+    reach: &mut Reach,
+) -> Result<SettledPairs, ExpandFault>
+    ensures settled { GivesUsed result reach.new.used (pairs_behind (map pair_seen pairs.now)
+        (followed at.calls (opens (F.files files.old) reach.old.home)) frame.now at.region
+        (record { pairs = []; count = count }) reach.old.used) }
+    ensures files { F.files files.new ≡ F.files files.old }
+    ensures home { reach.new.home ≡ reach.old.home }
+{
+    let mut all = SettledPairs {
+        pairs: List::new(alloc),
+        count,
+    };
+    for pair in pairs.as_slice() {
+        all = settle_pair(alloc, pair, frame, at, all, files, reach)?;
+    }
+    Ok(all)
+}
+
+/// A pair behind those before it.
+#[cycle(expansion)]
+fn settle_pair<F: Files>(
+    alloc: Global,
+    pair: &MarkedPair,
+    frame: &Frame,
+    at: Standing,
+    before: SettledPairs,
+    files: &mut F,
+    reach: &mut Reach,
+) -> Result<SettledPairs, ExpandFault>
+    ensures settled { GivesUsed result reach.new.used (pair_behind (pair_seen pair.now)
+        (followed at.calls (opens (F.files files.old) reach.old.home)) frame.now at.region
+        before reach.old.used) }
+    ensures files { F.files files.new ≡ F.files files.old }
+    ensures home { reach.new.home ≡ reach.old.home }
+{
+    let at = at.under(&pair.key);
+    let one = settle(alloc, &pair.item, frame, at, before.count, files, reach)?;
+    Ok(pairs_and(alloc, before, pair, one)?)
+}
