@@ -10,6 +10,7 @@
 //! ORIGIN:` one level deeper, its value another level deeper), then a blank and its origin:
 //! `@LINE:COLUMN` (`@PATH:LINE:COLUMN` in another file than the root), then for each crossing `!`
 //! (made) or `^NAME@LINE:COLUMN` (an argument).
+mod bundles;
 mod faults;
 mod one_file;
 mod reading;
@@ -17,24 +18,39 @@ mod shown;
 mod table_arguments;
 mod table_bodies;
 mod table_branches;
+mod table_called_arguments;
+mod table_called_faults;
+mod table_called_further;
+mod table_called_lists;
+mod table_called_parameters;
+mod table_called_variables;
 mod table_calls;
+mod table_calls_in_arguments;
 mod table_chains;
 mod table_counting;
+mod table_counts_of_calls;
 mod table_expressions;
+mod table_extends;
 mod table_forms;
 mod table_further_branches;
 mod table_further_faults;
 mod table_further_values;
 mod table_insertions;
 mod table_keys;
+mod table_levels;
 mod table_limits;
 mod table_limits_of_trees;
 mod table_loops;
+mod table_many_templates;
 mod table_order;
+mod table_order_of_calls;
+mod table_order_of_many;
 mod table_origins;
 mod table_parameters;
+mod table_paths;
 mod table_resources;
 mod table_scalars;
 mod table_sequences;
 mod table_variables;
+mod table_whole_pipeline;
 mod written_nodes;
