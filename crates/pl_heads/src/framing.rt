@@ -104,8 +104,7 @@ fn content_length(bytes: &[u8], fields: &[HeaderSpan], method: &[u8]) -> Result<
 {
     match look_up(bytes, fields, TRANSFER_ENCODING) {
         Found::Absent => length_by(bytes, fields, method),
-        Found::One(_) => Err(HttpFault::HeadBad),
-        Found::Many => Err(HttpFault::HeadBad),
+        Found::Many | Found::One(_) => Err(HttpFault::HeadBad),
     }
 }
 

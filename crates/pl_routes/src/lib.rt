@@ -1,0 +1,12 @@
+//! Where requests go: the table of routes, and the parts of paths.
+#![tactic(auto)]
+
+mod parts;
+mod place;
+mod table;
+#[cfg(test)]
+mod tests;
+
+pub use parts::{decoded, parts_of};
+pub use place::{Place, Route, RouteFault};
+pub use table::{Routes, place_of, route_of, routes};
