@@ -1,160 +1,193 @@
--- A message's bytes have one reading, and of the answers to bytes only one is right.
-use Rattle.std.proofs.Common.{◌≡◌, ℕ, ◌+◌, ◌≤◌, Bool, true, false, true≢false, List, [], ◌∷◌, ◌++◌, length, take, drop, refl, sym, ap, ◌∙◌, subst, arith, append_assoc, length-append}
-use Rattle.std.proofs.lemmas.List.{append-nil, append_cancel_left, take-append-drop, take_at, length-take-le, nil_from_length}
-use Rattle.std.proofs.lemmas.List.Folds.{list_all-append}
-use Rattle.std.specs.Char.{is_ascii_alphanumeric, is_ascii_digit}
-use Rattle.std.specs.List.{list_all}
-use Rattle.sha2.specs.Sha256.{sha256}
-use Rattle.pl_base.specs.declared.digest.Digest.{Digest}
-use Rattle.pl_core.specs.declared.call.Request.{Request}
-use Rattle.pl_core.specs.declared.call.Request.TheVariants.{QueueText, Draw}
-use Rattle.pl_wire.specs.declared.message.HttpFault.{HttpFault}
-use Rattle.pl_wire.specs.declared.message.HttpFault.TheVariants.{HeadBad}
+-- Messages are read in one way.
+use Rattle.std.proofs.Common.{◌≡◌, ℕ, ◌+◌, ◌-◌, ◌<◌, ◌≤◌, ◌⊎◌, inl, inr, List, [], ◌∷◌, ◌++◌, length, take, drop, refl, sym, ap, ◌∙◌, subst, arith, append_assoc, append-nil, Result, Ok, Err, length-append}
+use Rattle.std.proofs.lemmas.List.{take-append-drop, take-append-le, length-take, length-take-le, take_all}
+use Rattle.std.proofs.Math.Seq.{take-append-add, take-append_seam, drop-append_seam}
+use Rattle.httparse.specs.Grammar.{RequestHead, print_request, ReadsRequest, IsRequestHead, EndsInTarget, print_blank, print_version, print_end, print_section}
+use Rattle.httparse.proofs.GrammarLemmas.{ReadsRequest-append, request_unique, print_request-append}
+use Rattle.pl_heads.specs.declared.fault.HttpFault.{HttpFault}
+use Rattle.pl_heads.specs.declared.front.Head.{Head}
+use Rattle.pl_heads.specs.Fronts.{fields_of, framed, IsReadOf, IsFaulty, OneFront}
+use Rattle.pl_heads.specs.Fields.{token_of}
+use Rattle.pl_heads.specs.Heads.{HasHead, IsPartialHead, below_limit}
+use Rattle.pl_heads.proofs.FrontLemmas.{fault-append, one, two_cuts}
 use Rattle.pl_wire.specs.declared.message.Message.{Message}
-use Rattle.pl_wire.specs.declared.message.Message.TheVariants.{Ask}
+use Rattle.pl_wire.specs.declared.message.Next.{Next}
 use Rattle.pl_wire.specs.declared.message.Next.TheVariants.{Partial, Whole, Bad}
-use Rattle.pl_wire.specs.declared.head.Route.{Route}
-use Rattle.pl_wire.specs.declared.head.Route.TheVariants as route
-use Rattle.pl_wire.specs.Message.{IsToken, IsLength, Spells, IsMessage, IsPartial, IsBad, OneReading, OneAnswer, value_behind}
-use Rattle.pl_wire.specs.Parts.{between, ends, front, request_of}
-use Rattle.pl_wire.proofs.Runs.{both_true, same_run}
-use Rattle.pl_wire.proofs.Heads.{spelled, texts_spelled, draw_spelled, same_route, joined}
+use Rattle.pl_wire.specs.Message.{told, message_of, IsFramed, IsMessage, AwaitsContent, IsPartial, IsBad, StandsFirst, OneReading, OneAnswer, MessagesStay, IsNotWhole}
 
--- a run ends at the carriage return
-same_token : (p : ℕ → Bool) (a t u v : List ℕ) → list_all p a ≡ true → list_all p t ≡ true → p 13 ≡ false → a ++ (13 ∷ u) ≡ t ++ (13 ∷ v) → t ≡ a
-same_token p a t u v each_a each_t out e =
-    same_run p a u t v 13 13 e each_a out (λ more is.
-    let all : list_all p (a ++ (13 ∷ more)) ≡ true = ap (list_all p) (sym is) ∙ each_t in
-    let parts = both_true (list_all p a) (list_all p (13 ∷ more)) (sym (list_all-append p a (13 ∷ more)) ∙ all) in
-    true≢false (sym ((both_true (p 13) (list_all p more) parts.1).0) ∙ out))
+-- ---- a whole message
 
--- the same front is cancelled
-cancel : (a b u v : List ℕ) → a ++ u ≡ b ++ v → b ≡ a → u ≡ v
-cancel a b u v e same = append_cancel_left a u v (e ∙ ap (λ f. f ++ v) same)
+head_some : (h : RequestHead) → IsRequestHead h → 0 < length (print_request h)
+head_some h is = some (print_blank h.blank) h.method _ (sym (append-nil (print_request h)) ∙ print_request-append h [])
+  where
+    some : (a m rest : List ℕ) → print_request h ≡ a ++ (m ++ 32 ∷ rest) → 0 < length (print_request h)
+    some a m rest same =
+        omega (arith, ap length same, length-append a (m ++ 32 ∷ rest), length-append m (32 ∷ rest))
 
--- what a message's bytes are made of
-record Reading (bytes caller : List ℕ) (request : Request) : Type 0 where
-  route : Route
-  token : List ℕ
-  digits : List ℕ
-  text : List ℕ
-  bytes_are : bytes ≡ spelled route token digits text
-  token_is : IsToken token
-  digits_are : IsLength digits (length text)
-  caller_is : caller ≡ sha256 token
-  request_is : request ≡ request_of route text
+same_told : (front : Head) (content : List ℕ) (h : RequestHead) → IsReadOf front h
+    → told front.token.now front.method.now front.target.now content ≡ message_of h content
+same_told front content h of =
+    ap (λ (t : List ℕ). told t front.method.now front.target.now content) of.token
+    ∙ ap (λ (m : List ℕ). told (token_of (fields_of h)) m front.target.now content) of.method
+    ∙ ap (λ (t : List ℕ). told (token_of (fields_of h)) h.method t content) of.target
 
-reading_of : (bytes token digits caller : List ℕ) (request : Request) → Spells bytes token digits caller request → Reading bytes caller request
-reading_of bytes token digits caller (QueueText text) is = record {
-  route = route.Texts;
-  token = token;
-  digits = digits;
-  text = text;
-  bytes_are = is.bytes_are ∙ texts_spelled token digits text;
-  token_is = is.token_is;
-  digits_are = is.digits_are;
-  caller_is = is.caller_is;
-  request_is = refl;
-}
-reading_of bytes token digits caller Draw is = record {
-  route = route.Draw;
-  token = token;
-  digits = digits;
-  text = [];
-  bytes_are = is.bytes_are ∙ draw_spelled token digits [];
-  token_is = is.token_is;
-  digits_are = is.digits_are;
-  caller_is = is.caller_is;
-  request_is = refl;
-}
-
-record SameParts (r s : Route) (t u d e c f : List ℕ) : Type 0 where
-  route : s ≡ r
-  token : u ≡ t
-  digits : e ≡ d
-  text : f ≡ c
-
-same_parts : (r s : Route) (t u d e c f x y : List ℕ) → IsToken t → IsToken u → IsLength d (length c) → IsLength e (length f)
-    → spelled r t d c ++ x ≡ spelled s u e f ++ y → SameParts r s t u d e c f
-same_parts r s t u d e c f x y good_t good_u good_d good_e same =
-    let behind_c = ends ++ (c ++ x) in
-    let behind_f = ends ++ (f ++ y) in
-    let whole : front r ++ (t ++ (between ++ (d ++ behind_c))) ≡ front s ++ (u ++ (between ++ (e ++ behind_f))) =
-    joined (front r) t between d ends c x ∙ same ∙ sym (joined (front s) u between e ends f y) in
-    let route : s ≡ r = sym (same_route r s (t ++ (between ++ (d ++ behind_c))) (u ++ (between ++ (e ++ behind_f))) whole) in
-    let from_token : t ++ (between ++ (d ++ behind_c)) ≡ u ++ (between ++ (e ++ behind_f)) =
-    cancel (front r) (front s) (t ++ (between ++ (d ++ behind_c))) (u ++ (between ++ (e ++ behind_f))) whole (ap front route) in
-    let token : u ≡ t = same_token is_ascii_alphanumeric t u (drop 1 between ++ (d ++ behind_c)) (drop 1 between ++ (e ++ behind_f)) good_t.each good_u.each refl from_token in
-    let from_between : between ++ (d ++ behind_c) ≡ between ++ (e ++ behind_f) = cancel t u (between ++ (d ++ behind_c)) (between ++ (e ++ behind_f)) from_token token in
-    let from_digits : d ++ behind_c ≡ e ++ behind_f = append_cancel_left between (d ++ behind_c) (e ++ behind_f) from_between in
-    let digits : e ≡ d = same_token is_ascii_digit d e (drop 1 ends ++ (c ++ x)) (drop 1 ends ++ (f ++ y)) good_d.each good_e.each refl from_digits in
-    let from_ends : behind_c ≡ behind_f = cancel d e behind_c behind_f from_digits digits in
-    let from_text : c ++ x ≡ f ++ y = append_cancel_left ends (c ++ x) (f ++ y) from_ends in
-    let long : length f ≡ length c = sym good_e.says ∙ ap (value_behind 0) digits ∙ good_d.says in
-    record {
-      route = route;
-      token = token;
-      digits = digits;
-      text = sym (take_at f y (length f) refl) ∙ ap (take (length f)) (sym from_text) ∙ take_at c x (length f) (sym long);
-    }
-
-same_message : (a b x y : List ℕ) (caller other : Digest) (request asked : Request) → Reading a caller.bytes request → Reading b other.bytes asked → a ++ x ≡ b ++ y
-    → (a ≡ b) × (Ask caller request ≡ Ask other asked)
-same_message a b x y caller other request asked p q same =
-    let parts = same_parts p.route q.route p.token q.token p.digits q.digits p.text q.text x y p.token_is q.token_is p.digits_are q.digits_are
-    (ap (λ v. v ++ x) (sym p.bytes_are) ∙ same ∙ ap (λ v. v ++ y) q.bytes_are) in
-    let bytes : caller.bytes ≡ other.bytes = p.caller_is ∙ ap sha256 (sym parts.token) ∙ sym q.caller_is in
-    let callers : caller ≡ other = ap (λ (v : List ℕ). record { bytes = v }) bytes in
-    let requests : request ≡ asked = p.request_is ∙ ap (λ r. request_of r p.text) (sym parts.route) ∙ ap (request_of q.route) (sym parts.text) ∙ sym q.request_is in (
-      p.bytes_are ∙ ap (λ r. spelled r p.token p.digits p.text) (sym parts.route) ∙ ap (λ t. spelled q.route t p.digits p.text) (sym parts.token)
-          ∙ ap (λ d. spelled q.route q.token d p.text) (sym parts.digits) ∙ ap (spelled q.route q.token q.digits) (sym parts.text) ∙ sym q.bytes_are,
-      ap (λ c. Ask c request) callers ∙ ap (Ask other) requests,
+pub whole_message : (bytes : List ℕ) (front : Head) (content : List ℕ) (message : Message) (h : RequestHead)
+    → HasHead bytes h → IsReadOf front h → content ≡ take front.content (drop front.len bytes) → length content ≡ front.content
+    → message ≡ told front.token.now front.method.now front.target.now content
+    → StandsFirst bytes (Whole (front.len + front.content) message)
+whole_message bytes front content message h has of cut len said =
+    let rest = has.rest in
+    let bytes_are : bytes ≡ print_request h ++ rest = has.reads.1 in
+    let behind : drop front.len bytes ≡ rest =
+        ap (λ (n : ℕ). drop n bytes) of.len ∙ ap (drop (length (print_request h))) bytes_are ∙ drop-append_seam (print_request h) rest in
+    let content_is : content ≡ take front.content rest = cut ∙ ap (take front.content) behind in
+    let some = head_some h has.reads.0 in
+    let size : length bytes ≡ length (print_request h) + length rest = ap length bytes_are ∙ length-append (print_request h) rest in
+    let enough : front.content ≤ length rest =
+        omega (arith, ap length content_is, length-take front.content rest, len) in
+    let front_is : take (front.len + front.content) bytes ≡ print_request h ++ content =
+        ap (λ (n : ℕ). take (n + front.content) bytes) of.len ∙ ap (take (length (print_request h) + front.content)) bytes_are
+        ∙ take-append-add (print_request h) rest front.content ∙ ap (λ (c : List ℕ). print_request h ++ c) (sym content_is) in (
+      omega (arith, of.len),
+      omega (arith, of.len),
+      (h, content,
+      record {
+        reads = (has.reads.0, front_is);
+        short = has.short;
+        few = has.few;
+        framing = of.content ∙ ap Ok (sym len);
+      },
+      said ∙ same_told front content h of),
     )
 
+ok_same : {m n : ℕ} → ◌≡◌ {A = Result ℕ HttpFault} (Ok m) (Ok n) → m ≡ n
+ok_same same = cc
+
+ok_not_err : {n : ℕ} {fault : HttpFault} → ◌≡◌ {A = Result ℕ HttpFault} (Ok n) (Err fault) → ⊥
+ok_not_err same = cc
+
+-- fronts of one length
+same_front : (c d x y : List ℕ) → length c ≡ length d → c ++ x ≡ d ++ y → c ≡ d
+same_front [] [] x y len same = refl
+same_front [] (b ∷ d) x y len same = absurd (omega arith)
+same_front (a ∷ c) [] x y len same = absurd (omega arith)
+same_front (a ∷ c) (b ∷ d) x y len same =
+    let head : a ≡ b = cc in
+    let tail : c ++ x ≡ d ++ y = cc in
+    let rest : c ≡ d = same_front c d x y (omega arith) tail in
+    cc
+
 pub one_reading : OneReading
-one_reading a b x y (Ask caller request) (Ask other asked) is also same =
-    same_message a b x y caller other request asked
-    (reading_of a is.0 is.1 caller.bytes request is.2) (reading_of b also.0 also.1 other.bytes asked also.2) same
+one_reading a b x y m n (h, c, f, m_is) (k, d, g, n_is) same =
+    let first : ReadsRequest (a ++ x) h (c ++ x) = ReadsRequest-append a h c x f.reads in
+    let second : ReadsRequest (b ++ y) k (d ++ y) = ReadsRequest-append b k d y g.reads in
+    let heads = request_unique (b ++ y) h k (c ++ x) (d ++ y)
+        (subst (λ (t : List ℕ). ReadsRequest t h (c ++ x)) same first) second in
+    let lengths : ◌≡◌ {A = Result ℕ HttpFault} (Ok (length c)) (Ok (length d)) =
+        sym f.framing ∙ ap framed heads.0 ∙ g.framing in
+    let content : c ≡ d = same_front c d x y (ok_same lengths) heads.1 in (
+      f.reads.1 ∙ ap (λ (h : RequestHead). print_request h ++ c) heads.0 ∙ ap (λ (t : List ℕ). print_request k ++ t) content
+      ∙ sym g.reads.1,
+      m_is ∙ ap (λ (h : RequestHead). message_of h c) heads.0 ∙ ap (message_of k) content ∙ sym n_is,
+    )
 
 -- ---- one answer
 
-whole_not_bad : (bytes : List ℕ) (taken : ℕ) (message : Message) → taken ≤ length bytes → IsMessage (take taken bytes) message → IsBad bytes → ⊥
-whole_not_bad bytes taken message within is bad = bad [] taken message (subst (λ b. IsMessage (take taken b) message) (sym (append-nil bytes)) is)
+whole_head : (bytes : List ℕ) (taken : ℕ) (message : Message) → StandsFirst bytes (Whole taken message)
+    → (h : RequestHead) × (len : ℕ) × HasHead bytes h × (framed h ≡ Ok len) × (length (print_request h) + len ≤ length bytes)
+whole_head bytes taken message (some, within, (h, content, f, message_is)) =
+    let whole : bytes ≡ print_request h ++ (content ++ drop taken bytes) =
+        sym (take-append-drop taken bytes) ∙ ap (λ (t : List ℕ). t ++ drop taken bytes) f.reads.1
+        ∙ append_assoc (print_request h) content (drop taken bytes) in (
+      h,
+      length content,
+      record { rest = content ++ drop taken bytes; reads = (f.reads.0, whole); short = f.short; few = f.few },
+      f.framing,
+      omega (arith, ap length whole, length-append (print_request h) (content ++ drop taken bytes), length-append content (drop taken bytes)),
+    )
 
-partial_not_bad : (bytes : List ℕ) → IsPartial bytes → IsBad bytes → ⊥
-partial_not_bad bytes part bad =
-    let all = bytes ++ part.0 in
-    bad part.0 (length all) part.1 (subst (λ b. IsMessage b part.1) (sym (ap (take (length all)) (sym (append-nil all)) ∙ take_at all [] (length all) refl)) part.3)
+no_fault : (bytes : List ℕ) (h : RequestHead) (len : ℕ) (fault : HttpFault) → HasHead bytes h → framed h ≡ Ok len
+    → IsBad bytes fault → ⊥
+no_fault bytes h len fault has framing bad = ok_not_err (sym framing ∙ one.of_head bytes h fault has bad)
 
-partial_not_whole : (bytes : List ℕ) (taken : ℕ) (message : Message) → taken ≤ length bytes → IsMessage (take taken bytes) message → IsPartial bytes → ⊥
-partial_not_whole bytes taken message within is part =
-    let begun = take taken bytes in
-    let all = bytes ++ part.0 in
-    let same : begun ++ (drop taken bytes ++ part.0) ≡ all ++ [] =
-    sym (append_assoc begun (drop taken bytes) part.0) ∙ ap (λ b. b ++ part.0) (take-append-drop taken bytes) ∙ sym (append-nil all) in
-    let equal : begun ≡ all = (one_reading begun all (drop taken bytes ++ part.0) [] message part.1 is part.3 same).0 in
-    let lengths : length begun ≡ length bytes + length part.0 = ap length equal ∙ length-append bytes part.0 in
-    let short : length begun ≡ taken = length-take-le taken bytes within in
-    part.2 (nil_from_length part.0 (omega arith))
+not_both : (bytes : List ℕ) (taken : ℕ) (message : Message) → StandsFirst bytes (Whole taken message) → IsPartial bytes → ⊥
+not_both bytes taken message whole (inl part) =
+    let w = whole_head bytes taken message whole in one.no_head bytes w.0 w.2 part
+not_both bytes taken message whole (inr (k, len, waits)) =
+    let w = whole_head bytes taken message whole in
+    let heads : w.0 ≡ k = one.one_head bytes w.0 k w.2 waits.has in
+    let lengths : ◌≡◌ {A = Result ℕ HttpFault} (Ok w.1) (Ok len) = sym w.3 ∙ ap framed heads ∙ waits.framing in
+    let same : w.1 ≡ len = ok_same lengths in
+    let size : length (print_request w.0) ≡ length (print_request k) = ap (λ (h : RequestHead). length (print_request h)) heads in
+    omega (arith, w.4, waits.missing, same, size)
 
-same_whole : (bytes : List ℕ) (taken other : ℕ) (message asked : Message) → taken ≤ length bytes → other ≤ length bytes → IsMessage (take taken bytes) message → IsMessage (take other bytes) asked
-    → Whole taken message ≡ Whole other asked
-same_whole bytes taken other message asked within also is is_too =
-    let same : take taken bytes ++ drop taken bytes ≡ take other bytes ++ drop other bytes = take-append-drop taken bytes ∙ sym (take-append-drop other bytes) in
-    let one = one_reading (take taken bytes) (take other bytes) (drop taken bytes) (drop other bytes) message asked is is_too same in
-    let long : taken ≡ other = sym (length-take-le taken bytes within) ∙ ap length one.0 ∙ length-take-le other bytes also in
-    ap (λ n. Whole n message) long ∙ ap (Whole other) one.1
+part_fault : (bytes : List ℕ) (fault : HttpFault) → IsPartial bytes → IsBad bytes fault → EndsInTarget (take below_limit bytes)
+part_fault bytes fault (inl part) bad =
+    subst EndsInTarget (sym (take_all below_limit bytes part.short)) (one.later bytes fault part bad).1
+part_fault bytes fault (inr (h, len, waits)) bad = absurd (no_fault bytes h len fault waits.has waits.framing bad)
 
-same_fault : (fault other : HttpFault) → Bad fault ≡ Bad other
-same_fault HeadBad HeadBad = refl
+one_whole : (bytes : List ℕ) (t u : ℕ) (m n : Message) → StandsFirst bytes (Whole t m) → StandsFirst bytes (Whole u n)
+    → Whole t m ≡ Whole u n
+one_whole bytes t u m n (some, within, is) (more, also, other) =
+    let same = one_reading (take t bytes) (take u bytes) (drop t bytes) (drop u bytes) m n is other
+        (take-append-drop t bytes ∙ sym (take-append-drop u bytes)) in
+    let lengths : t ≡ u =
+        omega (arith, ap length same.0, length-take-le t bytes within, length-take-le u bytes also) in
+    let messages : m ≡ n = same.1 in
+    cc
 
 pub one_answer : OneAnswer
-one_answer bytes Partial Partial h k = refl
-one_answer bytes Partial (Whole taken message) h k = absurd (partial_not_whole bytes taken message k.1 k.2 h)
-one_answer bytes Partial (Bad fault) h k = absurd (partial_not_bad bytes h k)
-one_answer bytes (Whole taken message) Partial h k = absurd (partial_not_whole bytes taken message h.1 h.2 k)
-one_answer bytes (Whole taken message) (Whole other asked) h k = same_whole bytes taken other message asked h.1 k.1 h.2 k.2
-one_answer bytes (Whole taken message) (Bad fault) h k = absurd (whole_not_bad bytes taken message h.1 h.2 k)
-one_answer bytes (Bad fault) Partial h k = absurd (partial_not_bad bytes k h)
-one_answer bytes (Bad fault) (Whole taken message) h k = absurd (whole_not_bad bytes taken message k.1 k.2 h)
-one_answer bytes (Bad fault) (Bad other) h k = same_fault fault other
+one_answer bytes Partial Partial x y = inl refl
+one_answer bytes Partial (Whole u n) x y = absurd (not_both bytes u n y x)
+one_answer bytes Partial (Bad g) x y = inr (part_fault bytes g x y, tt, tt)
+one_answer bytes (Whole t m) Partial x y = absurd (not_both bytes t m x y)
+one_answer bytes (Whole t m) (Whole u n) x y = inl (one_whole bytes t u m n x y)
+one_answer bytes (Whole t m) (Bad g) x y =
+    let w = whole_head bytes t m x in absurd (no_fault bytes w.0 w.1 g w.2 w.3 y)
+one_answer bytes (Bad f) Partial x y = inr (part_fault bytes f y x, tt, tt)
+one_answer bytes (Bad f) (Whole u n) x y =
+    let w = whole_head bytes u n y in absurd (no_fault bytes w.0 w.1 f w.2 w.3 x)
+one_answer bytes (Bad f) (Bad g) x y = go (one.one_fault bytes f g x y)
+  where
+    go : (f ≡ g) ⊎ EndsInTarget (take below_limit bytes)
+        → (Bad f ≡ Bad g) ⊎ (EndsInTarget (take below_limit bytes) × Unit {0} × Unit {0})
+    go (inl same) = inl (ap Bad same)
+    go (inr slack) = inr (slack, tt, tt)
+
+-- ---- more bytes
+
+pub stay : MessagesStay
+stay = record {
+  wholes = λ bytes more taken message whole. (
+    whole.0,
+    omega (arith, length-append bytes more, whole.1),
+    subst (λ (t : List ℕ). IsMessage t message) (sym (take-append-le taken bytes more whole.1)) whole.2,
+  );
+  faults = fault-append;
+}
+
+-- ---- nothing is read of a rest
+
+pub message_stands : (front more : List ℕ) (message : Message) → IsMessage front message
+    → StandsFirst (front ++ more) (Whole (length front) message)
+message_stands front more message (h, content, f, message_is) = (
+  omega (arith, head_some h f.reads.0, ap length f.reads.1, length-append (print_request h) content),
+  omega (arith, length-append front more),
+  subst (λ (t : List ℕ). IsMessage t message) (sym (take-append_seam front more)) (h, content, f, message_is),
+)
+
+front_stands : (rest : List ℕ) (len : ℕ) (message : Message) → IsMessage (take len rest) message
+    → StandsFirst rest (Whole (length (take len rest)) message)
+front_stands rest len message is =
+    subst (λ (t : List ℕ). StandsFirst t (Whole (length (take len rest)) message)) (take-append-drop len rest)
+    (message_stands (take len rest) (drop len rest) message is)
+
+pub partial_none : (rest : List ℕ) → IsPartial rest → (len : ℕ) (message : Message) → IsMessage (take len rest) message → ⊥
+partial_none rest part len message is =
+    not_both rest (length (take len rest)) message (front_stands rest len message is) part
+
+pub bad_none : (rest : List ℕ) (fault : HttpFault) → IsBad rest fault → (len : ℕ) (message : Message)
+    → IsMessage (take len rest) message → ⊥
+bad_none rest fault bad len message is =
+    let w = whole_head rest (length (take len rest)) message (front_stands rest len message is) in
+    no_fault rest w.0 w.1 fault w.2 w.3 bad

@@ -1,4 +1,4 @@
 pub mod Data
 pub mod Message
-pub mod Parts
+pub mod Refusals
 pub mod Written

@@ -1,86 +1,105 @@
--- The messages of the service so far (RFC 9112, sections 2 to 6, in one fixed form).
-use Rattle.std.specs.Prelude.{◌≡◌, ◌≢◌, ℕ, ◌+◌, ◌*◌, ◌-◌, ◌≤◌, ◌<◌, IsTrue, List, [], ◌∷◌, ◌++◌, length, take, codes}
-use Rattle.std.specs.Char.{is_ascii_alphanumeric, is_ascii_digit}
-use Rattle.std.specs.List.{list_all}
+-- The messages of the service (RFC 9112, sections 2 to 6): a head and its content.
+use Rattle.std.specs.Prelude.{◌≡◌, ℕ, ◌+◌, ◌≤◌, ◌<◌, ◌⊎◌, List, [], ◌∷◌, ◌++◌, length, take, Result, Ok, Err}
 use Rattle.sha2.specs.Sha256.{sha256}
+use Rattle.httparse.specs.Grammar.{RequestHead, print_request, ReadsRequest, EndsInTarget}
+use Rattle.pl_base.specs.declared.digest.Digest.{Digest}
 use Rattle.pl_core.specs.declared.call.Request.{Request}
-use Rattle.pl_core.specs.declared.call.Request.TheVariants.{QueueText, Draw}
+use Rattle.pl_core.specs.declared.call.Request.TheVariants as request
+use Rattle.pl_heads.specs.declared.fault.HttpFault.{HttpFault}
+use Rattle.pl_heads.specs.Fields.{token_of}
+use Rattle.pl_heads.specs.Fronts.{fields_of, framed, IsFaulty}
+use Rattle.pl_heads.specs.Heads.{HasHead, IsPartialHead, head_limit, below_limit, field_limit}
+use Rattle.pl_routes.specs.declared.place.Route.{Route}
+use Rattle.pl_routes.specs.declared.place.Route.TheVariants as route
+use Rattle.pl_routes.specs.declared.place.RouteFault.{RouteFault}
+use Rattle.pl_routes.specs.declared.place.RouteFault.TheVariants as fault
+use Rattle.pl_routes.specs.Routes.{route_in, table}
+use Rattle.pl_wire.specs.declared.message.RequestFault.{RequestFault}
+use Rattle.pl_wire.specs.declared.message.RequestFault.TheVariants.{RouteUnknown, MethodUnknown, BodyBad}
 use Rattle.pl_wire.specs.declared.message.Message.{Message}
-use Rattle.pl_wire.specs.declared.message.Message.TheVariants.{Ask}
+use Rattle.pl_wire.specs.declared.message.Message.TheVariants.{Ask, Refused}
 use Rattle.pl_wire.specs.declared.message.Next.{Next}
 use Rattle.pl_wire.specs.declared.message.Next.TheVariants.{Partial, Whole, Bad}
 
 abbrev pub crlf : List ℕ
 crlf = 13 ∷ 10 ∷ []
 
-abbrev pub target : Request → List ℕ
-target (QueueText text) = codes "/texts"
-target Draw = codes "/draw"
+-- the request of a route, by its content: a text is any bytes, a draw has none
+abbrev pub with_content : Route → List ℕ → Result Request RequestFault
+with_content route.QueueText content = Ok (request.QueueText content)
+with_content route.Draw [] = Ok request.Draw
+with_content route.Draw (byte ∷ more) = Err BodyBad
 
-abbrev pub content : Request → List ℕ
-content (QueueText text) = text
-content Draw = []
+-- the request that goes somewhere: the target, then the method, then the content are judged
+abbrev pub asked : Result Route RouteFault → List ℕ → Result Request RequestFault
+asked (Ok route) content = with_content route content
+asked (Err fault.RouteUnknown) content = Err RouteUnknown
+asked (Err fault.MethodUnknown) content = Err MethodUnknown
 
--- 1 to 128 letters or digits
-pub record IsToken (token : List ℕ) : Type 0 where
-  pub some : 1 ≤ length token
-  pub not_long : length token ≤ 128
-  pub each : IsTrue (list_all is_ascii_alphanumeric token)
+abbrev pub message_by : Digest → Result Request RequestFault → Message
+message_by caller (Ok request) = Ask caller request
+message_by caller (Err fault) = Refused fault
 
--- what digits say, behind a number that stands before them
-abbrev pub value_behind : ℕ → List ℕ → ℕ
-value_behind before [] = before
-value_behind before (digit ∷ digits) = value_behind (10 * before + (digit - 48)) digits
+-- the message of a token, a method, a target and a content
+abbrev pub told : List ℕ → List ℕ → List ℕ → List ℕ → Message
+told token method target content =
+    message_by (record { bytes = sha256 token }) (asked (route_in table method target) content)
 
--- the longest content of a message
-abbrev pub content_limit : ℕ
-content_limit = 262144
+-- the message of a head and its content
+abbrev pub message_of : RequestHead → List ℕ → Message
+message_of head content = told (token_of (fields_of head)) head.method head.target content
 
--- 1 to 10 digits that say this length
-pub record IsLength (digits : List ℕ) (len : ℕ) : Type 0 where
-  pub some : 1 ≤ length digits
-  pub not_long : length digits ≤ 10
-  pub each : IsTrue (list_all is_ascii_digit digits)
-  pub says : value_behind 0 digits ≡ len
-  pub within : len ≤ content_limit
-
--- a request line, the two headers and an empty line
-abbrev pub head : List ℕ → List ℕ → List ℕ → List ℕ
-head path token digits =
-    codes "POST " ++ path ++ codes " HTTP/1.1" ++ crlf
-    ++ codes "Authorization: Bearer " ++ token ++ crlf
-    ++ codes "Content-Length: " ++ digits ++ crlf
-    ++ crlf
-
--- the bytes are the request of the caller with this token
-pub record Spells (bytes token digits : List ℕ) (caller : List ℕ) (request : Request) : Type 0 where
-  pub bytes_are : bytes ≡ head (target request) token digits ++ content request
-  pub token_is : IsToken token
-  pub digits_are : IsLength digits (length (content request))
-  pub caller_is : caller ≡ sha256 token
+-- the bytes are a head within the limits, and as many bytes of content as it says
+pub record IsFramed (bytes : List ℕ) (head : RequestHead) (content : List ℕ) : Type 0 where
+  pub reads : ReadsRequest bytes head content
+  pub short : length (print_request head) ≤ head_limit
+  pub few : length head.fields ≤ field_limit
+  pub framing : framed head ≡ Ok (length content)
 
 -- the bytes are this message
 abbrev pub IsMessage : List ℕ → Message → Type 0
-IsMessage bytes (Ask caller request) = (token : List ℕ) × (digits : List ℕ) × Spells bytes token digits caller.bytes request
+IsMessage bytes message =
+    (head : RequestHead) × (content : List ℕ) × IsFramed bytes head content
+    × (message ≡ message_of head content)
 
--- some message begins with the bytes and is longer
+-- a head whose content isn't whole
+pub record AwaitsContent (bytes : List ℕ) (head : RequestHead) (len : ℕ) : Type 0 where
+  pub has : HasHead bytes head
+  pub framing : framed head ≡ Ok len
+  pub missing : length bytes < length (print_request head) + len
+
+-- the beginning of a head, or a head whose content isn't whole
 abbrev pub IsPartial : List ℕ → Type 0
-IsPartial bytes = (more : List ℕ) × (message : Message) × (more ≢ []) × IsMessage (bytes ++ more) message
+IsPartial bytes = IsPartialHead bytes ⊎ ((head : RequestHead) × (len : ℕ) × AwaitsContent bytes head len)
 
--- however the bytes go on, no message stands at the front
-abbrev pub IsBad : List ℕ → Type 0
-IsBad bytes = (more : List ℕ) (len : ℕ) (message : Message) → IsMessage (take len (bytes ++ more)) message → ⊥
+-- neither: a fault after which the link ends
+abbrev pub IsBad : List ℕ → HttpFault → Type 0
+IsBad bytes fault = IsFaulty bytes fault
 
 -- what stands at the front of the bytes
 abbrev pub StandsFirst : List ℕ → Next → Type 0
 StandsFirst bytes Partial = IsPartial bytes
-StandsFirst bytes (Whole taken message) = (0 < taken) × (taken ≤ length bytes) × IsMessage (take taken bytes) message
-StandsFirst bytes (Bad fault) = IsBad bytes
+StandsFirst bytes (Whole taken message) =
+    (0 < taken) × (taken ≤ length bytes) × IsMessage (take taken bytes) message
+StandsFirst bytes (Bad fault) = IsBad bytes fault
 
 -- no message is a proper front of another, and a message's bytes have one reading
 abbrev pub OneReading : Type 0
 OneReading = (a b x y : List ℕ) (m n : Message) → IsMessage a m → IsMessage b n → a ++ x ≡ b ++ y → (a ≡ b) × (m ≡ n)
 
--- of the answers to bytes one is right
+abbrev pub IsNotWhole : Next → Type 0
+IsNotWhole (Whole taken message) = ⊥
+IsNotWhole Partial = Unit {0}
+IsNotWhole (Bad fault) = Unit {0}
+
+-- Of the answers to bytes one is right, but while they end inside a target: that it isn't UTF-8 may
+-- be told later, and a fault is told in its place where the limit comes first.
 abbrev pub OneAnswer : Type 0
-OneAnswer = (bytes : List ℕ) (first second : Next) → StandsFirst bytes first → StandsFirst bytes second → first ≡ second
+OneAnswer = (bytes : List ℕ) (first second : Next) → StandsFirst bytes first → StandsFirst bytes second
+    → (first ≡ second) ⊎ (EndsInTarget (take below_limit bytes) × IsNotWhole first × IsNotWhole second)
+
+-- a message at the front stays when more bytes come, and so does a fault
+pub record MessagesStay : Type 0 where
+  pub wholes : (bytes more : List ℕ) (taken : ℕ) (message : Message)
+      → StandsFirst bytes (Whole taken message) → StandsFirst (bytes ++ more) (Whole taken message)
+  pub faults : (bytes more : List ℕ) (fault : HttpFault) → IsBad bytes fault → IsBad (bytes ++ more) fault

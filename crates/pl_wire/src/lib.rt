@@ -1,15 +1,12 @@
 //! The service's wire: bytes to messages, and replies to bytes.
 #![tactic(auto)]
 
-mod head;
 mod json;
 mod message;
 mod next;
-mod parts;
-#[cfg(test)]
-mod tests;
 mod written;
 
-pub use message::{HttpFault, Message, Next};
-pub use next::{next_request, one_answer, one_reading};
-pub use written::{MEMORY_REPLY, fault_reply, memory_reply, reply_bytes};
+pub use message::{Message, Next, RequestFault};
+pub use next::{messages_stay, next_request, one_answer, one_reading};
+pub use pl_heads::HttpFault;
+pub use written::{MEMORY_REPLY, fault_reply, memory_reply, refused_reply, reply_bytes};

@@ -1,11 +1,16 @@
 use pl_base::Digest;
 use pl_core::Request;
+use pl_heads::HttpFault;
 
-/// Why bytes are no message.
+/// Why a message is refused, after which the link goes on.
 #[derive(Clone, Copy, Debug, PartialEq, Eq)]
-pub enum HttpFault {
-    /// No continuation of the bytes begins with a message: 400 `head.bad`.
-    HeadBad,
+pub enum RequestFault {
+    /// The target has a `?`, or no route has it: 404 `route.unknown`.
+    RouteUnknown,
+    /// Its route doesn't have this method: 405 `method.unknown`.
+    MethodUnknown,
+    /// The content isn't what its route asks for: 400 `body.bad`.
+    BodyBad,
 }
 
 /// A whole message.
@@ -13,6 +18,8 @@ pub enum HttpFault {
 pub enum Message {
     /// A request, and the digest of its bearer token (RFC 6750, section 2.1).
     Ask { caller: Digest, request: Request },
+    /// A message that is no request of the service.
+    Refused(RequestFault),
 }
 
 /// What stands at the front of bytes that came from a client.
@@ -22,6 +29,6 @@ pub enum Next {
     Partial,
     /// A whole message, which is so many bytes long.
     Whole { taken: usize, message: Message },
-    /// Neither.
+    /// Neither: however the bytes go on, they begin with no message that is read. The link ends.
     Bad(HttpFault),
 }

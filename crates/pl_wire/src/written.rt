@@ -1,12 +1,14 @@
 ghost use Rattle.std.specs.Prelude.{◌≡◌, ◌++◌, codes, string_bytes, IfOk};
 ghost use Rattle.pl_core.specs.Replies.{refusal};
 ghost use Rattle.pl_wire.specs.Message.{crlf};
+ghost use Rattle.pl_wire.specs.Refusals.{reply_to_fault, reply_to_refused};
 ghost use Rattle.pl_wire.specs.Written.{kind_line, length_line, phrase, status_line, with_headers, written};
 
 use crate::json::json_text;
-use crate::message::HttpFault;
+use crate::message::RequestFault;
 use pl_base::{Bytes, List, Memory};
 use pl_core::{Body, Reply};
+use pl_heads::HttpFault;
 use std::alloc::Global;
 
 /// The reply where memory is wanting: 507, `memory`.
@@ -107,11 +109,27 @@ pub fn reply_bytes(alloc: Global, reply: &Reply) -> Result<Bytes, Memory>
     }
 }
 
-/// The reply to bytes that are no message, after which the link ends: 400 `head.bad`.
+/// The reply to bytes that are no message, after which the link ends: 400 `head.bad`, 431
+/// `head.large`, 411 `length.missing` or 413 `body.large`.
 pub fn fault_reply(alloc: Global, fault: HttpFault) -> Result<Reply, Memory>
-    ensures { IfOk result (λ reply. reply ≡ refusal 400 (codes "head.bad")) }
+    ensures { IfOk result (λ reply. reply ≡ reply_to_fault fault) }
 {
     match fault {
         HttpFault::HeadBad => Reply::refusal(alloc, 400, "head.bad"),
+        HttpFault::HeadLarge => Reply::refusal(alloc, 431, "head.large"),
+        HttpFault::LengthMissing => Reply::refusal(alloc, 411, "length.missing"),
+        HttpFault::BodyLarge => Reply::refusal(alloc, 413, "body.large"),
+    }
+}
+
+/// The reply to a message that is no request: 404 `route.unknown`, 405 `method.unknown` or 400
+/// `body.bad`.
+pub fn refused_reply(alloc: Global, fault: RequestFault) -> Result<Reply, Memory>
+    ensures { IfOk result (λ reply. reply ≡ reply_to_refused fault) }
+{
+    match fault {
+        RequestFault::RouteUnknown => Reply::refusal(alloc, 404, "route.unknown"),
+        RequestFault::MethodUnknown => Reply::refusal(alloc, 405, "method.unknown"),
+        RequestFault::BodyBad => Reply::refusal(alloc, 400, "body.bad"),
     }
 }
