@@ -3,7 +3,7 @@ use Rattle.std.proofs.Common.{◌≡◌, ◌<◌, ◌≤◌, ℕ, ◌+◌, List,
 use Rattle.pl_base.specs.Counts.{one_more}
 use Rattle.pl_base.specs.Streams.{with_front, with_end}
 use Rattle.pl_wire.specs.Message.{IsPartial, IsBad}
-use Rattle.pl_wire.specs.declared.message.HttpFault.{HttpFault}
+use Rattle.pl_heads.specs.declared.fault.HttpFault.{HttpFault}
 use Rattle.pipectl.specs.declared.served.Served.{Served}
 use Rattle.pipectl.specs.declared.served.Served.TheVariants as served
 use Rattle.pipectl.specs.Acts.{Acts, Tells, refused, replies, joined}
@@ -121,7 +121,7 @@ cut_short a d read ending x within ends told reads writes = record {
 
 -- bytes came that are no message, and they were answered
 pub ends_bad : (a c d : Point) (rest : List ℕ) (taken : ℕ) (fault : HttpFault)
-    → Serving a c rest taken → IsBad rest → Writes (refused fault) c.link d.link
+    → Serving a c rest taken → IsBad rest fault → Writes (refused fault) c.link d.link
     → d.coming ≡ c.coming → d.desk ≡ c.desk → Session a d (served.Bad fault)
 ends_bad a c d rest taken fault s bad wrote coming desk =
     let turns = s.advances.turns in
@@ -237,7 +237,7 @@ memory_broke a c d rest taken s x reads writes =
 
 -- the answer to bytes that are no message
 pub bad_unwritten : (a c d : Point) (rest : List ℕ) (taken : ℕ) (fault : HttpFault)
-    → Serving a c rest taken → IsBad rest
+    → Serving a c rest taken → IsBad rest fault
     → Begun (refused fault) (one_more c.link.write_faults) c.link d.link
     → d.coming ≡ c.coming → d.desk ≡ c.desk → Session a d served.WriteFault
 bad_unwritten a c d rest taken fault s bad begun coming desk =
@@ -245,7 +245,7 @@ bad_unwritten a c d rest taken fault s bad begun coming desk =
     write_broke a c d rest taken s breaks begun.reading.read_faults begun.write_faults
 
 pub bad_unkept : (a c d : Point) (rest : List ℕ) (taken : ℕ) (fault : HttpFault)
-    → Serving a c rest taken → IsBad rest
+    → Serving a c rest taken → IsBad rest fault
     → Begun (refused fault) c.link.write_faults c.link d.link
     → d.coming ≡ c.coming → d.desk ≡ c.desk → Session a d served.Memory
 bad_unkept a c d rest taken fault s bad begun coming desk =

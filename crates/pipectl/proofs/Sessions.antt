@@ -3,7 +3,7 @@ use Rattle.std.proofs.Common.{◌≡◌, ℕ, List, [], ◌∷◌, ◌++◌, Opt
 use Rattle.std.proofs.lemmas.List.{take-append-drop}
 use Rattle.pl_base.specs.Streams.{with_front, with_end, after_next}
 use Rattle.pl_wire.specs.Message.{IsMessage, IsBad}
-use Rattle.pl_wire.specs.declared.message.HttpFault.{HttpFault}
+use Rattle.pl_heads.specs.declared.fault.HttpFault.{HttpFault}
 use Rattle.pl_wire.specs.declared.message.Message.{Message}
 use Rattle.pipectl.specs.declared.served.Broken.{Broken}
 use Rattle.pipectl.specs.declared.served.Broken.TheVariants as broken
@@ -293,7 +293,7 @@ only_writes (Err broken.Memory) bytes old new s = record {
 
 -- the reply to bytes that are no message was begun at most
 pub bad_cut : (a b : Point) (rest : List ℕ) (fault : HttpFault)
-    → IsBad rest → b.link.left ≡ a.link.left → b.coming ≡ a.coming → b.desk ≡ a.desk
+    → IsBad rest fault → b.link.left ≡ a.link.left → b.coming ≡ a.coming → b.desk ≡ a.desk
     → Begins a.link.held (refused fault) b.link.held → Breaks a rest [] b
 bad_cut a b rest fault bad left coming desk begins = record {
   turns = [];
@@ -306,7 +306,7 @@ bad_cut a b rest fault bad left coming desk begins = record {
   writes = begins.writes;
   cut = (
     refused fault ∷ [],
-    (bad, fault, refl),
+    (fault, bad, refl),
     cut_in_first (refused fault) begins.begun
         begins.unsent begins.bytes_are,
   );

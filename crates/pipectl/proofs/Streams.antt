@@ -3,7 +3,7 @@ use Rattle.std.proofs.Common.{◌≡◌, ℕ, ◌<◌, List, [], ◌∷◌, ◌+
 use Rattle.std.proofs.Math.Seq.{take-append_seam, drop-append_seam}
 use Rattle.std.proofs.lemmas.List.{take-append-drop}
 use Rattle.pl_wire.specs.declared.message.Message.{Message}
-use Rattle.pl_wire.specs.Message.{IsMessage, IsPartial, IsBad, OneReading}
+use Rattle.pl_wire.specs.Message.{IsMessage, OneReading}
 use Rattle.pipectl.specs.Messages.{Spelled, NoneFirst}
 use Rattle.pipectl.proofs.Sessions.{append-nil}
 
@@ -33,31 +33,3 @@ one_stream one bytes rest other (m ∷ ms) (n ∷ ns) s r none none' =
     let rests = one_stream one s.1 rest other ms ns s.4 (subst (λ b. Spelled b ns other) (sym
     behind) r.4) none none' in
     (ap (λ k. k ∷ ms) same.1 ∙ ap (λ ks. n ∷ ks) rests.0, rests.1)
-
-longer : (a more : List ℕ) → (more ≡ [] → ⊥) → length a < length (a ++ more)
-longer a [] some = absurd (some refl)
-longer a (b ∷ bs) some = omega (arith, length-append a (b ∷ bs))
-
-not-longer : (n : ℕ) (a : List ℕ) → length a < length (take n a) → ⊥
-not-longer n a h = omega (
-  arith,
-  h,
-  ap length (take-append-drop n a),
-  length-append (take n a) (drop
-      n a),
-)
-
-pub partial_open : OneReading → (rest : List ℕ) → IsPartial rest → NoneFirst rest
-partial_open one rest partial len message is =
-    let more = partial.0 in
-    let all : take len rest ++ (drop len rest ++ more) ≡ (rest ++ more) ++ [] =
-    sym (append_assoc (take len rest) (drop len rest) more) ∙ (ap (λ b. b ++ more) (take-append-drop
-    len rest) ∙ sym (append-nil (rest ++ more))) in
-    let same = one (take len rest) (rest ++ more) (drop len rest ++ more) [] message partial.1 is
-    partial.3 all in
-    not-longer len rest (subst (λ b. length rest < length b) (sym same.0) (longer rest more
-    partial.2))
-
-pub bad_open : (rest : List ℕ) → IsBad rest → NoneFirst rest
-bad_open rest bad len message is = bad [] len message (subst (λ b. IsMessage (take len b) message)
-    (sym (append-nil rest)) is)

@@ -1,13 +1,13 @@
 -- How a session over whole messages ends.
 use Rattle.std.proofs.Common.{◌≡◌, ℕ, ◌<◌, List, [], ◌∷◌, ◌++◌, length, refl, sym, ◌∙◌, ap, subst, arith, length-append, Option, Some, None, codes}
 use Rattle.std.specs.Prelude.{IfSome}
-use Rattle.std.proofs.Math.Seq.{take-append_seam}
-use Rattle.sha2.specs.Sha256.{sha256}
+use Rattle.std.proofs.Math.Seq.{take-nil}
 use Rattle.pl_base.specs.Streams.{with_front}
-use Rattle.pl_core.specs.declared.call.Request.TheVariants.{Draw}
 use Rattle.pl_wire.specs.declared.message.Message.{Message}
-use Rattle.pl_wire.specs.declared.message.Message.TheVariants.{Ask}
-use Rattle.pl_wire.specs.Message.{head, target, content, IsMessage, IsPartial, IsBad, OneReading}
+use Rattle.pl_wire.specs.Message.{IsMessage, IsPartial, IsBad, OneReading}
+use Rattle.pl_heads.specs.declared.fault.HttpFault.{HttpFault}
+use Rattle.pl_wire.proofs.Readings.{partial_none, bad_none, stay}
+use Rattle.pl_wire.proofs.Nothing.{nothing_none, nothing_not_bad}
 use Rattle.pl_base.specs.declared.digest.Digest.{Digest}
 use Rattle.pipectl.specs.declared.served.Served.{Served}
 use Rattle.pipectl.specs.declared.served.Served.TheVariants as served
@@ -19,49 +19,7 @@ use Rattle.pipectl.specs.Session.{Point, Session, taken_limit}
 use Rattle.pipectl.specs.Statuses.{status_of}
 use Rattle.pipectl.specs.Told.{Told}
 use Rattle.pipectl.proofs.Sessions.{append-nil, Spelled-more}
-use Rattle.pipectl.proofs.Streams.{one_stream, partial_open}
-
--- ---- there is a message, so no bytes at all begin one, and they may still become one
-
-some_message : Message
-some_message = Ask (record { bytes = sha256 (codes "a") }) Draw
-
-some_bytes : List ℕ
-some_bytes = head (target Draw) (codes "a") (codes "0") ++ content Draw
-
-is_some : IsMessage some_bytes some_message
-unfolding some_message some_bytes
-is_some = (
-  codes "a",
-  codes "0",
-  record {
-    bytes_are = refl;
-    token_is = record { some = omega arith; not_long = omega arith; each = refl };
-    digits_are = record {
-      some = omega arith;
-      not_long = omega arith;
-      each = refl;
-      says = refl;
-      within = omega arith;
-    };
-    caller_is = refl;
-  },
-)
-
-not_none : (x : ℕ) (xs : List ℕ) → x ∷ xs ≡ [] → ⊥
-not_none x xs is = absurd (cc is)
-
-are_some : some_bytes ≡ [] → ⊥
-unfolding some_bytes
-are_some is = not_none _ _ is
-
-nothing_partial : IsPartial []
-nothing_partial = (some_bytes, some_message, are_some, is_some)
-
-nothing_not_bad : IsBad [] → ⊥
-nothing_not_bad bad =
-    bad (some_bytes ++ []) (length some_bytes) some_message
-    (subst (λ b. IsMessage b some_message) (sym (take-append_seam some_bytes [])) is_some)
+use Rattle.pipectl.proofs.Streams.{one_stream}
 
 -- ---- lists
 
@@ -88,30 +46,33 @@ all_read read bytes None is end = absurd (cc is)
 all_read read bytes (Some rest) is end = let all : bytes ≡ read ++ rest = cc is in sym (all ∙ (ap (λ
     r. read ++ r) end ∙ append-nil read))
 
+none_first : NoneFirst []
+none_first len message is = nothing_none message (subst (λ b. IsMessage b message) (take-nil len) is)
+
 no_rest : OneReading → (bytes rest : List ℕ) (messages others : List Message)
     → Spelled bytes messages [] → Spelled bytes others rest → NoneFirst rest → [] ≡ rest
 no_rest one bytes rest messages others whole spelled none =
-    (one_stream one bytes [] rest messages others whole spelled (partial_open one []
-    nothing_partial) none).1
+    (one_stream one bytes [] rest messages others whole spelled none_first none).1
 
 not_cut : OneReading → (bytes read rest : List ℕ) (messages others : List Message)
     → Spelled bytes messages [] → read ≡ bytes → Spelled read others rest → IsPartial rest
     → 0 < length rest → ⊥
 not_cut one bytes read rest messages others whole all spelled partial some =
     let none : [] ≡ rest = no_rest one bytes rest messages others whole (subst (λ b. Spelled b
-    others rest) all spelled) (partial_open one rest partial) in
+    others rest) all spelled) (partial_none rest partial) in
     omega (arith, some, ap length none)
 
-not_bad : OneReading → (bytes read rest more : List ℕ) (messages others : List Message)
-    → Spelled bytes messages [] → bytes ≡ read ++ more → Spelled read others rest → IsBad rest → ⊥
-not_bad one bytes read rest more messages others whole all spelled bad =
+not_bad : OneReading → (bytes read rest more : List ℕ) (messages others : List Message) (fault : HttpFault)
+    → Spelled bytes messages [] → bytes ≡ read ++ more → Spelled read others rest
+    → IsBad rest fault → ⊥
+not_bad one bytes read rest more messages others fault whole all spelled bad =
     let none : [] ≡ rest ++ more =
     no_rest one bytes (rest ++ more) messages others whole
     (subst (λ b. Spelled b others (rest ++ more)) (sym all) (Spelled-more read more others rest
     spelled))
-    (λ len message is. bad more len message is)
+    (bad_none (rest ++ more) fault (stay.faults rest more fault bad))
     in
-    nothing_not_bad (subst (λ b. IsBad b) (no_front rest more none) bad)
+    nothing_not_bad fault (subst (λ b. IsBad b fault) (no_front rest more none) bad)
 
 whole_session : OneReading
     → (old new : Point) (bytes : List ℕ) (messages : List Message) (ending : Served)
@@ -125,7 +86,7 @@ whole_session one old new bytes messages (served.Cut len) left whole short s =
     s.ends.1
 whole_session one old new bytes messages (served.Bad fault) left whole short s =
     let told_all = told_is s.read new.link.left bytes (sym left ∙ s.reads) in
-    not_bad one bytes s.read s.rest told_all.0 messages (messages_of s.turns) whole told_all.2
+    not_bad one bytes s.read s.rest told_all.0 messages (messages_of s.turns) fault whole told_all.2
     s.spelled s.ends.0
 whole_session one old new bytes messages served.Spent left whole short s =
     let told_all = told_is s.read new.link.left bytes (sym left ∙ s.reads) in

@@ -7,10 +7,10 @@ use Rattle.pl_core.specs.declared.call.Call.{Call}
 use Rattle.pl_core.specs.declared.call.Request.{Request}
 use Rattle.pl_core.specs.Replies.{refusal}
 use Rattle.pl_core.specs.State.{State, reply_of, after}
-use Rattle.pl_wire.specs.declared.message.HttpFault.{HttpFault}
-use Rattle.pl_wire.specs.declared.message.HttpFault.TheVariants.{HeadBad}
+use Rattle.pl_heads.specs.declared.fault.HttpFault.{HttpFault}
 use Rattle.pl_wire.specs.declared.message.Message.{Message}
-use Rattle.pl_wire.specs.declared.message.Message.TheVariants.{Ask}
+use Rattle.pl_wire.specs.declared.message.Message.TheVariants.{Ask, Refused}
+use Rattle.pl_wire.specs.Refusals.{reply_to_fault, reply_to_refused}
 use Rattle.pl_wire.specs.Written.{written}
 use Rattle.pipectl.specs.declared.alone.Alone.{Alone}
 use Rattle.pipectl.specs.declared.alone.Answer.{Answer}
@@ -37,12 +37,14 @@ abbrev pub call_at : ℕ → Digest → Request → Call
 call_at moment caller request = record { moment = moment; caller = caller; request = request }
 
 -- The answer is the step's reply, and the state the step's; or memory was wanting, and the desk is
--- as before.
+-- as before. A message that is no request gets the reply of its fault, and leaves the desk as it was.
 abbrev pub Act : Parts → ℕ → Message → Answer → Parts → Type 0
 Act old moment (Ask caller request) (Reply reply) new =
     (reply ≡ reply_of old.seen (call_at moment caller request))
     × (new.seen ≡ after old.seen (call_at moment caller request))
 Act old moment (Ask caller request) Memory new = new ≡ old
+Act old moment (Refused fault) (Reply reply) new = (reply ≡ reply_to_refused fault) × (new ≡ old)
+Act old moment (Refused fault) Memory new = new ≡ old
 
 -- one act a turn, in order
 abbrev pub Acts : Parts → List Turn → Parts → Type 0
@@ -65,7 +67,7 @@ sent Memory = written (refusal 507 (codes "memory"))
 
 -- the reply to bytes that are no message, by what is wrong with them
 abbrev pub refused : HttpFault → List ℕ
-refused HeadBad = written (refusal 400 (codes "head.bad"))
+refused fault = written (reply_to_fault fault)
 
 abbrev pub replies : List Turn → List (List ℕ)
 replies [] = []

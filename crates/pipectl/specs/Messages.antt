@@ -1,5 +1,6 @@
 -- The messages of a stream of bytes, and what follows them.
 use Rattle.std.specs.Prelude.{◌≡◌, ℕ, List, [], ◌∷◌, ◌++◌, take}
+use Rattle.pl_heads.specs.declared.fault.HttpFault.{HttpFault}
 use Rattle.pl_wire.specs.declared.message.Message.{Message}
 use Rattle.pl_wire.specs.Message.{IsMessage, IsPartial, IsBad}
 
@@ -20,8 +21,8 @@ OneStream = (bytes rest other : List ℕ) (messages others : List Message)
     → Spelled bytes messages rest → Spelled bytes others other → NoneFirst rest → NoneFirst other
     → (messages ≡ others) × (rest ≡ other)
 
--- where a message is begun or nothing can be one, none stands at the front
+-- where a message is begun or a fault shows, none stands at the front
 abbrev pub RestsAreOpen : Type 0
 RestsAreOpen =
-    ((rest : List ℕ) → IsPartial rest → NoneFirst rest) × ((rest : List ℕ) → IsBad rest → NoneFirst
-    rest)
+    ((rest : List ℕ) → IsPartial rest → NoneFirst rest)
+    × ((rest : List ℕ) (fault : HttpFault) → IsBad rest fault → NoneFirst rest)

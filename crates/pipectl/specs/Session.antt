@@ -6,7 +6,7 @@ use Rattle.pl_base.specs.Counts.{one_more}
 use Rattle.pl_base.specs.Streams.{with_front, with_end}
 use Rattle.pl_base.specs.declared.clock.Clock as the_clock
 use Rattle.pl_base.specs.declared.link.Link as the_link
-use Rattle.pl_wire.specs.declared.message.HttpFault.{HttpFault}
+use Rattle.pl_heads.specs.declared.fault.HttpFault.{HttpFault}
 use Rattle.pl_wire.specs.Message.{IsPartial, IsBad}
 use Rattle.pipectl.specs.declared.alone.Alone.{Alone}
 use Rattle.pipectl.specs.declared.served.Served.{Served}
@@ -45,7 +45,8 @@ pub record IsCut (all : List (List ℕ)) (wrote : List ℕ) : Type 0 where
 -- the replies to a rest: none, or the one to bytes that are no message
 abbrev pub ToRest : List ℕ → List (List ℕ) → Type 0
 ToRest rest [] = Unit {0}
-ToRest rest (reply ∷ more) = IsBad rest × (fault : HttpFault) × (reply ∷ more ≡ refused fault ∷ [])
+ToRest rest (reply ∷ more) =
+    (fault : HttpFault) × IsBad rest fault × (reply ∷ more ≡ refused fault ∷ [])
 
 -- the replies broke off, that to the rest being one of them once it was begun
 abbrev pub BreaksOff : List Turn → List ℕ → List ℕ → Type 0
@@ -61,7 +62,7 @@ Ends (served.Cut len) read turns rest wrote =
     IsPartial rest × (0 < length rest) × (length rest ≡ len) × (length read < taken_limit)
     × (wrote ≡ joined (replies turns))
 Ends (served.Bad fault) read turns rest wrote =
-    IsBad rest × (wrote ≡ joined (replies turns) ++ refused fault)
+    IsBad rest fault × (wrote ≡ joined (replies turns) ++ refused fault)
 Ends served.Spent read turns rest wrote =
     IsPartial rest × (length read ≡ taken_limit) × (wrote ≡ joined (replies turns))
 Ends served.ReadFault read turns rest wrote = IsPartial rest × (wrote ≡ joined (replies turns))

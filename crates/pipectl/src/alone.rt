@@ -4,7 +4,7 @@ ghost use Rattle.pl_core.specs.State.{opened, reply_of, after};
 
 use pl_base::{Digest, Memory, Moment};
 use pl_core::{Call, Core, FirstPlan, Reply, Request, TextLater, first_plan};
-use pl_wire::Message;
+use pl_wire::{Message, refused_reply};
 use std::alloc::Global;
 
 /// What a message is answered: the service's reply, or that memory is wanting.
@@ -22,6 +22,7 @@ pub struct Alone {
 
 impl Alone {
     ghost use Rattle.pipectl.specs.Acts.{Act, call_at, parts};
+    ghost use Rattle.pl_wire.specs.declared.message.Message.TheVariants as asks;
 
     /// A desk of a service that was just opened, with the digest of its admin's token.
     pub fn open(admin: Digest) -> Alone
@@ -36,7 +37,19 @@ impl Alone {
     pub fn act(&mut self, alloc: Global, moment: Moment, message: Message) -> Answer
         ensures { Act (parts self.old) moment message result (parts self.new) }
     {
-        let Message::Ask { caller, request } = message;
+        match message {
+            Message::Ask { caller, request } => self.ask(alloc, moment, caller, request),
+            Message::Refused(fault) => match refused_reply(alloc, fault) {
+                Ok(reply) => Answer::Reply(reply),
+                Err(Memory) => Answer::Memory,
+            },
+        }
+    }
+
+    // Answers a request of a caller at a moment.
+    fn ask(&mut self, alloc: Global, moment: Moment, caller: Digest, request: Request) -> Answer
+        ensures { Act (parts self.old) moment (asks.Ask caller request) result (parts self.new) }
+    {
         let call = Call {
             moment,
             caller,

@@ -37,5 +37,3 @@ fn main(rt: HostRuntime) -> ExitCode {
     run(rt.alloc(), &words, &mut process).exit_code()
 }
 
-#[cfg(test)]
-mod tests;

@@ -80,7 +80,7 @@ pub fn answer_all<L: Link, C: Clock>(
     ensures answers { Answers result (point L.Link C.Clock link.old clock.old desk.old) buffer.old
         (point L.Link C.Clock link.new clock.new desk.new) buffer.new }
     ensures front { IfOk result (λ fault.
-        MatchOption fault (IsPartial buffer.new) (λ _. IsBad buffer.new)) }
+        MatchOption fault (IsPartial buffer.new) (λ fault. IsBad buffer.new fault)) }
     ensures writes { OnlyWrites result (told L.Link link.old) (told L.Link link.new) }
 {
     'messages: loop {

@@ -3,3 +3,4 @@ pub mod Gathered
 pub mod Members
 pub mod Memory
 pub mod Readings
+pub mod Nothing

@@ -17,7 +17,7 @@ use Rattle.pl_wire.specs.Message.{told, message_of, IsFramed, IsMessage, AwaitsC
 
 -- ---- a whole message
 
-head_some : (h : RequestHead) → IsRequestHead h → 0 < length (print_request h)
+pub head_some : (h : RequestHead) → IsRequestHead h → 0 < length (print_request h)
 head_some h is = some (print_blank h.blank) h.method _ (sym (append-nil (print_request h)) ∙ print_request-append h [])
   where
     some : (a m rest : List ℕ) → print_request h ≡ a ++ (m ++ 32 ∷ rest) → 0 < length (print_request h)

@@ -1,5 +1,5 @@
-use Rattle.pipectl.proofs.Streams.{partial_open, bad_open}
+use Rattle.pl_wire.proofs.Readings.{partial_none, bad_none}
 use Rattle.pipectl.proofs.laws.rests_are_open.Goals as goal
 
 pub returns : goal.returns
-returns c = (partial_open c.one_reading.ensures, bad_open)
+returns c = (partial_none, bad_none)
