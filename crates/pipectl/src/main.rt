@@ -37,3 +37,5 @@ fn main(rt: HostRuntime) -> ExitCode {
     run(rt.alloc(), &words, &mut process).exit_code()
 }
 
+#[cfg(test)]
+mod tests;

@@ -39,25 +39,28 @@ whole_message bytes front content message h has of cut len said =
     let rest = has.rest in
     let bytes_are : bytes ≡ print_request h ++ rest = has.reads.1 in
     let behind : drop front.len bytes ≡ rest =
-        ap (λ (n : ℕ). drop n bytes) of.len ∙ ap (drop (length (print_request h))) bytes_are ∙ drop-append_seam (print_request h) rest in
+    ap (λ (n : ℕ). drop n bytes) of.len ∙ ap (drop (length (print_request h))) bytes_are ∙ drop-append_seam (print_request h) rest in
     let content_is : content ≡ take front.content rest = cut ∙ ap (take front.content) behind in
     let some = head_some h has.reads.0 in
     let size : length bytes ≡ length (print_request h) + length rest = ap length bytes_are ∙ length-append (print_request h) rest in
     let enough : front.content ≤ length rest =
-        omega (arith, ap length content_is, length-take front.content rest, len) in
+    omega (arith, ap length content_is, length-take front.content rest, len) in
     let front_is : take (front.len + front.content) bytes ≡ print_request h ++ content =
-        ap (λ (n : ℕ). take (n + front.content) bytes) of.len ∙ ap (take (length (print_request h) + front.content)) bytes_are
-        ∙ take-append-add (print_request h) rest front.content ∙ ap (λ (c : List ℕ). print_request h ++ c) (sym content_is) in (
+    ap (λ (n : ℕ). take (n + front.content) bytes) of.len ∙ ap (take (length (print_request h) + front.content)) bytes_are
+    ∙ take-append-add (print_request h) rest front.content ∙ ap (λ (c : List ℕ). print_request h ++ c) (sym content_is) in (
       omega (arith, of.len),
       omega (arith, of.len),
-      (h, content,
-      record {
-        reads = (has.reads.0, front_is);
-        short = has.short;
-        few = has.few;
-        framing = of.content ∙ ap Ok (sym len);
-      },
-      said ∙ same_told front content h of),
+      (
+        h,
+        content,
+        record {
+          reads = (has.reads.0, front_is);
+          short = has.short;
+          few = has.few;
+          framing = of.content ∙ ap Ok (sym len);
+        },
+        said ∙ same_told front content h of,
+      ),
     )
 
 ok_same : {m n : ℕ} → ◌≡◌ {A = Result ℕ HttpFault} (Ok m) (Ok n) → m ≡ n
@@ -82,12 +85,12 @@ one_reading a b x y m n (h, c, f, m_is) (k, d, g, n_is) same =
     let first : ReadsRequest (a ++ x) h (c ++ x) = ReadsRequest-append a h c x f.reads in
     let second : ReadsRequest (b ++ y) k (d ++ y) = ReadsRequest-append b k d y g.reads in
     let heads = request_unique (b ++ y) h k (c ++ x) (d ++ y)
-        (subst (λ (t : List ℕ). ReadsRequest t h (c ++ x)) same first) second in
+    (subst (λ (t : List ℕ). ReadsRequest t h (c ++ x)) same first) second in
     let lengths : ◌≡◌ {A = Result ℕ HttpFault} (Ok (length c)) (Ok (length d)) =
-        sym f.framing ∙ ap framed heads.0 ∙ g.framing in
+    sym f.framing ∙ ap framed heads.0 ∙ g.framing in
     let content : c ≡ d = same_front c d x y (ok_same lengths) heads.1 in (
       f.reads.1 ∙ ap (λ (h : RequestHead). print_request h ++ c) heads.0 ∙ ap (λ (t : List ℕ). print_request k ++ t) content
-      ∙ sym g.reads.1,
+          ∙ sym g.reads.1,
       m_is ∙ ap (λ (h : RequestHead). message_of h c) heads.0 ∙ ap (message_of k) content ∙ sym n_is,
     )
 
@@ -97,8 +100,8 @@ whole_head : (bytes : List ℕ) (taken : ℕ) (message : Message) → StandsFirs
     → (h : RequestHead) × (len : ℕ) × HasHead bytes h × (framed h ≡ Ok len) × (length (print_request h) + len ≤ length bytes)
 whole_head bytes taken message (some, within, (h, content, f, message_is)) =
     let whole : bytes ≡ print_request h ++ (content ++ drop taken bytes) =
-        sym (take-append-drop taken bytes) ∙ ap (λ (t : List ℕ). t ++ drop taken bytes) f.reads.1
-        ∙ append_assoc (print_request h) content (drop taken bytes) in (
+    sym (take-append-drop taken bytes) ∙ ap (λ (t : List ℕ). t ++ drop taken bytes) f.reads.1
+    ∙ append_assoc (print_request h) content (drop taken bytes) in (
       h,
       length content,
       record { rest = content ++ drop taken bytes; reads = (f.reads.0, whole); short = f.short; few = f.few },
@@ -130,9 +133,9 @@ one_whole : (bytes : List ℕ) (t u : ℕ) (m n : Message) → StandsFirst bytes
     → Whole t m ≡ Whole u n
 one_whole bytes t u m n (some, within, is) (more, also, other) =
     let same = one_reading (take t bytes) (take u bytes) (drop t bytes) (drop u bytes) m n is other
-        (take-append-drop t bytes ∙ sym (take-append-drop u bytes)) in
+    (take-append-drop t bytes ∙ sym (take-append-drop u bytes)) in
     let lengths : t ≡ u =
-        omega (arith, ap length same.0, length-take-le t bytes within, length-take-le u bytes also) in
+    omega (arith, ap length same.0, length-take-le t bytes within, length-take-le u bytes also) in
     let messages : m ≡ n = same.1 in
     cc
 

@@ -4,6 +4,8 @@
 mod json;
 mod message;
 mod next;
+#[cfg(test)]
+mod tests;
 mod written;
 
 pub use message::{Message, Next, RequestFault};
