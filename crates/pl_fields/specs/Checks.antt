@@ -8,7 +8,8 @@ use Rattle.pl_checks.specs.declared.check.Approval.{Approval}
 use Rattle.pl_checks.specs.declared.check.BranchControl.{BranchControl}
 use Rattle.pl_checks.specs.declared.check.BusinessHours.{BusinessHours}
 use Rattle.pl_checks.specs.declared.check.Check.{Check}
-use Rattle.pl_checks.specs.declared.check.Check.TheVariants.{RequiredTemplate, Branch, Approval as Approvals, Hours}
+use Rattle.pl_checks.specs.declared.check.Check.TheVariants.{RequiredTemplate, Branch}
+use Rattle.pl_checks.specs.declared.check.Check.TheVariants.{Approval as Approvals, Hours}
 use Rattle.pl_checks.specs.declared.check.RequiredTemplate.{RequiredTemplate as Templates}
 use Rattle.pl_zones.specs.Zones.{IsZoneText}
 use Rattle.pl_fields.specs.Fields.{number, flag, text, list, IsShort, IsText, IsListOf}

@@ -1,9 +1,11 @@
 -- Kinds of values that are one byte: the place, from 0, in the list of the kind's values.
 use Rattle.std.specs.Prelude.{ℕ, List, [], ◌∷◌}
 use Rattle.pl_base.specs.declared.outcome.Outcome.{Outcome}
-use Rattle.pl_base.specs.declared.outcome.Outcome.TheVariants.{Succeeded, SucceededWithIssues, Failed, Canceled, Skipped}
+use Rattle.pl_base.specs.declared.outcome.Outcome.TheVariants.{Succeeded, SucceededWithIssues}
+use Rattle.pl_base.specs.declared.outcome.Outcome.TheVariants.{Failed, Canceled, Skipped}
 use Rattle.pl_base.specs.declared.resource.Kind.{Kind}
-use Rattle.pl_base.specs.declared.resource.Kind.TheVariants.{Environment, Connection, Group, Pool, Repository}
+use Rattle.pl_base.specs.declared.resource.Kind.TheVariants.{Environment, Connection, Group, Pool}
+use Rattle.pl_base.specs.declared.resource.Kind.TheVariants.{Repository}
 use Rattle.pl_rules.specs.declared.role.Role.{Role}
 use Rattle.pl_rules.specs.declared.role.Role.TheVariants.{Admin, Author, Approver, Agent, Reader}
 use Rattle.pl_rules.specs.declared.day.Day.{Day}

@@ -11,7 +11,8 @@ pub record Begins {X : Type 0} (spelled : X → List ℕ) (fits : X → Type 0) 
 
 -- no value that fits stands at their front
 abbrev pub BeginsNot : {X : Type 0} → (X → List ℕ) → (X → Type 0) → List ℕ → Type 0
-BeginsNot {X} spelled fits bytes = (value : X) (rest : List ℕ) → ¬ Begins spelled fits bytes value rest
+BeginsNot {X} spelled fits bytes = (value : X) (rest : List ℕ) →
+    ¬ Begins spelled fits bytes value rest
 
 -- a fault says that no such value is there, or nothing
 abbrev pub Misses : {X : Type 0} → (X → List ℕ) → (X → Type 0) → List ℕ → DecodeFault → Type 0

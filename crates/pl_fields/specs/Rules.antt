@@ -1,7 +1,11 @@
 -- The rules that end a stage or a job, by number, and how each is written.
 use Rattle.std.specs.Prelude.{ℕ, ◌<◌, ◌^◌, List, [], ◌++◌}
 use Rattle.pl_rules.specs.declared.rule.Rule.{Rule}
-use Rattle.pl_rules.specs.declared.rule.Rule.TheVariants.{ConditionFalse, RunCanceled, JobTimeout, TemplateRequired, TemplateArgument, BranchRefused, ApprovalRejected, ApprovalTimeout, HoursTimeout, LockSuperseded}
+use Rattle.pl_rules.specs.declared.rule.Rule.TheVariants.{ConditionFalse, RunCanceled, JobTimeout}
+use Rattle.pl_rules.specs.declared.rule.Rule.TheVariants.{TemplateRequired, TemplateArgument}
+use Rattle.pl_rules.specs.declared.rule.Rule.TheVariants.{BranchRefused, ApprovalRejected}
+use Rattle.pl_rules.specs.declared.rule.Rule.TheVariants.{ApprovalTimeout, HoursTimeout}
+use Rattle.pl_rules.specs.declared.rule.Rule.TheVariants.{LockSuperseded}
 use Rattle.pl_fields.specs.Fields.{number, text, decimal_text, IsShort, IsText}
 
 -- the number of a rule that ends a stage or a job; no other rule has one

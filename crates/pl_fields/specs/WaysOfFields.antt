@@ -1,5 +1,7 @@
 -- No spelling of a number, a flag or a text begins another one.
-use Rattle.std.proofs.Common.{◌≡◌, ℕ, ◌^◌, ◌<◌, Bool, true, false, List, [], ◌∷◌, ◌++◌, length, take, drop, refl, sym, ap, subst, ◌∙◌, append_assoc, length-append, arith, ◌+◌}
+use Rattle.std.proofs.Common.{◌≡◌, ℕ, ◌^◌, ◌<◌, Bool, true, false, List, [], ◌∷◌, ◌++◌, length}
+use Rattle.std.proofs.Common.{take, drop, refl, sym, ap, subst, ◌∙◌, append_assoc, length-append}
+use Rattle.std.proofs.Common.{arith, ◌+◌}
 use Rattle.std.specs.Int.{w32, w64, to_be_bytes, from_be_bytes}
 use Rattle.std.proofs.lemmas.List.{take_at, drop_at}
 use Rattle.std.proofs.lemmas.Nat.{from_be_bytes-to_be_bytes_4, from_be_bytes-to_be_bytes_8}
@@ -8,7 +10,8 @@ use Rattle.pl_fields.specs.Reading.{IsOneWay}
 use Rattle.pl_fields.specs.declared.texts.Raw.{Raw}
 
 -- fronts of one length, before the same bytes or not, are one, and so is what stands behind them
-pub same_parts : {X : Type 0} (a b r s : List X) → length a ≡ length b → a ++ r ≡ b ++ s → (a ≡ b) × (r ≡ s)
+pub same_parts : {X : Type 0} (a b r s : List X) → length a ≡ length b → a ++ r ≡ b ++ s → (a ≡ b) ×
+    (r ≡ s)
 same_parts a b r s len e = (
   sym (take_at a r (length b) len) ∙ (ap (take (length b)) e ∙ take_at b s (length b) refl),
   sym (drop_at a r (length b) len) ∙ (ap (drop (length b)) e ∙ drop_at b s (length b) refl),
@@ -31,12 +34,14 @@ count_len n = refl
 pub same_number : (m n : ℕ) → m < 2 ^ 64 → n < 2 ^ 64 → number m ≡ number n → m ≡ n
 unfolding number
 same_number m n small less e =
-    sym (from_be_bytes-to_be_bytes_8 m small) ∙ (ap (from_be_bytes w64) e ∙ from_be_bytes-to_be_bytes_8 n less)
+    sym (from_be_bytes-to_be_bytes_8 m small) ∙
+    (ap (from_be_bytes w64) e ∙ from_be_bytes-to_be_bytes_8 n less)
 
 same_count : (m n : ℕ) → m < 2 ^ 32 → n < 2 ^ 32 → count m ≡ count n → m ≡ n
 unfolding count
 same_count m n small less e =
-    sym (from_be_bytes-to_be_bytes_4 m small) ∙ (ap (from_be_bytes w32) e ∙ from_be_bytes-to_be_bytes_4 n less)
+    sym (from_be_bytes-to_be_bytes_4 m small) ∙
+    (ap (from_be_bytes w32) e ∙ from_be_bytes-to_be_bytes_4 n less)
 
 pub number_one_way : IsOneWay number (λ n. n < 2 ^ 64)
 number_one_way m n r s small less e =

@@ -1,14 +1,18 @@
 -- Kinds of values by number.
-use Rattle.std.proofs.Common.{◌≡◌, ℕ, zero, suc, List, [], ◌∷◌, ◌++◌, Option, Some, None, refl, sym, ap, ◌∙◌}
+use Rattle.std.proofs.Common.{◌≡◌, ℕ, zero, suc, List, [], ◌∷◌, ◌++◌, Option, Some, None, refl, sym}
+use Rattle.std.proofs.Common.{ap, ◌∙◌}
 use Rattle.std.specs.Prelude.{slice_get}
 use Rattle.std.proofs.lemmas.Option.{same_Some}
-use Rattle.pl_fields.specs.Kinds.{arguments_number, day_number, kind_number, outcome_number, role_number, argument_rules, days, kinds, outcomes, roles}
+use Rattle.pl_fields.specs.Kinds.{arguments_number, day_number, kind_number, outcome_number}
+use Rattle.pl_fields.specs.Kinds.{role_number, argument_rules, days, kinds, outcomes, roles}
 use Rattle.pl_fields.specs.Reading.{IsOneWay}
 use Rattle.pl_fields.specs.WaysOfFields.{head_is, tail_is}
 use Rattle.pl_base.specs.declared.outcome.Outcome.{Outcome}
-use Rattle.pl_base.specs.declared.outcome.Outcome.TheVariants.{Succeeded, SucceededWithIssues, Failed, Canceled, Skipped}
+use Rattle.pl_base.specs.declared.outcome.Outcome.TheVariants.{Succeeded, SucceededWithIssues}
+use Rattle.pl_base.specs.declared.outcome.Outcome.TheVariants.{Failed, Canceled, Skipped}
 use Rattle.pl_base.specs.declared.resource.Kind.{Kind}
-use Rattle.pl_base.specs.declared.resource.Kind.TheVariants.{Environment, Connection, Group, Pool, Repository}
+use Rattle.pl_base.specs.declared.resource.Kind.TheVariants.{Environment, Connection, Group, Pool}
+use Rattle.pl_base.specs.declared.resource.Kind.TheVariants.{Repository}
 use Rattle.pl_rules.specs.declared.role.Role.{Role}
 use Rattle.pl_rules.specs.declared.role.Role.TheVariants.{Admin, Author, Approver, Agent, Reader}
 use Rattle.pl_rules.specs.declared.day.Day.{Day}
@@ -16,12 +20,15 @@ use Rattle.pl_rules.specs.declared.day.Day.TheVariants.{Mon, Tue, Wed, Thu, Fri,
 use Rattle.pl_checks.specs.declared.check.Arguments.{Arguments}
 use Rattle.pl_checks.specs.declared.check.Arguments.TheVariants.{Any, Values}
 
-module _ {X : Type 0} (number : X → ℕ) (listed : List X) (back : (x : X) → slice_get listed (number x) ≡ Some x) where
+module _ {X : Type 0} (number : X → ℕ) (listed : List X)
+    (back : (x : X) → slice_get listed (number x) ≡ Some x) where
   -- a byte that is the number of a value tells the value
   pub numbered_one_way : IsOneWay (λ (x : X). number x ∷ []) (λ _. Unit {0})
   numbered_one_way x y r s a b e =
-      let same : number x ≡ number y = head_is (number x) (number y) r s e in
-      (same_Some x y (sym (back x) ∙ (ap (slice_get listed) same ∙ back y)), tail_is (number x) (number y) r s e)
+      let same : number x ≡ number y = head_is (number x) (number y) r s e in (
+        same_Some x y (sym (back x) ∙ (ap (slice_get listed) same ∙ back y)),
+        tail_is (number x) (number y) r s e,
+      )
 
 pub outcome_back : (x : Outcome) → slice_get outcomes (outcome_number x) ≡ Some x
 outcome_back Succeeded = refl
@@ -91,7 +98,8 @@ pub arguments_back : (x : Arguments) → slice_get argument_rules (arguments_num
 arguments_back Any = refl
 arguments_back Values = refl
 
-pub arguments_there : (n : ℕ) (x : Arguments) → slice_get argument_rules n ≡ Some x → n ≡ arguments_number x
+pub arguments_there : (n : ℕ) (x : Arguments) → slice_get argument_rules n ≡ Some x → n ≡
+    arguments_number x
 arguments_there zero x e = ap arguments_number (same_Some Any x e)
 arguments_there (suc zero) x e = ap arguments_number (same_Some Values x e)
 arguments_there (suc (suc n)) x e = absurd cc

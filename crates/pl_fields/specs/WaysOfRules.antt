@@ -1,7 +1,12 @@
 -- Rules by number and by what they tell.
-use Rattle.std.proofs.Common.{◌≡◌, ℕ, zero, suc, ◌<◌, ◌≤◌, ◌^◌, List, [], ◌∷◌, ◌++◌, length, refl, sym, ap, subst, ◌∙◌, append_assoc, arith}
+use Rattle.std.proofs.Common.{◌≡◌, ℕ, zero, suc, ◌<◌, ◌≤◌, ◌^◌, List, [], ◌∷◌, ◌++◌, length, refl}
+use Rattle.std.proofs.Common.{sym, ap, subst, ◌∙◌, append_assoc, arith}
 use Rattle.pl_rules.specs.declared.rule.Rule.{Rule}
-use Rattle.pl_rules.specs.declared.rule.Rule.TheVariants.{ConditionFalse, RunCanceled, JobTimeout, TemplateRequired, TemplateArgument, BranchRefused, ApprovalRejected, ApprovalTimeout, HoursTimeout, LockSuperseded}
+use Rattle.pl_rules.specs.declared.rule.Rule.TheVariants.{ConditionFalse, RunCanceled, JobTimeout}
+use Rattle.pl_rules.specs.declared.rule.Rule.TheVariants.{TemplateRequired, TemplateArgument}
+use Rattle.pl_rules.specs.declared.rule.Rule.TheVariants.{BranchRefused, ApprovalRejected}
+use Rattle.pl_rules.specs.declared.rule.Rule.TheVariants.{ApprovalTimeout, HoursTimeout}
+use Rattle.pl_rules.specs.declared.rule.Rule.TheVariants.{LockSuperseded}
 use Rattle.pl_fields.specs.Fields.{number, text, decimal_text, IsText}
 use Rattle.pl_fields.specs.Reading.{IsOneWay}
 use Rattle.pl_fields.specs.Rules.{rule, rule_number, rule_texts, IsKeptRule}
@@ -48,7 +53,8 @@ made (suc (suc (suc (suc (suc (suc (suc (suc (suc zero))))))))) told n = HoursTi
 made (suc (suc (suc (suc (suc (suc (suc (suc (suc (suc zero)))))))))) told n = LockSuperseded n
 made _ told n = ConditionFalse
 
-pub made_again : (told : Rule) → IsKeptRule told → made (rule_number told) (text_in told) (number_in told) ≡ told
+pub made_again : (told : Rule) → IsKeptRule told →
+    made (rule_number told) (text_in told) (number_in told) ≡ told
 made_again ConditionFalse kept = refl
 made_again RunCanceled kept = refl
 made_again JobTimeout kept = refl
@@ -69,7 +75,8 @@ behind (suc (suc (suc (suc (suc (suc (suc zero))))))) told n = text told
 behind (suc (suc (suc (suc (suc (suc (suc (suc (suc (suc zero)))))))))) told n = decimal_text n
 behind _ told n = []
 
-is_behind : (told : Rule) → rule_texts told ≡ behind (rule_number told) (text_in told) (number_in told)
+is_behind : (told : Rule) → rule_texts told ≡
+    behind (rule_number told) (text_in told) (number_in told)
 is_behind ConditionFalse = refl
 is_behind RunCanceled = refl
 is_behind JobTimeout = refl
@@ -93,10 +100,12 @@ CanTell (suc (suc (suc (suc (suc (suc zero)))))) told n = IsText told × (n ≡ 
 CanTell (suc (suc (suc (suc (suc (suc (suc zero))))))) told n = IsText told × (n ≡ 0)
 CanTell (suc (suc (suc (suc (suc (suc (suc (suc zero)))))))) told n = (told ≡ []) × (n ≡ 0)
 CanTell (suc (suc (suc (suc (suc (suc (suc (suc (suc zero))))))))) told n = (told ≡ []) × (n ≡ 0)
-CanTell (suc (suc (suc (suc (suc (suc (suc (suc (suc (suc zero)))))))))) told n = (told ≡ []) × (n < 2 ^ 64)
+CanTell (suc (suc (suc (suc (suc (suc (suc (suc (suc (suc zero)))))))))) told n = (told ≡ []) ×
+    (n < 2 ^ 64)
 CanTell _ told n = ⊥
 
-can_tell : (told : Rule) → IsKeptRule told → CanTell (rule_number told) (text_in told) (number_in told)
+can_tell : (told : Rule) → IsKeptRule told →
+    CanTell (rule_number told) (text_in told) (number_in told)
 can_tell ConditionFalse kept = (refl, refl)
 can_tell RunCanceled kept = (refl, refl)
 can_tell JobTimeout kept = (refl, refl)
@@ -110,16 +119,20 @@ can_tell (LockSuperseded run) kept = (refl, kept)
 can_tell _ kept = absurd kept
 
 -- of one number, what is told and what stands behind it are seen in the bytes
-behind_one_way : (number : ℕ) (told other : List ℕ) (n m : ℕ) (r s : List ℕ) → CanTell number told n → CanTell number other m
+behind_one_way : (number : ℕ) (told other : List ℕ) (n m : ℕ) (r s : List ℕ) →
+    CanTell number told n → CanTell number other m
     → behind number told n ++ r ≡ behind number other m ++ s → (told ≡ other) × (n ≡ m) × (r ≡ s)
 behind_one_way (suc zero) told other n m r s a b e = (a.0 ∙ sym b.0, a.1 ∙ sym b.1, e)
 behind_one_way (suc (suc zero)) told other n m r s a b e = (a.0 ∙ sym b.0, a.1 ∙ sym b.1, e)
 behind_one_way (suc (suc (suc zero))) told other n m r s a b e = (a.0 ∙ sym b.0, a.1 ∙ sym b.1, e)
-behind_one_way (suc (suc (suc (suc zero)))) told other n m r s a b e = (a.0 ∙ sym b.0, a.1 ∙ sym b.1, e)
+behind_one_way (suc (suc (suc (suc zero)))) told other n m r s a b e =
+    (a.0 ∙ sym b.0, a.1 ∙ sym b.1, e)
 behind_one_way (suc (suc (suc (suc (suc zero))))) told other n m r s a b e =
     let regrouped : text told ++ (decimal_text n ++ r) ≡ text other ++ (decimal_text m ++ s) =
-    sym (append_assoc (text told) (decimal_text n) r) ∙ (e ∙ append_assoc (text other) (decimal_text m) s) in
-    let parts = text_one_way told other (decimal_text n ++ r) (decimal_text m ++ s) a.0 b.0 regrouped in
+    sym (append_assoc (text told) (decimal_text n) r) ∙
+    (e ∙ append_assoc (text other) (decimal_text m) s) in
+    let parts = text_one_way told other (decimal_text n ++ r) (decimal_text m ++ s) a.0 b.0
+    regrouped in
     let digits = digits_one_way n m r s a.1 b.1 parts.1 in
     (parts.0, digits.0, digits.1)
 behind_one_way (suc (suc (suc (suc (suc (suc zero)))))) told other n m r s a b e =
@@ -128,9 +141,12 @@ behind_one_way (suc (suc (suc (suc (suc (suc zero)))))) told other n m r s a b e
 behind_one_way (suc (suc (suc (suc (suc (suc (suc zero))))))) told other n m r s a b e =
     let parts = text_one_way told other r s a.0 b.0 e in
     (parts.0, a.1 ∙ sym b.1, parts.1)
-behind_one_way (suc (suc (suc (suc (suc (suc (suc (suc zero)))))))) told other n m r s a b e = (a.0 ∙ sym b.0, a.1 ∙ sym b.1, e)
-behind_one_way (suc (suc (suc (suc (suc (suc (suc (suc (suc zero))))))))) told other n m r s a b e = (a.0 ∙ sym b.0, a.1 ∙ sym b.1, e)
-behind_one_way (suc (suc (suc (suc (suc (suc (suc (suc (suc (suc zero)))))))))) told other n m r s a b e =
+behind_one_way (suc (suc (suc (suc (suc (suc (suc (suc zero)))))))) told other n m r s a b e =
+    (a.0 ∙ sym b.0, a.1 ∙ sym b.1, e)
+behind_one_way (suc (suc (suc (suc (suc (suc (suc (suc (suc zero))))))))) told other n m r s a b e =
+    (a.0 ∙ sym b.0, a.1 ∙ sym b.1, e)
+behind_one_way (suc (suc (suc (suc (suc (suc (suc (suc (suc (suc zero)))))))))) told other n m r s a
+    b e =
     let parts = digits_one_way n m r s a.1 b.1 e in
     (a.0 ∙ sym b.0, parts.0, parts.1)
 behind_one_way _ told other n m r s a b e = absurd a
@@ -139,14 +155,21 @@ pub rule_one_way : IsOneWay rule IsKeptRule
 rule_one_way x y r s is_x is_y e =
     let small = kept_number x is_x in
     let less = kept_number y is_y in
-    let regrouped : number (rule_number x) ++ (rule_texts x ++ r) ≡ number (rule_number y) ++ (rule_texts y ++ s) =
-    sym (append_assoc (number (rule_number x)) (rule_texts x) r) ∙ (e ∙ append_assoc (number (rule_number y)) (rule_texts y) s) in
-    let first = number_one_way (rule_number x) (rule_number y) (rule_texts x ++ r) (rule_texts y ++ s) (omega arith) (omega arith) regrouped in
-    let of_x : behind (rule_number x) (text_in x) (number_in x) ++ r ≡ behind (rule_number x) (text_in y) (number_in y) ++ s =
-    ap (λ (bytes : List ℕ). bytes ++ r) (sym (is_behind x)) ∙ (first.1 ∙ (ap (λ (bytes : List ℕ). bytes ++ s) (is_behind y)
+    let regrouped : number (rule_number x) ++ (rule_texts x ++ r) ≡ number (rule_number y) ++
+    (rule_texts y ++ s) =
+    sym (append_assoc (number (rule_number x)) (rule_texts x) r) ∙
+    (e ∙ append_assoc (number (rule_number y)) (rule_texts y) s) in
+    let first = number_one_way (rule_number x) (rule_number y) (rule_texts x ++ r)
+    (rule_texts y ++ s) (omega arith) (omega arith) regrouped in
+    let of_x : behind (rule_number x) (text_in x) (number_in x) ++ r ≡
+    behind (rule_number x) (text_in y) (number_in y) ++ s =
+    ap (λ (bytes : List ℕ). bytes ++ r) (sym (is_behind x)) ∙
+    (first.1 ∙ (ap (λ (bytes : List ℕ). bytes ++ s) (is_behind y)
     ∙ ap (λ (n : ℕ). behind n (text_in y) (number_in y) ++ s) (sym first.0))) in
-    let told = behind_one_way (rule_number x) (text_in x) (text_in y) (number_in x) (number_in y) r s (can_tell x is_x)
+    let told = behind_one_way (rule_number x) (text_in x) (text_in y) (number_in x) (number_in y) r
+    s (can_tell x is_x)
     (subst (λ (n : ℕ). CanTell n (text_in y) (number_in y)) (sym first.0) (can_tell y is_y)) of_x in
-    let same : made (rule_number x) (text_in x) (number_in x) ≡ made (rule_number y) (text_in y) (number_in y) =
+    let same : made (rule_number x) (text_in x) (number_in x) ≡
+    made (rule_number y) (text_in y) (number_in y) =
     λ i. made (first.0 i) (told.0 i) (told.1 i) in
     (sym (made_again x is_x) ∙ (same ∙ made_again y is_y), told.2)

@@ -2,7 +2,8 @@ ghost use Rattle.std.specs.Prelude.{◌≡◌, ◌++◌, [], IfSome, length};
 ghost use Rattle.std.specs.List.{flat_map, AllByRecursion};
 ghost use Rattle.pl_fields.specs.Fields.{list, option, IsListOf};
 ghost use Rattle.pl_fields.specs.Reading.{Reads};
-ghost use Rattle.pl_fields.specs.WaysOfCompounds.{list_one_way, nothing_one_way, option_one_way, pair_one_way};
+ghost use Rattle.pl_fields.specs.WaysOfCompounds.{list_one_way, nothing_one_way, option_one_way};
+ghost use Rattle.pl_fields.specs.WaysOfCompounds.{pair_one_way};
 
 use crate::bytes::count_at;
 use crate::fault::DecodeFault;

@@ -1,8 +1,11 @@
 ghost use Rattle.std.specs.Prelude.{◌≡◌, length};
 ghost use Rattle.pl_fields.specs.Fields.{text, IsShort};
-ghost use Rattle.pl_fields.specs.Checks.{argument, digest, file_key, resource_key, IsArgument, IsDigest, IsFileKey, IsShortArgument, IsShortFileKey, IsZone};
+ghost use Rattle.pl_fields.specs.Checks.{argument, digest, file_key, resource_key, IsArgument};
+ghost use Rattle.pl_fields.specs.Checks.{IsDigest, IsFileKey, IsShortArgument, IsShortFileKey};
+ghost use Rattle.pl_fields.specs.Checks.{IsZone};
 ghost use Rattle.pl_fields.specs.Fields.{IsText};
-ghost use Rattle.pl_fields.specs.WaysOfKeys.{argument_one_way, digest_one_way, file_key_one_way, resource_key_one_way, zone_one_way};
+ghost use Rattle.pl_fields.specs.WaysOfKeys.{argument_one_way, digest_one_way, file_key_one_way};
+ghost use Rattle.pl_fields.specs.WaysOfKeys.{resource_key_one_way, zone_one_way};
 
 use crate::bytes::piece_at;
 use crate::fault::DecodeFault;

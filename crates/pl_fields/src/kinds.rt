@@ -1,9 +1,12 @@
 ghost use Rattle.std.specs.Prelude.{◌≡◌, ◌∷◌, ◌++◌, [], ℕ, Option, Some, List, OnOk, slice_get};
-ghost use Rattle.pl_fields.specs.Kinds.{arguments_number, day_number, kind_number, outcome_number, role_number};
+ghost use Rattle.pl_fields.specs.Kinds.{arguments_number, day_number, kind_number, outcome_number};
+ghost use Rattle.pl_fields.specs.Kinds.{role_number};
 ghost use Rattle.pl_fields.specs.Kinds.{argument_rules, days, kinds, outcomes, roles};
 ghost use Rattle.pl_fields.specs.Reading.{Reads};
-ghost use Rattle.pl_fields.specs.WaysOfKinds.{arguments_back, day_back, kind_back, outcome_back, role_back};
-ghost use Rattle.pl_fields.specs.WaysOfKinds.{arguments_there, day_there, kind_there, outcome_there, role_there};
+ghost use Rattle.pl_fields.specs.WaysOfKinds.{arguments_back, day_back, kind_back, outcome_back};
+ghost use Rattle.pl_fields.specs.WaysOfKinds.{role_back};
+ghost use Rattle.pl_fields.specs.WaysOfKinds.{arguments_there, day_there, kind_there};
+ghost use Rattle.pl_fields.specs.WaysOfKinds.{outcome_there, role_there};
 ghost use Rattle.pl_fields.specs.WaysOfKinds.{numbered_one_way};
 
 use crate::fault::DecodeFault;

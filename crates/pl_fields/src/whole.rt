@@ -18,7 +18,8 @@ pub fn encoded<T: Written>(alloc: Global, value: &T) -> Result<Bytes, Memory>
 
 /// The value that the bytes are, all of them.
 ///
-/// Torn comes exactly where they are no value's: a field passes their end, a byte is left behind the
+/// Torn comes exactly where they are no value's: a field passes their end, a byte is left behind
+/// the
 /// last one, a text isn't UTF-8, or a number, a flag or a kind isn't one of its type.
 pub fn decoded<T: Field>(alloc: Global, bytes: &[u8]) -> Result<T, DecodeFault>
     ensures ok { IfOk result (Is T.spelled T.fits bytes.now) }

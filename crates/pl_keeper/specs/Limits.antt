@@ -1,5 +1,6 @@
 -- The limits of what rows keep: names, places of files, numbers, checks and outputs.
-use Rattle.std.specs.Prelude.{ℕ, nat_eq, nat_le, nat_lt, Bool, true, false, not, ◌&&◌, ◌||◌, List, length, codes}
+use Rattle.std.specs.Prelude.{ℕ, nat_eq, nat_le, nat_lt, Bool, true, false, not, ◌&&◌, ◌||◌, List}
+use Rattle.std.specs.Prelude.{length, codes}
 use Rattle.std.specs.Char.{is_control}
 use Rattle.std.specs.List.{ends_with, list_all, list_any, starts_with}
 use Rattle.std.specs.Option.{option_map_or}
@@ -9,14 +10,17 @@ use Rattle.pl_base.specs.declared.outcome.Outcome.{Outcome}
 use Rattle.pl_base.specs.declared.outcome.Outcome.TheVariants.{Skipped}
 use Rattle.pl_base.specs.declared.place.FileKey.{FileKey}
 use Rattle.pl_checks.specs.declared.check.Check.{Check}
-use Rattle.pl_checks.specs.declared.check.Check.TheVariants.{RequiredTemplate, Branch, Approval, Hours}
+use Rattle.pl_checks.specs.declared.check.Check.TheVariants.{RequiredTemplate, Branch, Approval}
+use Rattle.pl_checks.specs.declared.check.Check.TheVariants.{Hours}
 use Rattle.pl_rules.specs.declared.rule.Rule.{Rule}
 use Rattle.pl_rules.specs.declared.rule.Rule.TheVariants.{ApprovalRejected}
 use Rattle.pl_texts.specs.Matching.{holds}
 use Rattle.pl_keeper.specs.declared.records.KeptFile.{KeptFile}
 use Rattle.pl_keeper.specs.declared.records.JobEnd.{JobEnd}
 use Rattle.pl_keeper.specs.declared.records.Record.{Record}
-use Rattle.pl_keeper.specs.declared.records.Record.TheVariants.{Meta, File, Pipeline, Resource, Principal, Agent, Run, Stage, Job, Decision}
+use Rattle.pl_keeper.specs.declared.records.Record.TheVariants.{Meta, File, Pipeline, Resource}
+use Rattle.pl_keeper.specs.declared.records.Record.TheVariants.{Principal, Agent, Run, Stage, Job}
+use Rattle.pl_keeper.specs.declared.records.Record.TheVariants.{Decision}
 
 -- from one byte to so many, without control characters (U+0000 to U+001F and U+007F to U+009F)
 abbrev pub is_plain : ℕ → List ℕ → Bool
@@ -33,7 +37,8 @@ is_ref text = nat_le (length text) 128 && starts_with nat_eq text (codes "refs/"
 
 -- a path begins with a slash, and none of the pieces behind its slashes is empty, `.` or `..`
 abbrev pub has_odd_piece : List ℕ → Bool
-has_odd_piece text = (holds text (codes "//") || (holds text (codes "/./") || holds text (codes "/../"))) ||
+has_odd_piece text = (holds text (codes "//") ||
+    (holds text (codes "/./") || holds text (codes "/../"))) ||
     (ends_with nat_eq text (codes "/") || (ends_with nat_eq text (codes "/.") ||
     ends_with nat_eq text (codes "/..")))
 
@@ -56,10 +61,12 @@ is_counted n = nat_le n 999999999999999999
 abbrev pub are_minutes : ℕ → Bool
 are_minutes minutes = nat_le 1 minutes && nat_le minutes 525600
 
--- what a check needs: a template, a pattern, a day; from one of its approvers on to all of them; and
+-- what a check needs: a template, a pattern, a day; from one of its approvers on to all of them;
+-- and
 -- minutes of a day in order
 abbrev pub is_guard : Check → Bool
-is_guard (RequiredTemplate told) = not (nat_eq (length told.templates) 0) && list_all is_place told.templates
+is_guard (RequiredTemplate told) = not (nat_eq (length told.templates) 0) &&
+    list_all is_place told.templates
 is_guard (Branch told) = not (nat_eq (length told.patterns) 0)
 is_guard (Approval told) = list_all is_name told.approvers && ((nat_le 1 told.least &&
     nat_le told.least (length told.approvers)) && are_minutes told.minutes)
@@ -82,7 +89,8 @@ is_skipped _ = false
 -- no report says Skipped, and a report has at most 100 outputs
 abbrev pub is_end : JobEnd → Bool
 is_end told = option_map_or is_ending told.rule true && (option_map_or
-    (λ outcome. not (is_skipped outcome)) told.reported true && (nat_le (length told.outputs) 100 && list_all is_output told.outputs))
+    (λ outcome. not (is_skipped outcome)) told.reported true &&
+    (nat_le (length told.outputs) 100 && list_all is_output told.outputs))
 
 abbrev pub is_within : Record → Bool
 is_within (Meta kept) = nat_le kept.moment 4102444799 && (is_counted kept.run &&

@@ -57,7 +57,8 @@ IsShortTaking told = IsShort told.agent × Unit {0}
 abbrev pub IsTaking : Taking → Type 0
 IsTaking told = IsText told.agent × (told.moment < 2 ^ 64)
 
--- a job's end: its moment, the result, the rule if one ended it, the result that was reported if one
+-- a job's end: its moment, the result, the rule if one ended it, the result that was reported if
+-- one
 -- was, and the outputs
 abbrev pub job_end : JobEnd → List ℕ
 job_end told = number told.moment ++ ((outcome_number told.outcome ∷ []) ++

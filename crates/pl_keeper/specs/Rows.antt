@@ -3,13 +3,19 @@ use Rattle.std.specs.Prelude.{◌≡◌, ◌≢◌, ℕ, ◌<◌, ◌^◌, List,
 use Rattle.pl_base.specs.declared.row.Row.{Row}
 use Rattle.pl_fields.specs.declared.fault.DecodeFault.{DecodeFault}
 use Rattle.pl_fields.specs.declared.fault.DecodeFault.TheVariants.{Torn, Memory}
-use Rattle.pl_fields.specs.Checks.{argument, check, digest, file_key, resource_key, IsArgument, IsCheck, IsDigest, IsFileKey, IsShortArgument, IsShortCheck, IsShortFileKey}
+use Rattle.pl_fields.specs.Checks.{argument, check, digest, file_key, resource_key, IsArgument}
+use Rattle.pl_fields.specs.Checks.{IsCheck, IsDigest, IsFileKey, IsShortArgument, IsShortCheck}
+use Rattle.pl_fields.specs.Checks.{IsShortFileKey}
 use Rattle.pl_fields.specs.Fields.{number, flag, text, option, list, IsShort, IsText, IsListOf}
 use Rattle.pl_fields.specs.Kinds.{role_number}
-use Rattle.pl_keeper.specs.Parts.{job_end, kept_file, stage_end, taking, texts, AreShort, AreTexts, IsJobEnd, IsKeptFile, IsShortJobEnd, IsShortKeptFile, IsShortStageEnd, IsShortTaking, IsStageEnd, IsTaking}
+use Rattle.pl_keeper.specs.Parts.{job_end, kept_file, stage_end, taking, texts, AreShort, AreTexts}
+use Rattle.pl_keeper.specs.Parts.{IsJobEnd, IsKeptFile, IsShortJobEnd, IsShortKeptFile}
+use Rattle.pl_keeper.specs.Parts.{IsShortStageEnd, IsShortTaking, IsStageEnd, IsTaking}
 use Rattle.pl_keeper.specs.declared.records.KeptRun.{KeptRun}
 use Rattle.pl_keeper.specs.declared.records.Record.{Record}
-use Rattle.pl_keeper.specs.declared.records.Record.TheVariants.{Meta, File, Pipeline, Resource, Principal, Agent, Run, Stage, Job, Decision}
+use Rattle.pl_keeper.specs.declared.records.Record.TheVariants.{Meta, File, Pipeline, Resource}
+use Rattle.pl_keeper.specs.declared.records.Record.TheVariants.{Principal, Agent, Run, Stage, Job}
+use Rattle.pl_keeper.specs.declared.records.Record.TheVariants.{Decision}
 
 abbrev pub table : Record → ℕ
 table (Meta kept) = 0
@@ -67,7 +73,8 @@ IsShortRecord (File kept) = IsShortFileKey kept.key × IsShort kept.text
 IsShortRecord (Pipeline kept) = IsShort kept.name × (IsShort kept.repo × IsShort kept.path)
 IsShortRecord (Resource kept) = (Unit {0} × IsShort kept.key.name) × (Unit {0} ×
     (IfSome kept.pipelines (IsListOf IsShort) × IsListOf IsShortCheck kept.checks))
-IsShortRecord (Principal kept) = IsShort kept.name × (IsListOf (λ _. Unit {0}) kept.roles × Unit {0})
+IsShortRecord (Principal kept) = IsShort kept.name ×
+    (IsListOf (λ _. Unit {0}) kept.roles × Unit {0})
 IsShortRecord (Agent kept) = IsShort kept.name × (IsShort kept.pool ×
     IsListOf AreShort kept.capabilities)
 IsShortRecord (Run kept) = IsShortRun kept

@@ -1,6 +1,9 @@
 ghost use Rattle.std.specs.Prelude.{◌≡◌};
-ghost use Rattle.pl_keeper.specs.Parts.{IsJobEnd, IsShortJobEnd, IsShortKeptFile, IsShortStageEnd, IsShortTaking, IsStageEnd, IsTaking, IsKeptFile, job_end, kept_file, stage_end, taking};
-ghost use Rattle.pl_keeper.specs.WaysOfParts.{job_end_one_way, kept_file_one_way, stage_end_one_way, taking_one_way};
+ghost use Rattle.pl_keeper.specs.Parts.{IsJobEnd, IsShortJobEnd, IsShortKeptFile, IsShortStageEnd};
+ghost use Rattle.pl_keeper.specs.Parts.{IsShortTaking, IsStageEnd, IsTaking, IsKeptFile, job_end};
+ghost use Rattle.pl_keeper.specs.Parts.{kept_file, stage_end, taking};
+ghost use Rattle.pl_keeper.specs.WaysOfParts.{job_end_one_way, kept_file_one_way};
+ghost use Rattle.pl_keeper.specs.WaysOfParts.{stage_end_one_way, taking_one_way};
 
 use crate::records::{JobEnd, KeptFile, StageEnd, Taking};
 use pl_base::{FileKey, List, Memory, Moment, Outcome, Text};

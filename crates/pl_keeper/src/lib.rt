@@ -1,4 +1,5 @@
-//! The rows that the service keeps: what stands in each, how rows stand in bytes, and who keeps them.
+//! The rows that the service keeps: what stands in each, how rows stand in bytes, and who keeps
+//! them.
 #![tactic(auto)]
 
 mod copies;

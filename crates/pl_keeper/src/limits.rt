@@ -7,7 +7,9 @@ ghost use Rattle.std.specs.List.{list_all, list_any};
 ghost use Rattle.std.specs.Option.{option_map_or};
 ghost use Rattle.std.specs.Str.{chars};
 ghost use Rattle.pl_texts.specs.Matching.{holds};
-ghost use Rattle.pl_keeper.specs.Limits.{are_minutes, has_odd_piece, is_counted, is_end, is_ending, is_file, is_guard, is_name, is_output, is_path, is_place, is_plain, is_ref, is_skipped, is_within};
+ghost use Rattle.pl_keeper.specs.Limits.{are_minutes, has_odd_piece, is_counted, is_end, is_ending};
+ghost use Rattle.pl_keeper.specs.Limits.{is_file, is_guard, is_name, is_output, is_path, is_place};
+ghost use Rattle.pl_keeper.specs.Limits.{is_plain, is_ref, is_skipped, is_within};
 
 use crate::records::{JobEnd, KeptFile, KeptRun, Record, StageEnd, Taking};
 use pl_base::{Argument, FileKey, LAST_MOMENT, List, Outcome, Text};

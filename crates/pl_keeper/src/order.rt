@@ -1,10 +1,12 @@
 //! Rows in order of table and key.
 
-ghost use Rattle.std.specs.Prelude.{◌≡◌, ◌+◌, ◌≤◌, ◌<◌, ◌++◌, drop, filter, insert, length, take, vec_len, IsPermutation};
+ghost use Rattle.std.specs.Prelude.{◌≡◌, ◌+◌, ◌≤◌, ◌<◌, ◌++◌, drop, filter, insert, length, take};
+ghost use Rattle.std.specs.Prelude.{vec_len, IsPermutation};
 ghost use Rattle.std.specs.Ordering.{is_lt};
 ghost use Rattle.std.specs.List.Sorted.{IsSorted};
 ghost use Rattle.std.specs.Vec.{vec_capacity};
-ghost use Rattle.pl_keeper.specs.Keeping.{all_changed, changed, place, place_cmp, row_cmp, IsInOrder};
+ghost use Rattle.pl_keeper.specs.Keeping.{all_changed, changed, place, place_cmp, row_cmp};
+ghost use Rattle.pl_keeper.specs.Keeping.{IsInOrder};
 
 use pl_base::{Bytes, Change, Row};
 use std::cmp::Ordering;

@@ -42,7 +42,8 @@ pub struct KeptPipeline {
     pub path: Text,
 }
 
-/// A resource: whether one stage at a time uses it, which pipelines may (None: all), and its checks.
+/// A resource: whether one stage at a time uses it, which pipelines may (None: all), and its
+/// checks.
 #[derive(Debug, Drop)]
 pub struct KeptResource {
     pub key: ResourceKey,

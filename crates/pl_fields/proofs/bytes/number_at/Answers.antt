@@ -8,7 +8,8 @@ returns-then-bytes-lt8 c = λ n rest small e. no_number c.args.bytes.now c.if-by
 
 pub returns : goal.returns
 returns c =
-    let value : c.from_be_bytes-number.result ≡ from_be_bytes w64 (take 8 c.args.bytes.now) = search rules in (
+    let value : c.from_be_bytes-number.result ≡ from_be_bytes w64 (take 8 c.args.bytes.now) =
+    search rules in (
       omega arith,
       number_found c.args.bytes.now c.from_be_bytes-number.result c.split_at.result.1.now
           (λ i. omega (arith, c.type_inv.bytes i)) (omega arith) value c.split_at.ensures.back,

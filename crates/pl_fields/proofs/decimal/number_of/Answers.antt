@@ -7,4 +7,5 @@ use Rattle.pl_fields.proofs.decimal.number_of.Goals as goal
 
 pub returns-in-Err : goal.returns-in-Err
 returns-in-Err c = λ n small e.
-    c.in-Err.ensures.cases.0 (subst IsUtf8 (sym e) (IsUtf8-from_ascii (decimal n) (IsAscii-decimal n small)))
+    c.in-Err.ensures.cases.0 (subst IsUtf8 (sym e)
+    (IsUtf8-from_ascii (decimal n) (IsAscii-decimal n small)))

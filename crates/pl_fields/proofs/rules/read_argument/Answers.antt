@@ -11,4 +11,5 @@ returns-in_err-job c =
 pub returns-in-Err : goal.returns-in-Err
 returns-in-Err c =
     argument_not c.args.bytes.now c.in_ok-job.job c.in_ok-job.step c.in_ok-job.rest.now
-    (record { does_fit = c.in_ok-job.ensures.does_fit; parts = c.in_ok-job.ensures.parts }) (omega (arith, c.in-Err.ensures))
+    (record { does_fit = c.in_ok-job.ensures.does_fit; parts = c.in_ok-job.ensures.parts })
+    (omega (arith, c.in-Err.ensures))

@@ -8,12 +8,16 @@ use Rattle.pl_keeper.proofs.OneRow.{one_record}
 use Rattle.pl_keeper.proofs.decoding.decode.Goals as goal
 
 -- a record that was refused wasn't good
-refused : (told : Record) (read : Result Record DecodeFault) (good : Bool) → read ≡ cond good (Ok told) (Err Torn) → IsErrOf read Torn → good ≡ false
+refused : (told : Record) (read : Result Record DecodeFault) (good : Bool) → read ≡
+    cond good (Ok told) (Err Torn) → IsErrOf read Torn → good ≡ false
 refused told read true e torn = let both : read ≡ Ok told = e in absurd cc
 refused told read false e torn = refl
 
 pub returns-clause-torn : goal.returns-clause-torn
 returns-clause-torn c = λ torn kept is within same.
-    let one = one_record c.in_ok-record.record kept c.in_ok-record.ensures.ok.0 is (sym c.in_ok-record.ensures.ok.1 ∙ same) in
-    let not_good = refused c.in_ok-record.record c.kept_if.result c.is_within-is_good.result c.kept_if.ensures torn in
-    true≢false (sym within ∙ (ap is_within (sym one) ∙ (sym c.is_within-is_good.ensures ∙ not_good)))
+    let one = one_record c.in_ok-record.record kept c.in_ok-record.ensures.ok.0 is
+    (sym c.in_ok-record.ensures.ok.1 ∙ same) in
+    let not_good = refused c.in_ok-record.record c.kept_if.result c.is_within-is_good.result
+    c.kept_if.ensures torn in
+    true≢false (sym within ∙ (ap is_within (sym one) ∙
+    (sym c.is_within-is_good.ensures ∙ not_good)))

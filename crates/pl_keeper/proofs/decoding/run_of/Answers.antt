@@ -7,5 +7,6 @@ use Rattle.pl_keeper.proofs.decoding.run_of.Goals as goal
 pub returns-in_err-run : goal.returns-in_err-run
 returns-in_err-run c =
     let p = err_from_is_err_and c.from_residual.result c.from_residual.ensures.1 in
-    rw (p.1, p.2) (misses number IsNumber run_body IsRunBody 6 c.args.row.now (run_parts c.args.row.now) c.in_err-run.field-0.0
+    rw (p.1, p.2) (misses number IsNumber run_body IsRunBody 6 c.args.row.now
+    (run_parts c.args.row.now) c.in_err-run.field-0.0
     c.in_err-run.ensures.torn)

@@ -8,7 +8,10 @@ use Rattle.pl_keeper.proofs.order.count_before.Goals as goal
 pub returns-clause-front : goal.returns-clause-front
 returns-clause-front c =
     let at : Row = record { table = c.args.table; key = c.args.key.now; body = [] } in
-    let point = IsPartitionPoint-from_clause (λ (row : Row). comes_before row at) c.args.rows.now c.partition_point.result
-    c.partition_point.ensures.partitioned (before_first c.args.rows.now at c.requires) (λ a r q called. search rules) in
-    (cut (λ (row : Row). comes_before row at) (λ row. not (comes_before row at)) (λ row. refl) c.args.rows.now c.partition_point.result
+    let point = IsPartitionPoint-from_clause (λ (row : Row). comes_before row at) c.args.rows.now
+    c.partition_point.result
+    c.partition_point.ensures.partitioned (before_first c.args.rows.now at c.requires)
+    (λ a r q called. search rules) in
+    (cut (λ (row : Row). comes_before row at) (λ row. not (comes_before row at)) (λ row. refl)
+    c.args.rows.now c.partition_point.result
     c.partition_point.ensures.bound point.0 point.1).0

@@ -12,6 +12,7 @@ returns-in_default c = λ value rest begins.
 pub returns-in-None : goal.returns-in-None
 returns-in-None c = λ value rest begins.
     let small : value.number < 2 ^ 64 = begins.does_fit in
-    let same = piece_one_way (decimal value.number) c.in-Some.text.now rest c.in-Some.rest.now (decimal_short value.number small) c.in-Some.ensures.0
+    let same = piece_one_way (decimal value.number) c.in-Some.text.now rest c.in-Some.rest.now
+    (decimal_short value.number small) c.in-Some.ensures.0
     (sym begins.parts ∙ c.in-Some.ensures.1) in
     c.in-None.ensures value.number small (sym same.0)

@@ -7,5 +7,6 @@ use Rattle.pl_fields.proofs.keys.FileKeyField.read.Goals as goal
 pub returns-in_err-repo : goal.returns-in_err-repo
 returns-in_err-repo c =
     let p = err_from_is_err_and c.from_residual.result c.from_residual.ensures.1 in
-    rw (p.1, p.2) (via_misses {X = FileKey} {Y = List ℕ × (List ℕ × List ℕ)} (λ key. (key.repo, (key.git_ref, key.path))) _ _
+    rw (p.1, p.2) (via_misses {X = FileKey} {Y = List ℕ × (List ℕ × List ℕ)}
+    (λ key. (key.repo, (key.git_ref, key.path))) _ _
     c.args.bytes.now c.in_err-repo.field-0.0 c.in_err-repo.ensures)

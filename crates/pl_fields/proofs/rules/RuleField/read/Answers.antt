@@ -10,5 +10,7 @@ small told kept = let bounds = kept_number told kept in omega arith
 
 pub returns : goal.returns
 returns c =
-    numbered_reads rule_number rule_texts IsKeptRule small _ c.in_ok-number.number c.args.bytes.now c.in_ok-number.rest.now
-    c.in_ok-number.ensures.does_fit c.in_ok-number.ensures.parts c.rule_behind.result c.rule_behind.ensures
+    numbered_reads rule_number rule_texts IsKeptRule small _ c.in_ok-number.number c.args.bytes.now
+    c.in_ok-number.rest.now
+    c.in_ok-number.ensures.does_fit c.in_ok-number.ensures.parts c.rule_behind.result
+    c.rule_behind.ensures

@@ -9,5 +9,7 @@ use Rattle.pl_keeper.proofs.ends.StageEndField.read.Goals as goal
 pub returns-in_err-moment : goal.returns-in_err-moment
 returns-in_err-moment c =
     let p = err_from_is_err_and c.from_residual.result c.from_residual.ensures.1 in
-    rw (p.1, p.2) (via_misses {X = StageEnd} {Y = ℕ × (Outcome × Option Rule)} (λ told. (told.moment, (told.outcome, told.rule))) _ _ c.args.bytes.now c.in_err-moment.field-0.0
+    rw (p.1, p.2) (via_misses {X = StageEnd} {Y = ℕ × (Outcome × Option Rule)}
+    (λ told. (told.moment, (told.outcome, told.rule))) _ _ c.args.bytes.now
+    c.in_err-moment.field-0.0
     c.in_err-moment.ensures)
