@@ -3,3 +3,4 @@ pub mod Rows
 pub mod WaysOfParts
 pub mod Limits
 pub mod Keeping
+pub mod Sorting
