@@ -1,5 +1,4 @@
 pub mod Alone
 pub mod Entries
 pub mod Finding
-pub mod OneFile
 pub mod Sides

@@ -13,10 +13,9 @@ mod repositories;
 mod resources;
 mod root;
 mod root_key;
-#[cfg(test)]
-mod tests;
 
-pub use expansion::expand;
+pub use expansion::{expand, expand_counted};
 pub use mem_files::MemFiles;
 pub use pl_calls::{Files, Parsed};
 pub use pl_directives::{Complaint, ExpandFault, ExpandProblem};
+pub use root::RootTree;

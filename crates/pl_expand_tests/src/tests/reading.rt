@@ -1,11 +1,10 @@
 use super::faults::put_fault;
 use super::one_file::OneFile;
 use super::shown::{ROOT, put_node};
-use crate::expansion::expand_counted;
-use crate::root::RootTree;
 use pl_base::{Argument, FileKey, List, Memory, Shared, Text};
 use pl_calls::Parsed;
 use pl_directives::ExpandFault;
+use pl_expand::{RootTree, expand_counted};
 use pl_yaml::read;
 use std::alloc::Global;
 

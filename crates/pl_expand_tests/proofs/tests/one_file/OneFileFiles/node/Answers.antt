@@ -1,8 +1,8 @@
 use Rattle.std.proofs.Common.{Some, ap, refl, ◌∙◌}
 use Rattle.std.specs.declared.cmp.Ordering.TheVariants.{Less, Equal, Greater}
 use Rattle.pl_calls.specs.declared.files.Parsed.{Parsed}
-use Rattle.pl_expand.proofs.OneFile.{one_file}
-use Rattle.pl_expand.proofs.tests.one_file.OneFileFiles.node.Goals as goal
+use Rattle.pl_expand_tests.proofs.OneFile.{one_file}
+use Rattle.pl_expand_tests.proofs.tests.one_file.OneFileFiles.node.Goals as goal
 
 pub returns-in_ok-copy-in-Equal-clause-file : goal.returns-in_ok-copy-in-Equal-clause-file
 returns-in_ok-copy-in-Equal-clause-file c =

@@ -9,11 +9,9 @@
 use super::faults::put_fault;
 use super::reading::arguments;
 use super::shown::{ROOT, put_file, put_node};
-use crate::MemFiles;
-use crate::expansion::expand_counted;
-use crate::root::RootTree;
 use pl_base::{FileKey, Memory, Text};
 use pl_directives::ExpandFault;
+use pl_expand::{MemFiles, RootTree, expand_counted};
 use std::alloc::Global;
 
 fn key_of(alloc: Global, repo: &str, git_ref: &str, path: &str) -> Result<FileKey, Memory> {
