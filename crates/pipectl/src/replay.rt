@@ -5,7 +5,7 @@ ghost use Rattle.pipectl.specs.Session.{point, Session};
 use crate::alone::Alone;
 use crate::buffer::Buffer;
 use crate::served::{Broken, Served, Unread};
-use crate::serving::{PIECE, answer_all, next_piece, read_on, refuse};
+use crate::serving::{PIECE, answer_on, next_piece, read_on, refuse};
 use pl_base::{Clock, Link};
 use std::alloc::Global;
 
@@ -25,8 +25,9 @@ pub fn replay_link<L: Link, C: Clock>(
     };
     let mut buffer = Buffer::new(alloc);
     let mut taken = 0;
+    let mut least = 0;
     'pieces: loop {
-        match answer_all(alloc, desk, link, clock, &mut buffer) {
+        match answer_on(alloc, desk, link, clock, &mut buffer, &mut least) {
             Ok(None) => {}
             Ok(Some(fault)) => match refuse(alloc, link, fault) {
                 Ok(()) => return Served::Bad(fault),

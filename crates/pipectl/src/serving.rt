@@ -2,7 +2,7 @@
 
 ghost use Rattle.std.specs.Prelude.{◌≡◌, ◌++◌, ◌-◌, ℕ, List, length, min, OnOk, OnErr, IfOk, MatchOption};
 ghost use Rattle.pl_base.specs.Counts.{one_more};
-ghost use Rattle.pl_wire.specs.Message.{IsMessage, IsPartial, IsBad};
+ghost use Rattle.pl_wire.specs.Message.{IsMessage, IsPartial, IsBad, WaitsFor};
 ghost use Rattle.pipectl.specs.Acts.{sent, refused};
 ghost use Rattle.pipectl.specs.Replay.{Answers, CountsUnread, EndsAtNone, OnlyWrites, ReadsPiece, Sends};
 ghost use Rattle.pipectl.specs.Session.{point, taken_limit};
@@ -12,7 +12,9 @@ use crate::alone::{Alone, Answer};
 use crate::buffer::Buffer;
 use crate::served::{Broken, Unread};
 use pl_base::{Clock, Failed, Link};
-use pl_wire::{HttpFault, Message, Next, fault_reply, memory_reply, next_request, reply_bytes};
+use pl_wire::{
+    HttpFault, Message, Next, fault_reply, memory_reply, next_request, reply_bytes, wanted,
+};
 use std::alloc::Global;
 
 /// Writes all of the bytes, or their beginning where a write fails.
@@ -69,8 +71,8 @@ fn answer_next<L: Link, C: Clock>(
     respond(alloc, link, &answer)
 }
 
-/// Answers each whole message of the buffer, and says whether what is left can't begin one.
-pub fn answer_all<L: Link, C: Clock>(
+// Answers each whole message of the buffer, and says whether what is left can't begin one.
+fn answer_all<L: Link, C: Clock>(
     alloc: Global,
     desk: &mut Alone,
     link: &mut L,
@@ -93,6 +95,31 @@ pub fn answer_all<L: Link, C: Clock>(
             }
         }
     }
+}
+
+/// The same, where the bytes may be known to be too few: then they aren't read again.
+pub fn answer_on<L: Link, C: Clock>(
+    alloc: Global,
+    desk: &mut Alone,
+    link: &mut L,
+    clock: &mut C,
+    buffer: &mut Buffer,
+    least: &mut usize,
+) -> Result<Option<HttpFault>, Broken>
+    requires { WaitsFor least.old buffer.old }
+    ensures answers { Answers result (point L.Link C.Clock link.old clock.old desk.old) buffer.old
+        (point L.Link C.Clock link.new clock.new desk.new) buffer.new }
+    ensures front { IfOk result (λ fault.
+        MatchOption fault (IsPartial buffer.new) (λ fault. IsBad buffer.new fault)) }
+    ensures writes { OnlyWrites result (told L.Link link.old) (told L.Link link.new) }
+    ensures waits { OnOk result (WaitsFor least.new buffer.new) }
+{
+    if buffer.len() < *least {
+        return Ok(None);
+    }
+    let fault = answer_all(alloc, desk, link, clock, buffer)?;
+    *least = wanted(buffer.as_slice());
+    Ok(fault)
 }
 
 /// Reads a piece behind the buffer, and says how many bytes came.

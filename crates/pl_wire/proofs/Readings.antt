@@ -9,11 +9,11 @@ use Rattle.pl_heads.specs.declared.front.Head.{Head}
 use Rattle.pl_heads.specs.Fronts.{fields_of, framed, IsReadOf, IsFaulty, OneFront}
 use Rattle.pl_heads.specs.Fields.{token_of}
 use Rattle.pl_heads.specs.Heads.{HasHead, IsPartialHead, below_limit}
-use Rattle.pl_heads.proofs.FrontLemmas.{fault-append, one, two_cuts}
+use Rattle.pl_heads.proofs.FrontLemmas.{fault-append, head-append, one, two_cuts}
 use Rattle.pl_wire.specs.declared.message.Message.{Message}
 use Rattle.pl_wire.specs.declared.message.Next.{Next}
 use Rattle.pl_wire.specs.declared.message.Next.TheVariants.{Partial, Whole, Bad}
-use Rattle.pl_wire.specs.Message.{told, message_of, IsFramed, IsMessage, AwaitsContent, IsPartial, IsBad, StandsFirst, OneReading, OneAnswer, MessagesStay, IsNotWhole}
+use Rattle.pl_wire.specs.Message.{told, message_of, IsFramed, IsMessage, AwaitsContent, IsPartial, IsBad, StandsFirst, WaitsFor, OneReading, OneAnswer, MessagesStay, IsNotWhole}
 
 -- ---- a whole message
 
@@ -194,3 +194,18 @@ pub bad_none : (rest : List ℕ) (fault : HttpFault) → IsBad rest fault → (l
 bad_none rest fault bad len message is =
     let w = whole_head rest (length (take len rest)) message (front_stands rest len message is) in
     no_fault rest w.0 w.1 fault w.2 w.3 bad
+
+-- ---- what is waited for
+
+-- a whole head's content
+pub waits_content : (bytes : List ℕ) (front : Head) (h : RequestHead) (wanted : ℕ) → HasHead bytes h → IsReadOf front h
+    → wanted ≤ front.len + front.content → WaitsFor wanted bytes
+waits_content bytes front h wanted has of least more short = inr (
+  h,
+  front.content,
+  record {
+    has = head-append bytes more h has;
+    framing = of.content;
+    missing = omega (arith, of.len);
+  },
+)

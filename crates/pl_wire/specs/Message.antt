@@ -72,6 +72,10 @@ pub record AwaitsContent (bytes : List ℕ) (head : RequestHead) (len : ℕ) : T
 abbrev pub IsPartial : List ℕ → Type 0
 IsPartial bytes = IsPartialHead bytes ⊎ ((head : RequestHead) × (len : ℕ) × AwaitsContent bytes head len)
 
+-- bytes that begin as these begin a message, while they are fewer than so many
+abbrev pub WaitsFor : ℕ → List ℕ → Type 0
+WaitsFor wanted bytes = (more : List ℕ) → length (bytes ++ more) < wanted → IsPartial (bytes ++ more)
+
 -- neither: a fault after which the link ends
 abbrev pub IsBad : List ℕ → HttpFault → Type 0
 IsBad bytes fault = IsFaulty bytes fault

@@ -9,6 +9,6 @@ mod tests;
 mod written;
 
 pub use message::{Message, Next, RequestFault};
-pub use next::{messages_stay, next_request, one_answer, one_reading};
+pub use next::{messages_stay, next_request, one_answer, one_reading, wanted};
 pub use pl_heads::HttpFault;
 pub use written::{MEMORY_REPLY, fault_reply, memory_reply, refused_reply, reply_bytes};

@@ -1,4 +1,5 @@
 use Rattle.std.proofs.Common.{◌≡◌, ◌-◌, vec_len}
+use Rattle.pl_wire.specs.Message.{WaitsFor}
 use Rattle.pipectl.specs.Session.{point}
 use Rattle.pipectl.proofs.Endings.{Serving}
 use Rattle.pipectl.proofs.replay.replay_link.Given as goal
@@ -9,6 +10,7 @@ invariant-pieces g l = record {
   serving : Serving (point g.L.Link g.C.Clock l.fn.link l.fn.clock l.fn.desk)
       (point g.L.Link g.C.Clock l.link l.clock l.desk) l.buffer l.taken;
   piece_len : vec_len l.piece ≡ 65536;
+  waits : WaitsFor l.least l.buffer;
 }
 
 abbrev pub decreases-pieces : goal.decreases-pieces
