@@ -215,6 +215,18 @@ fn a_message_that_is_cut_has_no_reply(rt: HostRuntime) -> Result<(), Fail> {
     Ok(())
 }
 
+/// The reply to a text, a refusal, and what comes behind it.
+fn refusal_between(alloc: Global, line: &str, rule: &str, last: &[u8]) -> Result<Vec<u8>, Fail> {
+    let len = rule.len() + 11;
+    let reply = format!(in alloc;
+        "HTTP/1.1 {line}\r\nContent-Type: application/json\r\nContent-Length: {len}\r\n\r\n{{\"rule\":\"{rule}\"}}"
+    )?;
+    let mut all = RUN_1.to_vec(alloc)?;
+    all.extend_from_slice(reply.as_bytes())?;
+    all.extend_from_slice(last)?;
+    Ok(all)
+}
+
 /// Whether `replay` answers a text and then bytes by two replies, ends with this status, and goes on
 /// to a draw behind them exactly where it ends well.
 fn answers(
@@ -224,12 +236,8 @@ fn answers(
     rule: &str,
     ending: Status,
 ) -> Result<bool, Fail> {
-    let len = rule.len() + 11;
-    let reply = format!(in alloc;
-        "HTTP/1.1 {line}\r\nContent-Type: application/json\r\nContent-Length: {len}\r\n\r\n{{\"rule\":\"{rule}\"}}"
-    )?;
     let last = if ending == Status::Finished { JOB } else { &[] };
-    let wanted = joined(alloc, &[RUN_1, reply.as_bytes(), last])?;
+    let wanted = refusal_between(alloc, line, rule, last)?;
     let input = joined(alloc, &[TEXT, bytes, DRAW])?;
     let (status, written) = replayed(alloc, &input, PLAIN)?;
     Ok(status == ending && written == wanted)
