@@ -1,0 +1,55 @@
+#!/bin/sh
+# Counts, by callgrind, the instructions of `pl_keeper::decode` and `encode` on rows of runs with many files, and
+# prints them for each byte of the row; and, by memcheck, the blocks and the bytes of memory that each takes.
+# Those of a program that only reads the row's bytes are taken off, and those of its words, which are what it
+# takes of no bytes (no row). Needs valgrind and python3. Not a part of the gate.
+set -e
+here=$(cd "$(dirname "$0")" && pwd)
+top=$(cd "$here/../.." && pwd)
+work=$(mktemp -d)
+trap 'rm -rf "$work"' EXIT
+mkdir -p "$work/crates/rows/src"
+crates="pl_base pl_texts pl_rules pl_zones pl_checks pl_fields pl_keeper"
+for crate in $crates; do
+    cp -r "$top/crates/$crate" "$work/crates/"
+    grep -E "^$crate:" "$top/crates.txt" >>"$work/crates.txt"
+done
+echo "rows: pl_base pl_keeper" >>"$work/crates.txt"
+cp "$here/rows.rt.in" "$work/crates/rows/src/main.rt"
+cp "$top/HANDLES" "$work/"
+(cd "$work/crates/rows" && rt run </dev/null >"$work/log" 2>&1) || { cat "$work/log" >&2; exit 1; }
+python3 - "$work/crates/rows/out/rows" "$work" <<'PYTHON'
+import re, struct, subprocess, sys
+program, work = sys.argv[1:]
+
+def number(n): return struct.pack(">Q", n)
+def text(b): return struct.pack(">I", len(b)) + b
+def key(n): return text(b"app") + text(b"refs/heads/main") + text(b"/%06d.yml" % n)
+def items(list): return struct.pack(">I", len(list)) + b"".join(list)
+
+def body(files, size):
+    kept = [key(n) + text(b"a" * size) for n in range(files)]
+    return text(b"ci") + text(b"ann") + number(1704067200) + key(0) + items([]) + items(kept) + b"\0"
+
+def instructions(row, words):
+    out = f"{work}/callgrind"
+    told = subprocess.run(["valgrind", "--tool=callgrind", f"--callgrind-out-file={out}", program, *words],
+                          input=row, capture_output=True).stderr.decode()
+    return int(re.search(r"Collected : (\d+)", told).group(1))
+
+def memory(row, words):
+    told = subprocess.run(["valgrind", program, *words], input=row, capture_output=True).stderr.decode()
+    blocks, taken = re.search(r"total heap usage: ([\d,]+) allocs, [\d,]+ frees, ([\d,]+) bytes", told).groups()
+    return int(blocks.replace(",", "")), int(taken.replace(",", ""))
+
+def taken(row):
+    counts = [(instructions(row, words), *memory(row, words)) for words in ([], ["read"], ["read", "write"])]
+    return [[b - a for a, b in zip(*pair)] for pair in zip(counts, counts[1:])]
+
+words = taken(b"")
+for files, size in ((250, 1000), (500, 1000), (1000, 1000), (2000, 1000), (2000, 0), (2000, 100), (2000, 10000)):
+    row = body(files, size)
+    read, written = ([a - b for a, b in zip(*pair)] for pair in zip(taken(row), words))
+    print(f"{files} files of {size} bytes, a row of {len(row)}: read {read[0] / len(row):.1f} instructions a byte, "
+          f"{read[1]} blocks, {read[2]} bytes; written {written[0] / len(row):.2f}, {written[1]} blocks, {written[2]} bytes")
+PYTHON
