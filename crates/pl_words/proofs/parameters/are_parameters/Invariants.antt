@@ -1,0 +1,12 @@
+use Rattle.std.proofs.Common.{◌≡◌, length}
+use Rattle.std.specs.Option.{is_some}
+use Rattle.pl_words.specs.Words.{arguments_of}
+use Rattle.pl_words.proofs.Rests.{bytes_of}
+use Rattle.pl_words.proofs.parameters.are_parameters.Given as goal
+
+abbrev pub invariant-loop-rest : goal.invariant-loop-rest
+invariant-loop-rest l =
+    is_some (arguments_of (bytes_of l.words)) ≡ is_some (arguments_of (bytes_of l.rest))
+
+abbrev pub decreases-loop-rest : goal.decreases-loop-rest
+decreases-loop-rest l = length l.rest
