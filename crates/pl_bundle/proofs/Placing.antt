@@ -6,9 +6,8 @@ use Rattle.std.specs.FinMap as map
 use Rattle.std.specs.Option.{is_none, is_some, option_copied, option_map}
 use Rattle.std.proofs.lemmas.Option.{cond_some}
 use Rattle.pl_base.specs.declared.place.FileKey.{FileKey}
-use Rattle.pl_bundle.specs.Bundles.{Texts, bundle_of, files_in, is_readable, lines_of, of_files}
+use Rattle.pl_bundle.specs.Bundles.{Texts, is_readable, of_files}
 use Rattle.pl_bundle.specs.Bundles.{of_read, placed, readable_key}
-use Rattle.pl_bundle.specs.declared.bundle.Bundle.{Bundle}
 
 there : (found : Option (Bor (List ℕ))) → is_some found ≡ true → is_none (option_copied found) ≡ false
 there None some = absurd (grind (arith, some))

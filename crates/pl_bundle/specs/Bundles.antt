@@ -1,5 +1,5 @@
 -- A bundle: files in one text, each behind a line that names it, the root file first.
-use Rattle.std.specs.Prelude.{ℕ, nat_eq, Bool, false, not, ◌==◌, ◌&&◌, List, [], ◌∷◌, ◌++◌, codes}
+use Rattle.std.specs.Prelude.{ℕ, nat_eq, Bool, ◌==◌, ◌&&◌, List, [], ◌∷◌, ◌++◌, codes}
 use Rattle.std.specs.Prelude.{Option, Some, None, if◌then◌else◌}
 use Rattle.std.specs.Cmp.Lexicographic.{pointwise}
 use Rattle.std.specs.FinMap as map

@@ -3,10 +3,12 @@
 
 mod bundle;
 mod head;
+mod laws;
 mod lines;
 mod reading;
 #[cfg(test)]
 mod tests;
 
 pub use bundle::Bundle;
+pub use laws::written_is_read;
 pub use reading::bundle_of;

@@ -1,5 +1,5 @@
 -- The words of the command line (POSIX, Utility Conventions, 12.1: options and their arguments).
-use Rattle.std.specs.Prelude.{ℕ, Bool, not, ◌==◌, ◌&&◌, ◌||◌, nat_le, nat_lt, nat_eq, List, [], ◌∷◌}
+use Rattle.std.specs.Prelude.{⊤, ℕ, Bool, not, ◌==◌, ◌&&◌, ◌||◌, nat_le, nat_lt, nat_eq, List, [], ◌∷◌}
 use Rattle.std.specs.Prelude.{length, drop, Option, Some, None, Result, Ok, Err, if◌then◌else◌, codes}
 use Rattle.std.specs.Option.{option_and_then, option_map}
 use Rattle.std.specs.Char.{is_ascii_digit}
@@ -88,3 +88,9 @@ command_of (name ∷ options) =
     if is_word name (codes "replay") then option_map (λ admin. Replay admin) (admin_of options)
     else (if is_word name (codes "compile") then
     option_map (λ arguments. Compile arguments) (arguments_of options) else None)
+
+-- the words are those of `compile`
+abbrev pub IsCompile : Option Command → Type 0
+IsCompile (Some (Compile arguments)) = ⊤
+IsCompile (Some (Replay admin)) = ⊥
+IsCompile None = ⊥

@@ -2,7 +2,7 @@
 
 ghost use Rattle.std.specs.Prelude.{◌≡◌, map, string_bytes, IfOk, OnErr};
 ghost use Rattle.std.specs.Option.{IsSome, option_map};
-ghost use Rattle.pl_words.specs.Words.{arguments_of, command_of, admin_of};
+ghost use Rattle.pl_words.specs.Words.{IsCompile, admin_of, arguments_of, command_of};
 ghost use Rattle.pl_words.specs.declared.command.Command.TheVariants.{Compile, Replay};
 
 use crate::command::Command;
@@ -20,8 +20,8 @@ use std::alloc::Global;
 pub fn parse(alloc: Global, words: &[String]) -> Result<Option<Command>, Memory>
     ensures command { IfOk result
         (λ command. command ≡ command_of (map (λ word. string_bytes word) words.now)) }
-    ensures some { OnErr result
-        (IsSome (command_of (map (λ word. string_bytes word) words.now))) }
+    ensures compile { OnErr result
+        (IsCompile (command_of (map (λ word. string_bytes word) words.now))) }
 {
     match words {
         [name, options @ ..] if name.as_str() == "replay" => Ok(replay(options)),

@@ -1,4 +1,4 @@
-use Rattle.std.proofs.Common.{ap, sym, ◌∙◌, refl}
+use Rattle.std.proofs.Common.{◌∙◌}
 use Rattle.pl_bundle.proofs.Texts.{is_text, no_text}
 use Rattle.pl_bundle.proofs.head.text_of.Goals as goal
 
