@@ -1,0 +1,49 @@
+ghost use Rattle.std.specs.Prelude.{Result as Answer};
+ghost use Rattle.pl_base.specs.declared.expanded.Expanded.{Expanded as Tree};
+ghost use Rattle.pl_directives.specs.Gives.{Gives};
+ghost use Rattle.pl_directives.specs.declared.fault.ExpandFault.{ExpandFault as Fault};
+ghost use Rattle.pl_compile.specs.Reading.{tree_of};
+ghost use Rattle.pl_compile.specs.Refusals.{Tells};
+
+use crate::fault::CompileFault;
+use crate::refusing::refusal_of;
+use crate::text_files::TextFiles;
+use pl_base::{Argument, Expanded, FileKey, FileSet, List};
+use pl_directives::ExpandFault;
+use pl_expand::expand;
+use std::alloc::Global;
+
+/// What is told of an expansion.
+fn told(alloc: Global, expanded: Result<Expanded, ExpandFault>) -> Result<Expanded, CompileFault>
+    ensures { (meant : Answer Tree Fault) → Gives expanded meant → Tells result meant }
+{
+    match expanded {
+        Ok(expanded) => Ok(expanded),
+        Err(ExpandFault::Refused(complaint)) => {
+            Err(CompileFault::Refused(refusal_of(alloc, complaint)?))
+        }
+        Err(ExpandFault::Memory) => Err(CompileFault::Memory),
+    }
+}
+
+/// The expanded tree of a pipeline whose files are texts (Microsoft Learn, Azure Pipelines,
+/// "Templates").
+///
+/// `root` is the key of the pipeline's file, `arguments` are the run's, as texts. Each file is read
+/// as YAML once at most, and only where it is reached. What comes out is the tree with the origin of
+/// each node, the template that the root extends, the repositories and the files that were used.
+/// Refused with the first code of the expansion, X1 to X16, at its place; where that is X12, X13, X14
+/// or X16 its one detail is the code of what is wrong with the expression, its value, the parameter
+/// or the text. Memory where memory was wanting.
+pub fn expanded(
+    alloc: Global,
+    files: &FileSet,
+    root: &FileKey,
+    arguments: &List<Argument>,
+) -> Result<Expanded, CompileFault>
+    ensures { Tells result (tree_of files.now root.now arguments.now) }
+{
+    let mut read = TextFiles::new(alloc, files);
+    let expanded = expand(alloc, &mut read, root, arguments);
+    told(alloc, expanded)
+}

@@ -1,0 +1,68 @@
+-- What is told of the bytes of a source that was read to its end.
+use Rattle.std.proofs.Common.{◌≡◌, ℕ, List, Option, Some, None, inl, inr, refl, subst}
+use Rattle.pl_base.specs.declared.expanded.Argument.{Argument}
+use Rattle.pl_bundle.specs.Bundles.{bundle_of}
+use Rattle.pl_bundle.specs.declared.bundle.Bundle.{Bundle}
+use Rattle.pl_streams.specs.Whole.{Inflow, IsWhole}
+use Rattle.pl_offline.specs.Output.{IsLine, IsOutput, IsTree}
+use Rattle.pl_offline.specs.Running.{Holds, Told}
+use Rattle.pl_offline.specs.declared.output.Output.TheVariants as output
+
+module _ (arguments : List Argument) (bytes given : List ℕ) (old new : Inflow)
+    (same : given ≡ bytes) (whole : IsWhole bytes old new) where
+  pub tree_held :
+      (text : List ℕ) → IsOutput (bundle_of given) arguments (output.Tree text) →
+      Holds IsTree arguments text old new
+  tree_held text told =
+      go (bundle_of bytes) refl
+      (subst (λ bytes. IsOutput (bundle_of bytes) arguments (output.Tree text)) same told)
+    where
+      go :
+          (found : Option Bundle) → bundle_of bytes ≡ found →
+          IsOutput found arguments (output.Tree text) → Holds IsTree arguments text old new
+      go None is told = absurd told
+      go (Some bundle) is told = record {
+        bytes = bytes;
+        whole = whole;
+        bundle = bundle;
+        bundle_is = is;
+        tells = told;
+      }
+
+  pub line_held :
+      (line : List ℕ) → IsOutput (bundle_of given) arguments (output.Line line) →
+      Holds IsLine arguments line old new
+  line_held line told =
+      go (bundle_of bytes) refl
+      (subst (λ bytes. IsOutput (bundle_of bytes) arguments (output.Line line)) same told)
+    where
+      go :
+          (found : Option Bundle) → bundle_of bytes ≡ found →
+          IsOutput found arguments (output.Line line) → Holds IsLine arguments line old new
+      go None is told = absurd told
+      go (Some bundle) is told = record {
+        bytes = bytes;
+        whole = whole;
+        bundle = bundle;
+        bundle_is = is;
+        tells = told;
+      }
+
+module _ (arguments : List Argument) (text : List ℕ) (old new : Inflow) where
+  pub tree_told : Holds IsTree arguments text old new → Holds Told arguments text old new
+  tree_told held = record {
+    bytes = held.bytes;
+    whole = held.whole;
+    bundle = held.bundle;
+    bundle_is = held.bundle_is;
+    tells = inl held.tells;
+  }
+
+  pub line_told : Holds IsLine arguments text old new → Holds Told arguments text old new
+  line_told held = record {
+    bytes = held.bytes;
+    whole = held.whole;
+    bundle = held.bundle;
+    bundle_is = held.bundle_is;
+    tells = inr held.tells;
+  }
