@@ -4,6 +4,8 @@
 mod place;
 mod scanner;
 mod steps;
+#[cfg(test)]
+mod tests;
 
 pub use place::Place;
 pub use scanner::Scanner;

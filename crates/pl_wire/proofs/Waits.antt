@@ -1,19 +1,13 @@
 -- What is known of bytes stays known when more come.
-use Rattle.std.proofs.Common.{ℕ, ◌<◌, List, ◌++◌, length, take, sym, subst, arith, append_assoc, append-nil, [], length-append}
-use Rattle.std.proofs.lemmas.List.{take-append-le}
-use Rattle.pl_scan.specs.Places.{EndsAt}
+use Rattle.std.proofs.Common.{ℕ, ◌<◌, List, ◌++◌, length, sym, subst, arith, append_assoc, append-nil, []}
+use Rattle.pl_scan.proofs.Following.{follows_more}
 use Rattle.pl_wire.specs.declared.waiting.Waiting.{Waiting}
 use Rattle.pl_wire.specs.declared.waiting.Waiting.TheVariants.{Head, Content}
 use Rattle.pl_wire.specs.Message.{IsPartial, WaitsFor}
 use Rattle.pl_wire.specs.Waiting.{Awaits}
 
 pub awaits_more : (waiting : Waiting) (bytes more : List ℕ) → Awaits waiting bytes → Awaits waiting (bytes ++ more)
-awaits_more (Head scanner) bytes more follows = record {
-  within = omega (arith, length-append bytes more, follows.within);
-  ends =
-      subst (λ (front : List ℕ). EndsAt scanner.place front)
-      (sym (take-append-le scanner.seen bytes more follows.within)) follows.ends;
-}
+awaits_more (Head scanner) bytes more follows = follows_more scanner bytes more follows
 awaits_more (Content least) bytes more waits = λ rest short.
     subst IsPartial (sym (append_assoc bytes more rest))
     (waits (more ++ rest) (subst (λ (b : List ℕ). length b < least) (append_assoc bytes more rest) short))
