@@ -153,7 +153,11 @@ fn a_scanner_stays_at_the_limits(rt: HostRuntime) -> Result<(), Fail> {
     ];
     for (front, part, times, end, stop) in rows {
         let bytes = repeated(rt.alloc(), front, part, times, end)?;
-        assert_eq!(rt; stop_of(bytes.as_slice(), 1), stop, "{times} times {part:?}");
+        assert_eq!(rt;
+            stop_of(bytes.as_slice(), 1),
+            stop,
+            "{times} times {part:?}"
+        );
     }
     Ok(())
 }

@@ -1,0 +1,15 @@
+use Rattle.std.proofs.Common.{[], arith, subst, List, ℕ}
+use Rattle.pl_scan.specs.Scans.{Follows}
+use Rattle.pl_scan.proofs.Following.{follows_on}
+use Rattle.pl_scan.proofs.tests.stop_of.Goals as goal
+
+pub loop-init : goal.loop-init
+loop-init c = record { follows = c.new-scanner.ensures []; within = omega arith }
+
+pub loop-preserved : goal.loop-preserved
+loop-preserved c = record {
+  follows =
+      follows_on c.advance.new.self c.args.bytes.now c.loop.len c.min-len.result (omega arith) (omega arith)
+      (subst (λ (b : List ℕ). Follows c.advance.new.self b) c.split_at.ensures.front c.advance.ensures.follows);
+  within = omega arith;
+}
