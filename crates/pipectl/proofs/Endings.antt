@@ -271,7 +271,7 @@ memory_unread a c d rest bytes taken most s few within left reads writing coming
 
 -- ---- what is waited for
 
-pub waits_more : (waiting : Waiting) (buffer bytes after : List ℕ) → Awaits waiting buffer → after ≡ buffer ++ bytes
-    → Awaits waiting after
+pub waits_more : (waiting : Waiting) (buffer bytes after : List ℕ) → Awaits waiting buffer
+    → after ≡ buffer ++ bytes → Awaits waiting after
 waits_more waiting buffer bytes after awaits is =
     subst (λ (b : List ℕ). Awaits waiting b) (sym is) (awaits_more waiting buffer bytes awaits)

@@ -6,7 +6,8 @@ use Rattle.pl_scan.specs.declared.scanner.Scanner.{Scanner}
 use Rattle.pl_scan.specs.Places.{EndsAt}
 use Rattle.pl_scan.specs.Scans.{Follows}
 
-pub follows_more : (scanner : Scanner) (bytes more : List ℕ) → Follows scanner bytes → Follows scanner (bytes ++ more)
+pub follows_more : (scanner : Scanner) (bytes more : List ℕ) → Follows scanner bytes
+    → Follows scanner (bytes ++ more)
 follows_more scanner bytes more follows = record {
   within = omega (arith, length-append bytes more, follows.within);
   ends =
@@ -18,7 +19,8 @@ follows_more scanner bytes more follows = record {
 pub follows_on : (scanner : Scanner) (bytes : List ℕ) (a b : ℕ) → a ≤ b → b ≤ length bytes
     → Follows scanner (take a bytes) → Follows scanner (take b bytes)
 follows_on scanner bytes a b longer within follows =
-    let shorter : scanner.seen ≤ a = omega (arith, follows.within, length-take-le a bytes (omega arith)) in
+    let shorter : scanner.seen ≤ a =
+    omega (arith, follows.within, length-take-le a bytes (omega arith)) in
     let same : take scanner.seen (take a bytes) ≡ take scanner.seen (take b bytes) =
     take-take scanner.seen a bytes shorter ∙ sym (take-take scanner.seen b bytes (omega arith)) in
     record {

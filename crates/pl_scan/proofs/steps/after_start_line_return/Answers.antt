@@ -1,8 +1,7 @@
-use Rattle.std.proofs.Common.{subst, sym, ℕ}
-use Rattle.pl_scan.specs.Scans.{Leads}
 use Rattle.pl_scan.specs.declared.place.Place.TheVariants as place
-use Rattle.pl_scan.proofs.Leading.{start_returned}
+use Rattle.pl_scan.proofs.Leading.{byte_is, start_returned}
 use Rattle.pl_scan.proofs.steps.after_start_line_return.Goals as goal
 
 pub returns-in-10 : goal.returns-in-10
-returns-in-10 c = subst (λ (b : ℕ). Leads place.StartLineReturn b (place.Lines 0)) (sym c.in-10.is) start_returned
+returns-in-10 c =
+    byte_is place.StartLineReturn (place.Lines 0) _ 10 c.in-10.is start_returned

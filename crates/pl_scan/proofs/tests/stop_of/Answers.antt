@@ -7,9 +7,13 @@ pub loop-init : goal.loop-init
 loop-init c = record { follows = c.new-scanner.ensures []; within = omega arith }
 
 pub loop-preserved : goal.loop-preserved
-loop-preserved c = record {
-  follows =
-      follows_on c.advance.new.self c.args.bytes.now c.loop.len c.min-len.result (omega arith) (omega arith)
-      (subst (λ (b : List ℕ). Follows c.advance.new.self b) c.split_at.ensures.front c.advance.ensures.follows);
-  within = omega arith;
-}
+loop-preserved c =
+    let scanner = c.advance.new.self in
+    let follows =
+    subst (λ (b : List ℕ). Follows scanner b) c.split_at.ensures.front c.advance.ensures.follows in
+    record {
+      follows =
+          follows_on scanner c.args.bytes.now c.loop.len c.min-len.result
+          (omega arith) (omega arith) follows;
+      within = omega arith;
+    }
