@@ -2,7 +2,10 @@
 use Rattle.std.proofs.Common.{◌≡◌, ◌<◌, ◌≤◌, ℕ, ◌+◌, List, [], ◌∷◌, ◌++◌, length, refl, sym, ◌∙◌, ap, subst, length-append, arith, append_assoc}
 use Rattle.pl_base.specs.Counts.{one_more}
 use Rattle.pl_base.specs.Streams.{with_front, with_end}
-use Rattle.pl_wire.specs.Message.{IsPartial, IsBad, WaitsFor}
+use Rattle.pl_wire.specs.Message.{IsPartial, IsBad}
+use Rattle.pl_wire.specs.Waiting.{Awaits}
+use Rattle.pl_wire.specs.declared.waiting.Waiting.{Waiting}
+use Rattle.pl_wire.proofs.Waits.{awaits_more}
 use Rattle.pl_heads.specs.declared.fault.HttpFault.{HttpFault}
 use Rattle.pipectl.specs.declared.served.Served.{Served}
 use Rattle.pipectl.specs.declared.served.Served.TheVariants as served
@@ -268,16 +271,7 @@ memory_unread a c d rest bytes taken most s few within left reads writing coming
 
 -- ---- what is waited for
 
-pub waits_none : (buffer : List ℕ) → WaitsFor 0 buffer
-waits_none buffer more short = absurd (omega arith)
-
-pub waits_more : (least : ℕ) (buffer bytes after : List ℕ) → WaitsFor least buffer → after ≡ buffer ++ bytes
-    → WaitsFor least after
-waits_more least buffer bytes after waits is more short =
-    let same : after ++ more ≡ buffer ++ (bytes ++ more) = ap (λ (b : List ℕ). b ++ more) is ∙ append_assoc buffer bytes more in
-    subst IsPartial (sym same) (waits (bytes ++ more) (subst (λ (b : List ℕ). length b < least) same short))
-
-pub waits_now : (least : ℕ) (buffer : List ℕ) → WaitsFor least buffer → length buffer < least → IsPartial buffer
-waits_now least buffer waits short =
-    subst IsPartial (append-nil buffer)
-    (waits [] (subst (λ (b : List ℕ). length b < least) (sym (append-nil buffer)) short))
+pub waits_more : (waiting : Waiting) (buffer bytes after : List ℕ) → Awaits waiting buffer
+    → after ≡ buffer ++ bytes → Awaits waiting after
+waits_more waiting buffer bytes after awaits is =
+    subst (λ (b : List ℕ). Awaits waiting b) (sym is) (awaits_more waiting buffer bytes awaits)

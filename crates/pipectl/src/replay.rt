@@ -7,6 +7,7 @@ use crate::buffer::Buffer;
 use crate::served::{Broken, Served, Unread};
 use crate::serving::{PIECE, answer_on, next_piece, read_on, refuse};
 use pl_base::{Clock, Link};
+use pl_wire::Waiting;
 use std::alloc::Global;
 
 /// Serves a link alone until its end: reads its bytes, acts on each whole message, and writes the
@@ -25,9 +26,9 @@ pub fn replay_link<L: Link, C: Clock>(
     };
     let mut buffer = Buffer::new(alloc);
     let mut taken = 0;
-    let mut least = 0;
+    let mut waiting = Waiting::new();
     'pieces: loop {
-        match answer_on(alloc, desk, link, clock, &mut buffer, &mut least) {
+        match answer_on(alloc, desk, link, clock, &mut buffer, &mut waiting) {
             Ok(None) => {}
             Ok(Some(fault)) => match refuse(alloc, link, fault) {
                 Ok(()) => return Served::Bad(fault),

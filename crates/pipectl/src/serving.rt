@@ -2,7 +2,8 @@
 
 ghost use Rattle.std.specs.Prelude.{◌≡◌, ◌++◌, ◌-◌, ℕ, List, length, min, OnOk, OnErr, IfOk, MatchOption};
 ghost use Rattle.pl_base.specs.Counts.{one_more};
-ghost use Rattle.pl_wire.specs.Message.{IsMessage, IsPartial, IsBad, WaitsFor};
+ghost use Rattle.pl_wire.specs.Message.{IsMessage, IsPartial, IsBad};
+ghost use Rattle.pl_wire.specs.Waiting.{Awaits};
 ghost use Rattle.pipectl.specs.Acts.{sent, refused};
 ghost use Rattle.pipectl.specs.Replay.{Answers, CountsUnread, EndsAtNone, OnlyWrites, ReadsPiece, Sends};
 ghost use Rattle.pipectl.specs.Session.{point, taken_limit};
@@ -13,7 +14,7 @@ use crate::buffer::Buffer;
 use crate::served::{Broken, Unread};
 use pl_base::{Clock, Failed, Link};
 use pl_wire::{
-    HttpFault, Message, Next, fault_reply, memory_reply, next_request, reply_bytes, wanted,
+    HttpFault, Message, Next, Waiting, fault_reply, memory_reply, next_request, reply_bytes,
 };
 use std::alloc::Global;
 
@@ -97,28 +98,28 @@ fn answer_all<L: Link, C: Clock>(
     }
 }
 
-/// The same, where the bytes may be known to be too few: then they aren't read again.
+/// The same, where the bytes may be known to begin a message only: then they aren't read again.
 pub fn answer_on<L: Link, C: Clock>(
     alloc: Global,
     desk: &mut Alone,
     link: &mut L,
     clock: &mut C,
     buffer: &mut Buffer,
-    least: &mut usize,
+    waiting: &mut Waiting,
 ) -> Result<Option<HttpFault>, Broken>
-    requires { WaitsFor least.old buffer.old }
+    requires { Awaits waiting.old buffer.old }
     ensures answers { Answers result (point L.Link C.Clock link.old clock.old desk.old) buffer.old
         (point L.Link C.Clock link.new clock.new desk.new) buffer.new }
     ensures front { IfOk result (λ fault.
         MatchOption fault (IsPartial buffer.new) (λ fault. IsBad buffer.new fault)) }
     ensures writes { OnlyWrites result (told L.Link link.old) (told L.Link link.new) }
-    ensures waits { OnOk result (WaitsFor least.new buffer.new) }
+    ensures waits { OnOk result (Awaits waiting.new buffer.new) }
 {
-    if buffer.len() < *least {
+    if waiting.goes_on(buffer.as_slice()) {
         return Ok(None);
     }
     let fault = answer_all(alloc, desk, link, clock, buffer)?;
-    *least = wanted(buffer.as_slice());
+    *waiting = Waiting::of(buffer.as_slice());
     Ok(fault)
 }
 

@@ -193,10 +193,12 @@ whole_or_many front more h reads many =
         regroup : (a b c d e : List ℕ) → a ++ (b ++ 10 ∷ ((c ++ d) ++ e)) ≡ a ++ (b ++ 10 ∷ (c ++ (d ++ e)))
         regroup a b c d e = simp append_assoc
 
-pub open_exceeds : (bytes : List ℕ) → HasNoRequest bytes → MayBecomeRequest bytes → line_limit ≤ lines_behind bytes
-    → RequestExceeds field_limit bytes
-open_exceeds bytes none (inl (more, h, reads)) many = lines_exceed bytes more h none reads many
-open_exceeds bytes none (inr (blank, method, target, is_token, is_uri, bytes_are)) many = absurd (omega (arith, lines))
+-- bytes that end in a target have no line behind the empty ones
+pub target_lines : (bytes : List ℕ) → EndsInTarget bytes → lines_behind bytes ≡ 0
+target_lines bytes (blank, method, target, is_token, is_uri, bytes_are) =
+    ap lines_behind (bytes_are ∙ append_assoc (print_blank blank) method (32 ∷ target))
+    ∙ ap feeds (skip_blank blank (method ++ 32 ∷ target))
+    ∙ ap feeds (skip_newlines-Stops _ (Stops_token method _ is_token.0 is_token.1)) ∙ word
   where
     word : feeds (method ++ 32 ∷ target) ≡ 0
     word =
@@ -204,11 +206,10 @@ open_exceeds bytes none (inr (blank, method, target, is_token, is_uri, bytes_are
         let first = feeds-AllPass is_token_byte token_no_feed method is_token.1 in
         omega (arith, first, second, feeds-append method (32 ∷ target))
 
-    lines : lines_behind bytes ≡ 0
-    lines =
-        ap lines_behind (bytes_are ∙ append_assoc (print_blank blank) method (32 ∷ target))
-        ∙ ap feeds (skip_blank blank (method ++ 32 ∷ target))
-        ∙ ap feeds (skip_newlines-Stops _ (Stops_token method _ is_token.0 is_token.1)) ∙ word
+pub open_exceeds : (bytes : List ℕ) → HasNoRequest bytes → MayBecomeRequest bytes → line_limit ≤ lines_behind bytes
+    → RequestExceeds field_limit bytes
+open_exceeds bytes none (inl (more, h, reads)) many = lines_exceed bytes more h none reads many
+open_exceeds bytes none (inr ends) many = absurd (omega (arith, target_lines bytes ends))
 
 -- ---- the 66th line
 

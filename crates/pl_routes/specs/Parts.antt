@@ -1,5 +1,5 @@
 -- The parts of a path, cut at its slashes before they are decoded (RFC 3986, sections 2.1 and 3.3).
-use Rattle.std.specs.Prelude.{◌≡◌, ℕ, List, ◌==◌, map, Option, Some, None, IsUtf8, MatchOption}
+use Rattle.std.specs.Prelude.{◌≡◌, ℕ, List, ◌==◌, Option, IsUtf8, MatchOption}
 use Rattle.std.specs.List.{slice_split}
 use Rattle.percent_encoding.specs.Percent.{percent_decode}
 

@@ -3,10 +3,12 @@
 
 mod parts;
 mod place;
+mod rules;
 mod table;
 #[cfg(test)]
 mod tests;
 
 pub use parts::{decoded, parts_of};
 pub use place::{Place, Route, RouteFault};
+pub use rules::{kind_of, run_number};
 pub use table::{Routes, place_of, route_of, routes};

@@ -1,4 +1,7 @@
-use crate::{Route, RouteFault, decoded, parts_of, place_of, route_of, routes};
+use crate::{
+    Route, RouteFault, decoded, kind_of, parts_of, place_of, route_of, routes, run_number,
+};
+use pl_base::Kind;
 use std::test::Fail;
 
 #[test]
@@ -68,6 +71,59 @@ fn parts_are_cut_before_they_are_decoded(rt: HostRuntime) -> Result<(), Fail> {
         let said = decoded(rt.alloc(), part)?;
         let text = said.as_ref().map(|text| text.as_str());
         assert_eq!(rt; text, wanted, "at {part}");
+    }
+    Ok(())
+}
+
+#[test]
+fn run_numbers_are_plain_decimals(rt: HostRuntime) -> Result<(), Fail> {
+    let rows = [
+        ("1", Some(1)),
+        ("0", Some(0)),
+        ("10", Some(10)),
+        ("907", Some(907)),
+        ("999999999999999999", Some(999_999_999_999_999_999)),
+        ("1000000000000000000", None),
+        ("", None),
+        ("00", None),
+        ("01", None),
+        ("+1", None),
+        ("-1", None),
+        ("1 ", None),
+        (" 1", None),
+        ("1_0", None),
+        ("1.0", None),
+        ("0x1", None),
+        ("1e3", None),
+        ("a", None),
+        ("1a", None),
+        ("١", None),
+    ];
+    for (text, wanted) in rows {
+        assert_eq!(rt; run_number(text), wanted, "at {text}");
+    }
+    Ok(())
+}
+
+#[test]
+fn kinds_are_five_words(rt: HostRuntime) -> Result<(), Fail> {
+    let rows = [
+        ("environment", Some(Kind::Environment)),
+        ("connection", Some(Kind::Connection)),
+        ("group", Some(Kind::Group)),
+        ("pool", Some(Kind::Pool)),
+        ("repository", Some(Kind::Repository)),
+        ("", None),
+        ("Pool", None),
+        ("POOL", None),
+        ("pools", None),
+        ("poo", None),
+        ("environment ", None),
+        ("serviceconnection", None),
+        ("queue", None),
+    ];
+    for (text, wanted) in rows {
+        assert_eq!(rt; kind_of(text), wanted, "at {text}");
     }
     Ok(())
 }

@@ -4,3 +4,4 @@ pub mod Members
 pub mod Memory
 pub mod Readings
 pub mod Nothing
+pub mod Waits

@@ -1,4 +1,5 @@
 pub mod Data
 pub mod Message
 pub mod Refusals
+pub mod Waiting
 pub mod Written

@@ -6,9 +6,11 @@ mod message;
 mod next;
 #[cfg(test)]
 mod tests;
+mod waiting;
 mod written;
 
 pub use message::{Message, Next, RequestFault};
-pub use next::{messages_stay, next_request, one_answer, one_reading, wanted};
+pub use next::{messages_stay, next_request, one_answer, one_reading};
 pub use pl_heads::HttpFault;
+pub use waiting::Waiting;
 pub use written::{MEMORY_REPLY, fault_reply, memory_reply, refused_reply, reply_bytes};

@@ -3,7 +3,7 @@ ghost use Rattle.sha2.specs.Sha256.{sha256};
 ghost use Rattle.pl_heads.specs.Fronts.{StandsAtFront};
 ghost use Rattle.pl_heads.specs.declared.front.Front.TheVariants as front;
 ghost use Rattle.pl_routes.specs.Routes.{route_in, table};
-ghost use Rattle.pl_wire.specs.Message.{OneAnswer, OneReading, MessagesStay, StandsFirst, WaitsFor, asked, message_by, told, with_content};
+ghost use Rattle.pl_wire.specs.Message.{OneAnswer, OneReading, MessagesStay, StandsFirst, asked, message_by, told, with_content};
 
 use crate::message::{Message, Next, RequestFault};
 use pl_base::{Digest, List, Memory};
@@ -114,19 +114,6 @@ pub fn next_request(alloc: Global, bytes: &[u8]) -> Result<Next, Memory>
         Front::Whole(head) => with_head(alloc, bytes, head),
         Front::Partial => Ok(Next::Partial),
         Front::Bad(fault) => Ok(Next::Bad(fault)),
-    }
-}
-
-/// How many bytes there must be at least before anything is decided: with fewer, bytes that begin as
-/// these begin a message. It says more than nothing, 0, only where a head is whole, whose content is
-/// then waited for without reading it again and again. It takes no memory.
-pub fn wanted(bytes: &[u8]) -> usize
-    ensures { WaitsFor result bytes.now }
-{
-    match read_head(bytes) {
-        Front::Whole(head) => head.len.saturating_add(head.content),
-        Front::Partial => 0,
-        Front::Bad(_) => 0,
     }
 }
 

@@ -1,6 +1,6 @@
 use crate::{
-    HttpFault, Message, Next, RequestFault, fault_reply, memory_reply, next_request, refused_reply,
-    reply_bytes,
+    HttpFault, Message, Next, RequestFault, Waiting, fault_reply, memory_reply, next_request,
+    refused_reply, reply_bytes,
 };
 use pl_base::{Digest, List};
 use pl_core::{Body, Json, JsonMember, Reply, Request};
@@ -128,6 +128,27 @@ fn messages_are_read_at_their_last_byte(rt: HostRuntime) -> Result<(), Fail> {
         let mut bytes = bytes_of(rt.alloc(), text)?;
         let place = differs(rt.alloc(), wanted, &mut bytes)?;
         assert_eq!(rt; place, None, "at {row}");
+    }
+    Ok(())
+}
+
+/// The length of the first front that isn't known to begin a message only.
+fn stop_of(bytes: &[u8]) -> Option<usize> {
+    for len in 0..=bytes.len() {
+        let front = bytes.split_at(len).0;
+        if !Waiting::of(front).goes_on(front) {
+            return Some(len);
+        }
+    }
+    None
+}
+
+#[test]
+fn messages_are_waited_for_up_to_their_last_byte(rt: HostRuntime) -> Result<(), Fail> {
+    for row in ROWS.lines() {
+        let (_, text) = row.split_once(" = ").ok_or("a row without `=`")?;
+        let bytes = bytes_of(rt.alloc(), text)?;
+        assert_eq!(rt; stop_of(bytes.as_slice()), Some(bytes.len()), "at {row}");
     }
     Ok(())
 }

@@ -1,5 +1,5 @@
 use Rattle.std.proofs.Common.{refl, arith}
-use Rattle.pipectl.proofs.Endings.{serving_starts, serving_answers, serving_reads, ends_at_once, ends_bad, bad_unwritten, bad_unkept, write_broke, memory_broke, ends_spent, ends_failed, ends_between, ends_inside, memory_unread, waits_none, waits_more, nothing_came, still_partial}
+use Rattle.pipectl.proofs.Endings.{serving_starts, serving_answers, serving_reads, ends_at_once, ends_bad, bad_unwritten, bad_unkept, write_broke, memory_broke, ends_spent, ends_failed, ends_between, ends_inside, memory_unread, waits_more, nothing_came, still_partial}
 use Rattle.pipectl.proofs.replay.replay_link.Goals as goal
 
 pub returns-in_default : goal.returns-in_default
@@ -9,7 +9,7 @@ pub pieces-init : goal.pieces-init
 pieces-init g c = record {
   serving = serving_starts _ c.new-buffer.result c.new-buffer.ensures;
   piece_len = c.in-Ok.ensures.len;
-  waits = waits_none _;
+  waits = c.new-waiting.ensures _;
 }
 
 pub returns-in-Ok-refuse : goal.returns-in-Ok-refuse

@@ -1,5 +1,5 @@
 use Rattle.std.proofs.Common.{◌≡◌, ◌-◌, vec_len}
-use Rattle.pl_wire.specs.Message.{WaitsFor}
+use Rattle.pl_wire.specs.Waiting.{Awaits}
 use Rattle.pipectl.specs.Session.{point}
 use Rattle.pipectl.proofs.Endings.{Serving}
 use Rattle.pipectl.proofs.replay.replay_link.Given as goal
@@ -10,7 +10,7 @@ invariant-pieces g l = record {
   serving : Serving (point g.L.Link g.C.Clock l.fn.link l.fn.clock l.fn.desk)
       (point g.L.Link g.C.Clock l.link l.clock l.desk) l.buffer l.taken;
   piece_len : vec_len l.piece ≡ 65536;
-  waits : WaitsFor l.least l.buffer;
+  waits : Awaits l.waiting l.buffer;
 }
 
 abbrev pub decreases-pieces : goal.decreases-pieces

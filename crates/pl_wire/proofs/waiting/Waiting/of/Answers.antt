@@ -1,6 +1,6 @@
 use Rattle.std.proofs.Common.{arith}
 use Rattle.pl_wire.proofs.Readings.{waits_content}
-use Rattle.pl_wire.proofs.next.wanted.Goals as goal
+use Rattle.pl_wire.proofs.waiting.Waiting.of.Goals as goal
 
 pub returns-in-Whole : goal.returns-in-Whole
 returns-in-Whole c =
