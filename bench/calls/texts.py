@@ -21,12 +21,12 @@ TEMPLATE = 4
 CALL = 2
 
 # the same template of one step, called so many times
-for many in (500, 1_000, 2_000, 4_000, 8_000, 16_000):
+for many in (500, 1_000, 2_000, 4_000, 8_000, 14_000):
     root = "steps:\n" + "- template: t.yml\n" * many
     write(f"calls-of-one-{many}", 2 + (CALL + TEMPLATE) * many, root, [("/t.yml", "steps:\n" + STEP)])
 
 # the same steps, written in the root
-for many in (2_000, 16_000):
+for many in (2_000, 14_000):
     write(f"no-calls-{many}", 2 + 2 * many, "steps:\n" + STEP * many, [])
 
 # so many templates of one step each, called one after the other

@@ -2,3 +2,4 @@ pub mod Endings
 pub mod Sessions
 pub mod Streams
 mod Whole
+pub mod Wanting

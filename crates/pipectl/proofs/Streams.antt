@@ -1,11 +1,9 @@
 -- A stream has one list of messages.
-use Rattle.std.proofs.Common.{◌≡◌, ℕ, ◌<◌, List, [], ◌∷◌, ◌++◌, length, take, drop, refl, sym, ◌∙◌, ap, subst, arith, append_assoc, length-append}
+use Rattle.std.proofs.Common.{◌≡◌, ℕ, List, [], ◌∷◌, ◌++◌, length, take, drop, refl, sym, ◌∙◌, ap, subst}
 use Rattle.std.proofs.Math.Seq.{take-append_seam, drop-append_seam}
-use Rattle.std.proofs.lemmas.List.{take-append-drop}
 use Rattle.pl_wire.specs.declared.message.Message.{Message}
 use Rattle.pl_wire.specs.Message.{IsMessage, OneReading}
 use Rattle.pipectl.specs.Messages.{Spelled, NoneFirst}
-use Rattle.pipectl.proofs.Sessions.{append-nil}
 
 -- the front of bytes that are a message and more
 front_is : (bytes front more : List ℕ) → bytes ≡ front ++ more → take (length front) bytes ≡ front

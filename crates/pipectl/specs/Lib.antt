@@ -6,4 +6,3 @@ pub mod Run
 pub mod Session
 pub mod Statuses
 pub mod Told
-pub mod Words

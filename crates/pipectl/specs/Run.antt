@@ -7,12 +7,16 @@ use Rattle.pl_wire.specs.declared.message.Message.{Message}
 use Rattle.pipectl.specs.declared.served.Served.{Served}
 use Rattle.pipectl.specs.declared.status.Status.{Status}
 use Rattle.pipectl.specs.declared.status.Status.TheVariants as status
-use Rattle.pipectl.specs.declared.words.Command.{Command}
-use Rattle.pipectl.specs.declared.words.Command.TheVariants.{Replay}
+use Rattle.pl_base.specs.declared.expanded.Argument.{Argument}
+use Rattle.pl_offline.specs.Running.{Runs as RunsOffline}
+use Rattle.pl_offline.specs.declared.ending.Ending.{Ending}
+use Rattle.pl_streams.specs.Whole.{Inflow, Outflow}
+use Rattle.pl_words.specs.declared.command.Command.{Command}
+use Rattle.pl_words.specs.declared.command.Command.TheVariants.{Compile, Replay}
 use Rattle.pipectl.specs.Acts.{Parts}
 use Rattle.pipectl.specs.Messages.{Spelled}
 use Rattle.pipectl.specs.Session.{Point, Session, taken_limit}
-use Rattle.pipectl.specs.Statuses.{status_of}
+use Rattle.pipectl.specs.Statuses.{compile_status, status_of}
 use Rattle.pipectl.specs.Told.{Told, Writes, Begun}
 
 -- what the outside of a run tells: its source and sink, and the moments of the next clock
@@ -46,9 +50,25 @@ pub record Replays (admin : Digest) (old : Outside) (new : Told) (ending : Statu
   pub session :
       Session (start admin old) (record { link = new; coming = later; desk = desk }) served
 
+-- a link's source and its sink
+abbrev pub inflow_of : Told → Inflow
+inflow_of link =
+    record { left = link.left; ended = link.ended; faults = link.read_faults }
+
+abbrev pub outflow_of : Told → Outflow
+outflow_of link = record { held = link.held; faults = link.write_faults }
+
+-- the bundle of the source, compiled onto the sink
+abbrev pub Compiles : List Argument → Told → Told → Status → Type 0
+Compiles arguments old new status =
+    (ended : Ending)
+    × (status ≡ compile_status ended)
+    × RunsOffline arguments ended (inflow_of old) (inflow_of new) (outflow_of old) (outflow_of new)
+
 -- the run of a command, or of words that are none
 abbrev pub Runs : Option Command → Outside → Told → Status → Type 0
 Runs (Some (Replay admin)) old new ending = Replays admin old new ending
+Runs (Some (Compile arguments)) old new ending = Compiles arguments old.link new ending
 Runs None old new ending = (ending ≡ status.Usage) × ShowsUsage old.link new
 
 -- why a run ended so: a status names a fault exactly where that count rose

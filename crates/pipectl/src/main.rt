@@ -11,7 +11,6 @@ mod run;
 mod served;
 mod serving;
 mod status;
-mod words;
 
 use crate::real::Process;
 use crate::run::run;

@@ -2,10 +2,10 @@
 
 ghost use Rattle.std.specs.Prelude.{◌≡◌, ◌↔◌, None, map, string_bytes};
 ghost use Rattle.pipectl.specs.Outfit.{outside};
-ghost use Rattle.pipectl.specs.Run.{Replays, ShowsUsage, Runs, ReadsCounted, WritesCounted};
-ghost use Rattle.pipectl.specs.Statuses.{status_of};
+ghost use Rattle.pipectl.specs.Run.{Compiles, Replays, ShowsUsage, Runs, ReadsCounted, WritesCounted};
+ghost use Rattle.pipectl.specs.Statuses.{compile_status, status_of};
 ghost use Rattle.pipectl.specs.Told.{IsAtEnd};
-ghost use Rattle.pipectl.specs.Words.{command_of};
+ghost use Rattle.pl_words.specs.Words.{command_of};
 
 use crate::alone::Alone;
 use crate::outfit::Outfit;
@@ -13,8 +13,9 @@ use crate::replay::replay_link;
 use crate::served::Served;
 use crate::serving::write_all;
 use crate::status::Status;
-use crate::words::{Command, parse};
-use pl_base::Digest;
+use pl_base::{Argument, Digest, List};
+use pl_offline::{Ending, compile_bundle};
+use pl_words::{Command, parse};
 use std::alloc::Global;
 
 /// What is written where the words are no command.
@@ -25,8 +26,10 @@ const USAGE: &[u8] = b"usage: pipectl replay, serve, compile or rehearse\n";
 /// `replay --admin HEX` answers the messages of the source on the sink, as one session of a service
 /// whose admin's token has the SHA-256 digest HEX: 0 where the source was read to its end between
 /// messages, 9 where it ended inside a message or isn't messages, 10 where 67,108,864 bytes were
-/// taken, 1 and 3 where a read or a write failed, 6 where memory was wanting. Other words are a
-/// usage line and 2.
+/// taken, 1 and 3 where a read or a write failed, 6 where memory was wanting. `compile`, with as many
+/// `--param NAME=TEXT` as wanted, writes what the bundle of the source compiles to: 0 where that is
+/// the text of the expanded tree, 8 where it is the line of a refusal, 9 where the source holds no
+/// bundle; 10, 1, 3 and 6 as before. Other words are a usage line and 2.
 pub fn run<O: Outfit>(alloc: Global, words: &[String], outfit: &mut O) -> Status
     ensures usage { (result ≡ Status.Usage)
         ↔ (command_of (map (λ word. string_bytes word) words.now) ≡ None) }
@@ -40,9 +43,11 @@ pub fn run<O: Outfit>(alloc: Global, words: &[String], outfit: &mut O) -> Status
     ensures writes_counted { WritesCounted result (O.Out.faults (O.view outfit.old).ends.sink)
         (O.Out.faults (O.view outfit.new).ends.sink) }
 {
-    match parse(words) {
-        Some(Command::Replay { admin }) => replay(alloc, admin, outfit),
-        None => usage(outfit),
+    match parse(alloc, words) {
+        Ok(Some(Command::Replay { admin })) => replay(alloc, admin, outfit),
+        Ok(Some(Command::Compile { arguments })) => compile(alloc, &arguments, outfit),
+        Ok(None) => usage(outfit),
+        Err(_) => Status::Memory,
     }
 }
 
@@ -55,6 +60,31 @@ fn replay<O: Outfit>(alloc: Global, admin: Digest, outfit: &mut O) -> Status
     let mut desk = Alone::open(admin);
     let served = replay_link(alloc, &mut desk, outfit.ends(), &mut clock);
     status(served)
+}
+
+// Compiles the bundle of the source onto the sink.
+fn compile<O: Outfit>(alloc: Global, arguments: &List<Argument>, outfit: &mut O) -> Status
+    ensures { Compiles arguments.now (outside O.In.Source O.Out.Sink (O.view outfit.old)).link
+        (outside O.In.Source O.Out.Sink (O.view outfit.new)).link result }
+{
+    let ends = outfit.ends();
+    let ending = compile_bundle(alloc, arguments, &mut ends.source, &mut ends.sink);
+    status_of_ending(ending)
+}
+
+// The status of a compilation, by how it ended.
+fn status_of_ending(ending: Ending) -> Status
+    ensures { result ≡ compile_status ending }
+{
+    match ending {
+        Ending::Compiled => Status::Finished,
+        Ending::Refused => Status::Refused,
+        Ending::NotBundle => Status::NotWhole,
+        Ending::ReadFault => Status::ReadFault,
+        Ending::Spent => Status::Spent,
+        Ending::WriteFault => Status::WriteFault,
+        Ending::Memory => Status::Memory,
+    }
 }
 
 // Writes the usage line, or its beginning where a write fails.

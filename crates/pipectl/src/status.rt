@@ -3,7 +3,8 @@ use std::process::ExitCode;
 /// How the program ended.
 #[derive(Clone, Copy, Debug, PartialEq, Eq)]
 pub enum Status {
-    /// The input was read to its end, which came between messages, and all replies were written.
+    /// The input was read to its end, which came between messages, and all replies were written; or
+    /// the text that it compiles to was.
     Finished,
     /// A read of the source failed.
     ReadFault,
@@ -13,7 +14,9 @@ pub enum Status {
     WriteFault,
     /// Memory was wanting.
     Memory,
-    /// The input ended inside a message, or bytes came that are no message.
+    /// The pipeline is refused.
+    Refused,
+    /// The input ended inside a message, or bytes came that are no message; or it is no bundle.
     NotWhole,
     /// 67,108,864 bytes were taken from the source.
     Spent,
@@ -41,6 +44,7 @@ impl Status {
             Status::Usage => 2,
             Status::WriteFault => 3,
             Status::Memory => 6,
+            Status::Refused => 8,
             Status::NotWhole => 9,
             Status::Spent => 10,
         }

@@ -2,6 +2,7 @@
 
 ghost use Rattle.std.specs.Prelude.{Some, min, ◌+◌, refl};
 
+mod bundles;
 mod step_lists;
 
 use crate::outfit::Outfit;
