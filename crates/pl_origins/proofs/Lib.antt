@@ -5,3 +5,5 @@ pub mod Nodes
 pub mod Frames
 pub mod Scalars
 pub mod Contents
+pub mod Following
+pub mod Expanded

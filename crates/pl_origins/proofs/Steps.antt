@@ -10,8 +10,7 @@ use Rattle.pl_calls.specs.Meant.{◌>>>◌, alone}
 abbrev pub Used : Type 0 → Type 0
 Used X = Result (X × List FileKey) ExpandFault
 
-abbrev pub IfUsed : {X : Type 0} → Used X → (X → Type 0) → Type 0
-IfUsed step Q = IfOk step (λ both. Q both.0)
+-- ---- steps that call nothing
 
 pub ok_then :
     {A B : Type 0} (Q : A → Type 0) (S : B → Type 0) (step : Result A ExpandFault)
@@ -26,15 +25,62 @@ pub any_then :
 any_then S (Ok x) next goes = goes x
 any_then S (Err fault) next goes = tt
 
-pub used_then :
-    {A B : Type 0} (Q : A → Type 0) (S : B → Type 0) (step : Used A)
-    (next : A → List FileKey → Result B ExpandFault) → IfUsed step Q →
-    ((x : A) (used : List FileKey) → Q x → IfOk (next x used) S) → IfOk (step >>> next) S
-used_then Q S (Ok both) next holds goes = goes both.0 both.1 holds
-used_then Q S (Err fault) next holds goes = tt
+-- ---- Steps that may call templates. U is asked of the files that were called by the end, and then
+-- holds of those that were called before; what a step gives holds where H does.
 
-pub alone_from :
-    {X : Type 0} (Q : X → Type 0) (step : Result X ExpandFault) (used : List FileKey) →
-    IfOk step Q → IfUsed (alone step used) Q
-alone_from Q (Ok x) used holds = holds
-alone_from Q (Err fault) used holds = tt
+abbrev pub Gives :
+    {X : Type 0} → (List FileKey → Type 0) → Type 0 → List FileKey → Used X → (X → Type 0) →
+    Type 0
+Gives U H used step Q = IfOk step (λ both. (U both.1 → U used) × (U both.1 → H → Q both.0))
+
+module _ (U : List FileKey → Type 0) where
+  pub given :
+      {X : Type 0} (Q : X → Type 0) (G H : Type 0) (used : List FileKey) (step : Used X) →
+      (H → G) → Gives U G used step Q → Gives U H used step Q
+  given Q G H used (Ok both) more gives = (gives.0, λ ends h. gives.1 ends (more h))
+  given Q G H used (Err fault) more gives = tt
+
+  pub done_gives :
+      {X : Type 0} (Q : X → Type 0) (H : Type 0) (used : List FileKey) (x : X) → (H → Q x) →
+      Gives U H used (Ok (x, used)) Q
+  done_gives Q H used x holds = (λ ends. ends, λ ends h. holds h)
+
+  pub alone_gives :
+      {X : Type 0} (Q : X → Type 0) (H : Type 0) (used : List FileKey)
+      (step : Result X ExpandFault) → (H → IfOk step Q) → Gives U H used (alone step used) Q
+  alone_gives Q H used (Ok x) holds = (λ ends. ends, λ ends h. holds h)
+  alone_gives Q H used (Err fault) holds = tt
+
+  pub plain_then :
+      {A B : Type 0} (S : B → Type 0) (H : Type 0) (used : List FileKey)
+      (step : Result A ExpandFault) (next : A → Used B) →
+      ((x : A) → Gives U H used (next x) S) → Gives U H used (step >>= next) S
+  plain_then S H used (Ok x) next goes = goes x
+  plain_then S H used (Err fault) next goes = tt
+
+  joined :
+      {A B : Type 0} (Q : A → Type 0) (S : B → Type 0) (H : Type 0) (used later : List FileKey)
+      (x : A) (step : Used B) → (U later → U used) → (U later → H → Q x) →
+      Gives U (H × Q x) later step S → Gives U H used step S
+  joined Q S H used later x (Ok both) before holds gives = (
+    λ ends. before (gives.0 ends),
+    λ ends h. gives.1 ends (h, holds (gives.0 ends) h),
+  )
+  joined Q S H used later x (Err fault) before holds gives = tt
+
+  pub first_then :
+      {A B : Type 0} (Q : A → Type 0) (S : B → Type 0) (H : Type 0) (used : List FileKey)
+      (step : Result A ExpandFault) (next : A → Used B) → (H → IfOk step Q) →
+      ((x : A) → Gives U (H × Q x) used (next x) S) → Gives U H used (step >>= next) S
+  first_then Q S H used (Ok x) next holds goes =
+      joined Q S H used used x (next x) (λ ends. ends) (λ ends h. holds h) (goes x)
+  first_then Q S H used (Err fault) next holds goes = tt
+
+  pub used_then :
+      {A B : Type 0} (Q : A → Type 0) (S : B → Type 0) (H : Type 0) (used : List FileKey)
+      (step : Used A) (next : A → List FileKey → Used B) → Gives U H used step Q →
+      ((x : A) (later : List FileKey) → Gives U (H × Q x) later (next x later) S) →
+      Gives U H used (step >>> next) S
+  used_then Q S H used (Ok both) next gives goes =
+      joined Q S H used both.1 both.0 (next both.0 both.1) gives.0 gives.1 (goes both.0 both.1)
+  used_then Q S H used (Err fault) next gives goes = tt
