@@ -5,5 +5,6 @@ pub mod Nodes
 pub mod Frames
 pub mod Scalars
 pub mod Contents
+pub mod Bound
 pub mod Following
 pub mod Expanded
