@@ -8,3 +8,4 @@ pub mod Contents
 pub mod Bound
 pub mod Following
 pub mod Expanded
+pub mod Called

@@ -51,6 +51,14 @@ module _ (U : List FileKey → Type 0) where
   alone_gives Q H used (Ok x) holds = (λ ends. ends, λ ends h. holds h)
   alone_gives Q H used (Err fault) holds = tt
 
+  -- with what holds of a step whatever H says
+  pub static_then :
+      {A B : Type 0} (F : A → Type 0) (S : B → Type 0) (H : Type 0) (used : List FileKey)
+      (step : Result A ExpandFault) (next : A → Used B) → IfOk step F →
+      ((x : A) → F x → Gives U H used (next x) S) → Gives U H used (step >>= next) S
+  static_then F S H used (Ok x) next holds goes = goes x holds
+  static_then F S H used (Err fault) next holds goes = tt
+
   pub plain_then :
       {A B : Type 0} (S : B → Type 0) (H : Type 0) (used : List FileKey)
       (step : Result A ExpandFault) (next : A → Used B) →
@@ -84,3 +92,14 @@ module _ (U : List FileKey → Type 0) where
   used_then Q S H used (Ok both) next gives goes =
       joined Q S H used both.1 both.0 (next both.0 both.1) gives.0 gives.1 (goes both.0 both.1)
   used_then Q S H used (Err fault) next gives goes = tt
+
+  pub used_static_then :
+      {A B : Type 0} (F Q : A → Type 0) (S : B → Type 0) (H : Type 0) (used : List FileKey)
+      (step : Used A) (next : A → List FileKey → Used B) → IfOk step (λ both. F both.0) →
+      Gives U H used step Q →
+      ((x : A) (later : List FileKey) → F x → Gives U (H × Q x) later (next x later) S) →
+      Gives U H used (step >>> next) S
+  used_static_then F Q S H used (Ok both) next holds gives goes =
+      joined Q S H used both.1 both.0 (next both.0 both.1) gives.0 gives.1
+      (goes both.0 both.1 holds)
+  used_static_then F Q S H used (Err fault) next holds gives goes = tt
