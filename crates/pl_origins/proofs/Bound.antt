@@ -1,7 +1,7 @@
 -- The parameters of a template, from what is declared and what is given.
 use Rattle.std.proofs.Common.{◌≡◌, ℕ, ℤ, Bool, true, false, cond, Option, Some, None, Result, Ok}
-use Rattle.std.proofs.Common.{Err, List, [], ◌∷◌, ◌++◌, map, refl, sym, subst, rules}
-use Rattle.std.specs.Prelude.{IfOk, find, not, codes}
+use Rattle.std.proofs.Common.{Err, List, [], ◌∷◌, ◌++◌, map, refl, subst, rules}
+use Rattle.std.specs.Prelude.{IfOk, find, codes}
 use Rattle.std.specs.List.{AllByRecursion as Each, list_all}
 use Rattle.std.specs.Option.{option_map}
 use Rattle.pl_literal.specs.Items.{is}
@@ -17,11 +17,9 @@ use Rattle.pl_base.specs.declared.value.Value.{Value, out-Value}
 use Rattle.pl_base.specs.declared.value.Value as value
 use Rattle.pl_base.specs.declared.value.Value.TheOpen as layer
 use Rattle.pl_base.specs.declared.value.MarkedNode.{MarkedNode}
-use Rattle.pl_base.specs.declared.value.MarkedPair.{MarkedPair}
 use Rattle.pl_expr.specs.Conversions.{text_of}
 use Rattle.pl_expr.specs.Numerals.{number_in}
-use Rattle.pl_frame.specs.declared.frame.Parameter.{Parameter}
-use Rattle.pl_frame.specs.Bindings.{crossed, standing, parameter_of, parameters_of}
+use Rattle.pl_frame.specs.Bindings.{crossed, parameters_of}
 use Rattle.pl_frame.specs.Names.{taken}
 use Rattle.pl_frame.specs.Origins.{across}
 use Rattle.pl_frame.specs.Trees.{moved}
@@ -53,7 +51,7 @@ use Rattle.pl_eval_laws.specs.Trees.{origins_of}
 use Rattle.pl_eval_laws.proofs.Lists.{Has, has_map, each_append, each_found, each_implies}
 use Rattle.pl_eval_laws.proofs.Trees.{Opened, NodeFrom, ValueFrom, PairFrom, OpenedFrom, node_from}
 use Rattle.pl_eval_laws.proofs.Trees.{pair_from, array_from, object_from, node_parts, value_parts}
-use Rattle.pl_eval_laws.proofs.Trees.{truth_from, text_from, null_from}
+use Rattle.pl_eval_laws.proofs.Trees.{truth_from, text_from}
 use Rattle.pl_eval_laws.proofs.Trees.{number_from as number_is_from}
 use Rattle.pl_origins.proofs.Frames.{ParameterFrom}
 use Rattle.pl_origins.proofs.Induction.{BodyParts, written_induction}
@@ -433,7 +431,10 @@ module _ (Q : Origin → Type 0) (R : Place → Type 0) (crossings : List Crossi
   parameters_from [] bound within all = tt
   parameters_from (param ∷ declared) [] within all = tt
   parameters_from (param ∷ declared) (one ∷ bound) within all = (
-    (within.0.0, λ at stands. parameter_by one.given one.name param.place one.value all.0 at
-        stands),
+    (
+      within.0.0,
+      λ at stands. parameter_by one.given one.name param.place one.value all.0 at
+          stands,
+    ),
     parameters_from declared bound within.1 all.1,
   )

@@ -1,6 +1,6 @@
 -- What calls of templates give.
-use Rattle.std.proofs.Common.{◌≡◌, ℕ, zero, suc, ◌-◌, Option, Some, None, Result, Ok, Err, List, []}
-use Rattle.std.proofs.Common.{◌∷◌, ◌++◌, map, refl, sym, subst, Bool, true, false, cond}
+use Rattle.std.proofs.Common.{◌≡◌, ℕ, zero, suc, ◌-◌, Option, Some, None, Result, List, []}
+use Rattle.std.proofs.Common.{◌∷◌, ◌++◌, map, refl, subst, Bool, true, false, cond}
 use Rattle.std.specs.Prelude.{IfOk, codes}
 use Rattle.std.specs.List.{AllByRecursion as Each}
 use Rattle.pl_base.specs.declared.origin.Crossing.{Crossing}
@@ -11,17 +11,15 @@ use Rattle.pl_base.specs.declared.place.Place.{Place}
 use Rattle.pl_base.specs.declared.node.Node.{Node}
 use Rattle.pl_base.specs.declared.node.NodePair.{NodePair}
 use Rattle.pl_base.specs.declared.node.NodeBody.TheOpen.{Scalar, Seq, Map}
-use Rattle.pl_base.specs.declared.value.Value.{Str, Object, out-Value}
+use Rattle.pl_base.specs.declared.value.Value.{Str, out-Value}
 use Rattle.pl_base.specs.declared.value.Value.TheOpen as layer
 use Rattle.pl_base.specs.declared.value.MarkedNode.{MarkedNode}
 use Rattle.pl_base.specs.declared.value.MarkedPair.{MarkedPair}
 use Rattle.pl_frame.specs.declared.frame.Frame.{Frame}
 use Rattle.pl_frame.specs.declared.frame.Variable.{Variable}
-use Rattle.pl_frame.specs.Bindings.{parameters_of}
 use Rattle.pl_frame.specs.Origins.{across}
 use Rattle.pl_literal.specs.Items.{is}
 use Rattle.pl_params.specs.declared.given.Given.{Given}
-use Rattle.pl_params.specs.declared.param.Param.{Param}
 use Rattle.pl_directives.specs.declared.fault.ExpandFault.{ExpandFault}
 use Rattle.pl_directives.specs.declared.fault.ExpandProblem.{ExpandProblem}
 use Rattle.pl_directives.specs.declared.progress.Counted.{Counted}
@@ -29,13 +27,11 @@ use Rattle.pl_directives.specs.declared.region.Form.{Form}
 use Rattle.pl_directives.specs.declared.region.Form.TheVariants.{Stages, Jobs, Steps, Variables}
 use Rattle.pl_directives.specs.declared.region.Region.TheVariants.{Calls as InCalls}
 use Rattle.pl_directives.specs.Counting.{entered}
-use Rattle.pl_directives.specs.Steps.{◌>>=◌}
 use Rattle.pl_calls.specs.Calls.{Called, path_text, pairs_from, arguments_at, arguments_behind}
-use Rattle.pl_calls.specs.Calls.{call_with, call_from, call_of, given_across}
-use Rattle.pl_calls.specs.Frames.{parameters_for, framed, framed_by, inner_frame}
+use Rattle.pl_calls.specs.Calls.{call_from, call_of, given_across}
+use Rattle.pl_calls.specs.Frames.{parameters_for, framed_by}
 use Rattle.pl_calls.specs.Judging.{unless_at, mapping_in, template_in, held, body_in, form_key}
 use Rattle.pl_calls.specs.Judging.{stray, may_stand}
-use Rattle.pl_calls.specs.Meant.{◌>>>◌, alone}
 use Rattle.pl_calls.specs.Parameters.{declared_by, bound_to}
 use Rattle.pl_calls.specs.Parts.{Body, body_of, under, key_place_of}
 use Rattle.pl_calls.specs.Reaching.{Opens, node_in as file_node}
@@ -43,7 +39,7 @@ use Rattle.pl_calls.specs.declared.reaching.Opened.{Opened as OpenedFile}
 use Rattle.pl_expanding.specs.Expanding.{expanded}
 use Rattle.pl_expanding.specs.Following.{Follow}
 use Rattle.pl_expanding.specs.Levels.{variable_item, items_of, items_from, frame_for, deeper}
-use Rattle.pl_expanding.specs.Levels.{call_by, followed, border}
+use Rattle.pl_expanding.specs.Levels.{call_by, followed}
 use Rattle.pl_eval_laws.proofs.Lists.{Has, each_map}
 use Rattle.pl_eval_laws.proofs.Trees.{Opened, NodeFrom, PairFrom, OpenedFrom, node_from, pair_from}
 use Rattle.pl_eval_laws.proofs.Trees.{text_from, object_from, node_parts, pair_parts, value_parts}

@@ -1,10 +1,10 @@
 -- Collections as far as they are expanded.
-use Rattle.std.proofs.Common.{◌≡◌, ℕ, Option, Some, None, Result, Ok, Err, List, [], ◌∷◌, ◌++◌}
+use Rattle.std.proofs.Common.{ℕ, Option, Some, None, List, [], ◌∷◌}
 use Rattle.std.specs.Prelude.{IfOk}
 use Rattle.std.specs.List.{AllByRecursion as Each}
 use Rattle.pl_base.specs.declared.origin.Origin.{Origin}
 use Rattle.pl_base.specs.declared.place.Place.{Place}
-use Rattle.pl_base.specs.declared.value.Value.{Value, Array, Object, out-Value}
+use Rattle.pl_base.specs.declared.value.Value.{Array, Object, out-Value}
 use Rattle.pl_base.specs.declared.value.Value.TheOpen as layer
 use Rattle.pl_base.specs.declared.value.MarkedNode.{MarkedNode}
 use Rattle.pl_base.specs.declared.value.MarkedPair.{MarkedPair}
@@ -12,20 +12,18 @@ use Rattle.pl_frame.specs.Doubles.{first_double}
 use Rattle.pl_directives.specs.declared.fault.ExpandProblem.{ExpandProblem}
 use Rattle.pl_directives.specs.declared.manner.Kind.{Kind}
 use Rattle.pl_directives.specs.declared.manner.Kind.TheVariants as kind
-use Rattle.pl_directives.specs.declared.progress.Chain.{Chain}
 use Rattle.pl_directives.specs.declared.progress.Content.{Content}
 use Rattle.pl_directives.specs.declared.progress.Content.TheVariants.{Unknown, Items, Pairs}
-use Rattle.pl_directives.specs.declared.progress.Counted.{Counted}
 use Rattle.pl_directives.specs.declared.progress.Progress.{Progress}
-use Rattle.pl_directives.specs.Contents.{with_content, nothing_of, items_content, pairs_content}
+use Rattle.pl_directives.specs.Contents.{nothing_of, items_content, pairs_content}
 use Rattle.pl_directives.specs.Contents.{as_items, as_pairs, items_behind, pairs_behind}
 use Rattle.pl_directives.specs.Contents.{add_items, add_pairs, put_pair, distinct, object_of}
 use Rattle.pl_directives.specs.Contents.{node_of, finished, absorbed_of, absorbed}
-use Rattle.pl_eval_laws.proofs.Lists.{each_append, each_one}
+use Rattle.pl_eval_laws.proofs.Lists.{each_append}
 use Rattle.pl_eval_laws.proofs.Trees.{Opened, NodeFrom, PairFrom, OpenedFrom, node_from}
 use Rattle.pl_eval_laws.proofs.Trees.{array_from, object_from, node_parts, value_parts}
 use Rattle.pl_origins.proofs.Scalars.{OneFrom}
-use Rattle.pl_origins.proofs.Steps.{ok_then, any_then}
+use Rattle.pl_origins.proofs.Steps.{ok_then}
 
 abbrev pub ContentFrom : (Origin → Type 0) → Content → Type 0
 ContentFrom P Unknown = Unit {0}

@@ -1,6 +1,6 @@
 -- What a file's node gives in a frame.
-use Rattle.std.proofs.Common.{◌≡◌, ℕ, Bool, true, false, Option, Some, None, Result, Ok, List, []}
-use Rattle.std.proofs.Common.{◌∷◌, ◌++◌, map, refl, sym, subst, rules}
+use Rattle.std.proofs.Common.{◌≡◌, ℕ, Bool, true, false, List, []}
+use Rattle.std.proofs.Common.{◌∷◌, map, subst, rules}
 use Rattle.std.specs.Prelude.{IfOk}
 use Rattle.std.specs.List.{AllByRecursion as Each}
 use Rattle.pl_base.specs.declared.origin.Origin.{Origin}
@@ -10,10 +10,8 @@ use Rattle.pl_base.specs.declared.node.Node.{Node}
 use Rattle.pl_base.specs.declared.node.NodeBody.{NodeBody, out-NodeBody, roll-NodeBody, the_lemmas}
 use Rattle.pl_base.specs.declared.node.NodePair.{NodePair}
 use Rattle.pl_base.specs.declared.node.NodeBody.TheOpen.{Scalar, Seq, Map}
-use Rattle.pl_base.specs.declared.value.Value.{Str, out-Value}
+use Rattle.pl_base.specs.declared.value.Value.{Str}
 use Rattle.pl_base.specs.declared.value.MarkedNode.{MarkedNode}
-use Rattle.pl_base.specs.declared.value.MarkedPair.{MarkedPair}
-use Rattle.pl_eval.specs.LookUps.{made}
 use Rattle.pl_frame.specs.declared.frame.Frame.{Frame}
 use Rattle.pl_frame.specs.Names.{within}
 use Rattle.pl_frame.specs.Origins.{literal_at}
@@ -24,36 +22,31 @@ use Rattle.pl_directives.specs.declared.action.Action.{Action}
 use Rattle.pl_directives.specs.declared.action.Action.TheVariants as action
 use Rattle.pl_directives.specs.declared.fault.ExpandProblem.{ExpandProblem}
 use Rattle.pl_directives.specs.declared.fault.ExpandProblem.TheVariants.{WrongKind, InsertNoMapping}
-use Rattle.pl_directives.specs.declared.keys.MadeKey.{MadeKey}
 use Rattle.pl_directives.specs.declared.manner.Kind.{Kind}
 use Rattle.pl_directives.specs.declared.manner.Kind.TheVariants as kind
 use Rattle.pl_directives.specs.declared.manner.Manner.{Manner}
 use Rattle.pl_directives.specs.declared.manner.Manner.TheVariants.{Empty, Stays, Splices, Mixed}
-use Rattle.pl_directives.specs.declared.progress.Chain.{Chain}
 use Rattle.pl_directives.specs.declared.progress.Chain.TheVariants.{Closed}
-use Rattle.pl_directives.specs.declared.progress.Counted.{Counted}
 use Rattle.pl_directives.specs.declared.progress.Progress.{Progress}
 use Rattle.pl_directives.specs.declared.region.Region.{Region}
 use Rattle.pl_directives.specs.Actions.{key_asks}
 use Rattle.pl_directives.specs.Contents.{with_chain, with_count, begun, as_items, as_pairs}
-use Rattle.pl_directives.specs.Contents.{put_pair, finished, absorbed}
+use Rattle.pl_directives.specs.Contents.{finished, absorbed}
 use Rattle.pl_directives.specs.Counting.{entered}
-use Rattle.pl_directives.specs.Keys.{key_by}
 use Rattle.pl_directives.specs.Manners.{manner_of}
 use Rattle.pl_directives.specs.Regions.{under, inside, of_item, is_path}
 use Rattle.pl_directives.specs.Scalars.{counted_value_at, plain_scalar, joined_scalar}
 use Rattle.pl_expanding.specs.Expanding.{Filling, Shape, Part, Entry, scalar, sequence, mapping}
 use Rattle.pl_expanding.specs.Expanding.{collected, value_by, body_by, body, turns, path_by, done}
 use Rattle.pl_expanding.specs.Expanding.{value_under, pair_behind, pairs_behind, mapping_behind}
-use Rattle.pl_expanding.specs.Expanding.{mapping_item_by, item_by, item_behind, items_behind}
+use Rattle.pl_expanding.specs.Expanding.{item_by, item_behind, items_behind}
 use Rattle.pl_expanding.specs.Expanding.{facet_of, part_of, shape_of, entry_of, expanded}
 use Rattle.pl_expanding.specs.Following.{Follow}
-use Rattle.pl_expanding.specs.Putting.{splice}
 use Rattle.pl_expanding.specs.Scalars.{scalar_by, scalar_at, path_at}
 use Rattle.pl_expanding.specs.Scalars.{path_by as path_text_by}
-use Rattle.pl_calls.specs.Parts.{Body, body_of}
-use Rattle.pl_eval_laws.proofs.Trees.{NodeFrom, PairFrom, node_from, pair_from, text_from}
-use Rattle.pl_origins.proofs.Contents.{ContentFrom, ProgressFrom, nothing_from, as_items_from}
+use Rattle.pl_calls.specs.Parts.{Body}
+use Rattle.pl_eval_laws.proofs.Trees.{NodeFrom, node_from, pair_from, text_from}
+use Rattle.pl_origins.proofs.Contents.{ProgressFrom, nothing_from, as_items_from}
 use Rattle.pl_origins.proofs.Contents.{as_pairs_from, put_pair_from, finished_from, absorbed_from}
 use Rattle.pl_origins.proofs.Following.{FollowFrom, add_item_gives, splice_gives, spread_gives}
 use Rattle.pl_origins.proofs.Following.{settling_gives}
@@ -62,7 +55,7 @@ use Rattle.pl_origins.proofs.Induction.{BodyParts, written_induction}
 use Rattle.pl_origins.proofs.Nodes.{NodeIn, PairIn, BodyIn, node_in, pair_in}
 use Rattle.pl_origins.proofs.Scalars.{OneFrom, KeyFrom, ActionFrom, counted_value_from, plain_from}
 use Rattle.pl_origins.proofs.Scalars.{joined_from, key_by_from, key_asks_from}
-use Rattle.pl_origins.proofs.Steps.{Used, Gives, ok_then, any_then, given, done_gives, alone_gives}
+use Rattle.pl_origins.proofs.Steps.{Gives, ok_then, any_then, given, done_gives, alone_gives}
 use Rattle.pl_origins.proofs.Steps.{plain_then, first_then, used_then}
 
 -- ---- the path of a call

@@ -1,24 +1,22 @@
 -- Items that are put into a list, and values that expressions gave, where calls are followed.
-use Rattle.std.proofs.Common.{◌≡◌, ℕ, Option, Some, None, Result, Ok, List, [], ◌∷◌, ◌++◌, map}
-use Rattle.std.proofs.Common.{refl, sym, subst, rules}
-use Rattle.std.specs.Prelude.{IfOk}
+use Rattle.std.proofs.Common.{◌≡◌, ℕ, Option, Some, None, List, [], ◌∷◌, map}
+use Rattle.std.proofs.Common.{subst, rules}
 use Rattle.std.specs.List.{AllByRecursion as Each}
 use Rattle.pl_base.specs.declared.origin.Origin.{Origin}
 use Rattle.pl_base.specs.declared.place.FileKey.{FileKey}
 use Rattle.pl_base.specs.declared.value.Value.{Value, out-Value, roll-Value, the_lemmas}
 use Rattle.pl_base.specs.declared.value.Value.TheVariants as value
-use Rattle.pl_base.specs.declared.value.Value.TheOpen.{Value-F, Null, Bool as Truth, Number}
+use Rattle.pl_base.specs.declared.value.Value.TheOpen.{Null, Bool as Truth, Number}
 use Rattle.pl_base.specs.declared.value.Value.TheOpen.{Version, Str, Array, Object}
 use Rattle.pl_base.specs.declared.value.MarkedNode.{MarkedNode}
 use Rattle.pl_base.specs.declared.value.MarkedPair.{MarkedPair}
 use Rattle.pl_frame.specs.declared.frame.Frame.{Frame}
 use Rattle.pl_directives.specs.declared.progress.Content.{Content}
 use Rattle.pl_directives.specs.declared.progress.Content.TheVariants.{Unknown, Items, Pairs}
-use Rattle.pl_directives.specs.declared.progress.Counted.{Counted}
 use Rattle.pl_directives.specs.declared.progress.Progress.{Progress}
 use Rattle.pl_directives.specs.declared.region.Form.{Form}
 use Rattle.pl_directives.specs.declared.region.Region.{Region}
-use Rattle.pl_directives.specs.Contents.{with_count, add_items, object_of}
+use Rattle.pl_directives.specs.Contents.{with_count, object_of}
 use Rattle.pl_directives.specs.Regions.{call_form, inside, under}
 use Rattle.pl_expanding.specs.declared.followed.Followed.{Followed}
 use Rattle.pl_expanding.specs.declared.followed.SettledPairs.{SettledPairs}
@@ -166,71 +164,73 @@ module _ (P : Origin → Type 0) (U : List FileKey → Type 0) where
   PairsFrom all = Each (PairFrom P) all.pairs
 
   module _ (follow : Follow) (follows : FollowFrom P U follow) (frame : Frame) (region : Region)
-      where
-    item_settles :
-        (form : Option Form) (H : Type 0) (seen : NodeSeen) (before : Followed)
-        (used : List FileKey) → NodeGiven H seen → (H → FollowedFrom P before) →
-        Gives U H used (item_settled form seen follow frame region before used) (FollowedFrom P)
-    item_settles None H seen before used holds all =
-        used_then U (OneFrom P) (FollowedFrom P) H used
-        (seen.settled follow frame (inside region) before.count used) _
-        (holds.1 follow frame (inside region) before.count used follows)
-        (λ one later. done_gives U (FollowedFrom P) (H × OneFrom P one) later
-        (items_and before one)
-        (λ h. each_append (NodeFrom P) before.items (one.node ∷ []) (all h.0) (h.1, tt)))
-    item_settles (Some form) H seen before used holds all =
-        used_then U (FollowedFrom P) (FollowedFrom P) H used
-        (follow frame form seen.itself before.count used) _
-        (given U (FollowedFrom P) (NodeFrom P seen.itself) H used
-        (follow frame form seen.itself before.count used) holds.0
-        (follows frame form seen.itself before.count used))
-        (λ more later. done_gives U (FollowedFrom P) (H × FollowedFrom P more) later
-        (items_with before more)
-        (λ h. each_append (NodeFrom P) before.items more.items (all h.0) h.1))
+    where
+      item_settles :
+          (form : Option Form) (H : Type 0) (seen : NodeSeen) (before : Followed)
+          (used : List FileKey) → NodeGiven H seen → (H → FollowedFrom P before) →
+          Gives U H used (item_settled form seen follow frame region before used) (FollowedFrom P)
+      item_settles None H seen before used holds all =
+          used_then U (OneFrom P) (FollowedFrom P) H used
+          (seen.settled follow frame (inside region) before.count used) _
+          (holds.1 follow frame (inside region) before.count used follows)
+          (λ one later. done_gives U (FollowedFrom P) (H × OneFrom P one) later
+          (items_and before one)
+          (λ h. each_append (NodeFrom P) before.items (one.node ∷ []) (all h.0) (h.1, tt)))
+      item_settles (Some form) H seen before used holds all =
+          used_then U (FollowedFrom P) (FollowedFrom P) H used
+          (follow frame form seen.itself before.count used) _
+          (given U (FollowedFrom P) (NodeFrom P seen.itself) H used
+          (follow frame form seen.itself before.count used) holds.0
+          (follows frame form seen.itself before.count used))
+          (λ more later. done_gives U (FollowedFrom P) (H × FollowedFrom P more) later
+          (items_with before more)
+          (λ h. each_append (NodeFrom P) before.items more.items (all h.0) h.1))
 
-    items_settle :
-        (H : Type 0) (seen : List NodeSeen) (before : Followed) (used : List FileKey) →
-        Each (NodeGiven H) seen → (H → FollowedFrom P before) →
-        Gives U H used (items_behind seen follow frame region before used) (FollowedFrom P)
-    items_settle H [] before used holds all = done_gives U (FollowedFrom P) H used before all
-    items_settle H (one ∷ seen) before used holds all =
-        used_then U (FollowedFrom P) (FollowedFrom P) H used
-        (item_behind one follow frame region before used)
-        (items_behind seen follow frame region)
-        (item_settles (call_form region one.itself) H one before used holds.0 all)
-        (λ after later. items_settle (H × FollowedFrom P after) seen after later
-        (each_implies (NodeGiven H) (NodeGiven (H × FollowedFrom P after))
-        (node_weaker H (H × FollowedFrom P after) (λ h. h.0)) seen holds.1)
-        (λ h. h.1))
+      items_settle :
+          (H : Type 0) (seen : List NodeSeen) (before : Followed) (used : List FileKey) →
+          Each (NodeGiven H) seen → (H → FollowedFrom P before) →
+          Gives U H used (items_behind seen follow frame region before used) (FollowedFrom P)
+      items_settle H [] before used holds all = done_gives U (FollowedFrom P) H used before all
+      items_settle H (one ∷ seen) before used holds all =
+          used_then U (FollowedFrom P) (FollowedFrom P) H used
+          (item_behind one follow frame region before used)
+          (items_behind seen follow frame region)
+          (item_settles (call_form region one.itself) H one before used holds.0 all)
+          (λ after later. items_settle (H × FollowedFrom P after) seen after later
+          (each_implies (NodeGiven H) (NodeGiven (H × FollowedFrom P after))
+          (node_weaker H (H × FollowedFrom P after) (λ h. h.0)) seen holds.1)
+          (λ h. h.1))
 
-    pair_settles :
-        (H : Type 0) (seen : PairSeen) (before : SettledPairs) (used : List FileKey) →
-        PairGiven H seen → (H → PairsFrom before) →
-        Gives U H used (pair_behind seen follow frame region before used) PairsFrom
-    pair_settles H seen before used holds all =
-        used_then U (OneFrom P) PairsFrom H used
-        (seen.settled follow frame (under seen.itself.key region) before.count used) _
-        (holds.1 follow frame (under seen.itself.key region) before.count used follows)
-        (λ one later. done_gives U PairsFrom (H × OneFrom P one) later
-        (pairs_and before seen.itself one)
-        (λ h. each_append (PairFrom P) before.pairs _ (all h.0)
-        (pair_from P seen.itself.key seen.itself.key_origin one.node
-        (pair_parts P seen.itself (holds.0 h.0)).0 h.1, tt)))
+      pair_settles :
+          (H : Type 0) (seen : PairSeen) (before : SettledPairs) (used : List FileKey) →
+          PairGiven H seen → (H → PairsFrom before) →
+          Gives U H used (pair_behind seen follow frame region before used) PairsFrom
+      pair_settles H seen before used holds all =
+          used_then U (OneFrom P) PairsFrom H used
+          (seen.settled follow frame (under seen.itself.key region) before.count used) _
+          (holds.1 follow frame (under seen.itself.key region) before.count used follows)
+          (λ one later. done_gives U PairsFrom (H × OneFrom P one) later
+          (pairs_and before seen.itself one)
+          (λ h. each_append (PairFrom P) before.pairs _ (all h.0) (
+            pair_from P seen.itself.key seen.itself.key_origin one.node
+                (pair_parts P seen.itself (holds.0 h.0)).0 h.1,
+            tt,
+          )))
 
-    pairs_settle :
-        (H : Type 0) (seen : List PairSeen) (before : SettledPairs) (used : List FileKey) →
-        Each (PairGiven H) seen → (H → PairsFrom before) →
-        Gives U H used (pairs_behind seen follow frame region before used) PairsFrom
-    pairs_settle H [] before used holds all = done_gives U PairsFrom H used before all
-    pairs_settle H (one ∷ seen) before used holds all =
-        used_then U PairsFrom PairsFrom H used
-        (pair_behind one follow frame region before used)
-        (pairs_behind seen follow frame region)
-        (pair_settles H one before used holds.0 all)
-        (λ after later. pairs_settle (H × PairsFrom after) seen after later
-        (each_implies (PairGiven H) (PairGiven (H × PairsFrom after))
-        (pair_weaker H (H × PairsFrom after) (λ h. h.0)) seen holds.1)
-        (λ h. h.1))
+      pairs_settle :
+          (H : Type 0) (seen : List PairSeen) (before : SettledPairs) (used : List FileKey) →
+          Each (PairGiven H) seen → (H → PairsFrom before) →
+          Gives U H used (pairs_behind seen follow frame region before used) PairsFrom
+      pairs_settle H [] before used holds all = done_gives U PairsFrom H used before all
+      pairs_settle H (one ∷ seen) before used holds all =
+          used_then U PairsFrom PairsFrom H used
+          (pair_behind one follow frame region before used)
+          (pairs_behind seen follow frame region)
+          (pair_settles H one before used holds.0 all)
+          (λ after later. pairs_settle (H × PairsFrom after) seen after later
+          (each_implies (PairGiven H) (PairGiven (H × PairsFrom after))
+          (pair_weaker H (H × PairsFrom after) (λ h. h.0)) seen holds.1)
+          (λ h. h.1))
 
   -- ---- by induction over the value
 

@@ -1,5 +1,5 @@
 -- Induction over trees of values and over files' nodes, by their layers.
-use Rattle.std.proofs.Common.{ℕ, List, [], ◌∷◌, map, subst, sym}
+use Rattle.std.proofs.Common.{ℕ, List, [], ◌∷◌, map, subst}
 use Rattle.std.specs.List.{AllByRecursion as Each}
 use Rattle.pl_base.specs.declared.origin.Origin.{Origin}
 use Rattle.pl_base.specs.declared.place.Place.{Place}
@@ -16,7 +16,6 @@ use Rattle.pl_base.specs.declared.node.NodePair.{NodePair, roll-NodePair, map-No
 use Rattle.pl_base.specs.declared.node.NodeBody.{NodeBody, roll-NodeBody, map-NodeBody}
 use Rattle.pl_base.specs.declared.node.NodeBody.TheOpen.{NodeBody-F, Node-F, NodePair-F}
 use Rattle.pl_base.specs.declared.node.NodeBody.TheOpen.{Scalar, Seq, Map}
-use Rattle.pl_eval_laws.proofs.Lists.{each_of, each_map}
 
 all_of :
     {X Y : Type 0} (P : Y → Type 0) (f : X → Y) → ((x : X) → P (f x)) → (xs : List X) →

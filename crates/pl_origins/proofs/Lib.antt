@@ -9,3 +9,4 @@ pub mod Bound
 pub mod Following
 pub mod Expanded
 pub mod Called
+pub mod Kept

@@ -1,17 +1,16 @@
 -- Trees whose origins are moved.
-use Rattle.std.proofs.Common.{◌≡◌, ℕ, List, [], ◌∷◌, map, refl, sym, subst, rules}
+use Rattle.std.proofs.Common.{◌≡◌, ℕ, List, [], ◌∷◌, map, subst, rules}
 use Rattle.std.specs.List.{AllByRecursion as Each}
 use Rattle.pl_base.specs.declared.origin.Origin.{Origin}
 use Rattle.pl_base.specs.declared.value.Value.{Value, out-Value, roll-Value, the_lemmas}
 use Rattle.pl_base.specs.declared.value.Value.TheVariants as value
-use Rattle.pl_base.specs.declared.value.Value.TheOpen.{Value-F, Null, Bool as Truth, Number}
+use Rattle.pl_base.specs.declared.value.Value.TheOpen.{Null, Bool as Truth, Number}
 use Rattle.pl_base.specs.declared.value.Value.TheOpen.{Version, Str, Array, Object}
 use Rattle.pl_base.specs.declared.value.MarkedNode.{MarkedNode}
 use Rattle.pl_base.specs.declared.value.MarkedPair.{MarkedPair, fold-MarkedPair}
 use Rattle.pl_frame.specs.Trees.{moved, all_moved, moved_value, moved_node, moved_pair}
-use Rattle.pl_eval_laws.proofs.Lists.{each_map}
 use Rattle.pl_eval_laws.proofs.Trees.{Opened, NodeFrom, ValueFrom, PairFrom, node_from, pair_from}
-use Rattle.pl_eval_laws.proofs.Trees.{layer_from, node_parts, pair_parts, value_parts, array_from}
+use Rattle.pl_eval_laws.proofs.Trees.{node_parts, pair_parts, value_parts, array_from}
 use Rattle.pl_eval_laws.proofs.Trees.{object_from, null_from, truth_from, number_from, text_from}
 use Rattle.pl_eval_laws.proofs.Trees.{version_from}
 use Rattle.pl_origins.proofs.Induction.{Parts, node_induction, value_induction}

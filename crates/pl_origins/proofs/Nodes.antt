@@ -1,12 +1,12 @@
 -- What holds of all places of a file's node, by its parts.
-use Rattle.std.proofs.Common.{◌≡◌, ℕ, Bool, Option, List, [], ◌∷◌, ◌++◌, map, refl, sym, subst, rules}
+use Rattle.std.proofs.Common.{◌≡◌, ℕ, List, [], ◌∷◌, map, sym, subst, rules}
 use Rattle.std.specs.Prelude.{find}
 use Rattle.std.specs.List.{AllByRecursion as Each}
 use Rattle.pl_base.specs.declared.place.Place.{Place}
 use Rattle.pl_base.specs.declared.node.Node.{Node}
 use Rattle.pl_base.specs.declared.node.NodeBody.{NodeBody, out-NodeBody, roll-NodeBody, the_lemmas}
 use Rattle.pl_base.specs.declared.node.NodePair.{NodePair}
-use Rattle.pl_base.specs.declared.node.NodeBody.TheOpen.{NodeBody-F, Scalar, Seq, Map}
+use Rattle.pl_base.specs.declared.node.NodeBody.TheOpen.{Scalar, Seq, Map}
 use Rattle.pl_literal.specs.Items.{is}
 use Rattle.pl_calls.specs.Parts.{Body, body_of, under}
 use Rattle.pl_eval_laws.proofs.Lists.{Has, has_map, each_found, each_front, each_back, each_of}
@@ -71,9 +71,11 @@ module _ (R : Place → Type 0) where
   node_in node all =
       let parts = subst (Each R) (node_places node.place node.body) all in
       let below : Each R (places_below (roll-NodeBody (out-NodeBody node.body))) =
-      subst (λ (body : NodeBody). Each R (places_below body)) (sym (rolled node.body)) parts.1 in
-      (parts.0, layer_in (out-NodeBody node.body)
-      (subst (Each R) (body_places (out-NodeBody node.body)) below))
+      subst (λ (body : NodeBody). Each R (places_below body)) (sym (rolled node.body)) parts.1 in (
+        parts.0,
+        layer_in (out-NodeBody node.body)
+            (subst (Each R) (body_places (out-NodeBody node.body)) below),
+      )
 
   pub pair_in : (pair : NodePair) → PairIn R pair → R pair.key_place × NodeIn R pair.item
   unfolding NodeIn PairIn

@@ -1,16 +1,15 @@
 -- Scalars, keys and what keys ask for, in a frame.
-use Rattle.std.proofs.Common.{◌≡◌, ℕ, Bool, true, false, Result, Ok, Err, List, [], ◌∷◌, map}
+use Rattle.std.proofs.Common.{ℕ, Bool, true, false, List, []}
 use Rattle.std.specs.Prelude.{IfOk}
 use Rattle.std.specs.List.{AllByRecursion as Each}
 use Rattle.pl_base.specs.declared.origin.Origin.{Origin}
 use Rattle.pl_base.specs.declared.place.Place.{Place}
-use Rattle.pl_base.specs.declared.value.Value.{Value, Str, Object, out-Value}
+use Rattle.pl_base.specs.declared.value.Value.{Str, out-Value}
 use Rattle.pl_base.specs.declared.value.Value.TheOpen as layer
 use Rattle.pl_base.specs.declared.value.MarkedNode.{MarkedNode}
 use Rattle.pl_base.specs.declared.value.MarkedPair.{MarkedPair}
-use Rattle.pl_expr.specs.Conversions.{cast_text}
 use Rattle.pl_frame.specs.declared.frame.Frame.{Frame}
-use Rattle.pl_frame.specs.Names.{pair_object, named}
+use Rattle.pl_frame.specs.Names.{pair_object}
 use Rattle.pl_frame.specs.Origins.{literal_at, made_at}
 use Rattle.pl_frame.specs.Trees.{nodes_in}
 use Rattle.pl_template.specs.declared.forms.ScalarForm.{ScalarForm}
@@ -28,7 +27,7 @@ use Rattle.pl_directives.specs.declared.progress.Counted.{Counted}
 use Rattle.pl_directives.specs.Actions.{branch, if_asks, elseif_asks, else_asks, items_for}
 use Rattle.pl_directives.specs.Actions.{each_asks, computed_asks, asks, key_asks}
 use Rattle.pl_directives.specs.Counting.{counted}
-use Rattle.pl_directives.specs.Keys.{key_from, key_pieces_behind, key_by, joined_key}
+use Rattle.pl_directives.specs.Keys.{key_from, key_pieces_behind, key_by}
 use Rattle.pl_directives.specs.Scalars.{value_at, truth_at, one_more, counted_value_at}
 use Rattle.pl_directives.specs.Scalars.{pieces_behind, plain_scalar, joined_scalar}
 use Rattle.pl_eval_laws.proofs.Lists.{each_map}

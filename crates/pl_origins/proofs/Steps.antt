@@ -1,5 +1,5 @@
 -- Steps one after the other, and what holds behind them.
-use Rattle.std.proofs.Common.{◌≡◌, ℕ, Result, Ok, Err, List}
+use Rattle.std.proofs.Common.{Result, Ok, Err, List}
 use Rattle.std.specs.Prelude.{IfOk}
 use Rattle.pl_base.specs.declared.place.FileKey.{FileKey}
 use Rattle.pl_directives.specs.declared.fault.ExpandFault.{ExpandFault}
