@@ -61,7 +61,7 @@ use Rattle.pl_origins.proofs.Nodes.{NodeIn, PairIn, BodyIn, node_in, pair_in}
 -- ---- what is written in a file, as a value
 
 module _ (R : Place → Type 0) (crossings : List Crossing) where
-  abbrev Stands : Origin → Type 0
+  abbrev pub Stands : Origin → Type 0
   Stands origin = R origin.source × (origin.crossings ≡ crossings)
 
   abbrev BodyClaim : NodeBody → Type 0
