@@ -1,9 +1,8 @@
 -- What a template gives that the root file extends.
-use Rattle.std.proofs.Common.{◌≡◌, ℕ, Bool, true, false, cond, Option, Some, None, Result, Ok, Err}
-use Rattle.std.proofs.Common.{List, [], ◌∷◌, ◌++◌, refl}
+use Rattle.std.proofs.Common.{ℕ, Bool, true, false, cond, Option, Some, None, Ok}
+use Rattle.std.proofs.Common.{List, [], ◌∷◌, ◌++◌}
 use Rattle.std.specs.Prelude.{IfOk, codes}
 use Rattle.std.specs.List.{AllByRecursion as Each}
-use Rattle.pl_base.specs.declared.origin.Crossing.{Crossing}
 use Rattle.pl_base.specs.declared.origin.Crossing.TheVariants.{Extends, Argument, Made}
 use Rattle.pl_base.specs.declared.origin.Origin.{Origin}
 use Rattle.pl_base.specs.declared.place.FileKey.{FileKey}
@@ -13,11 +12,9 @@ use Rattle.pl_base.specs.declared.node.NodePair.{NodePair}
 use Rattle.pl_base.specs.declared.node.NodeBody.TheOpen.{Scalar, Seq, Map}
 use Rattle.pl_base.specs.declared.value.Value.{out-Value}
 use Rattle.pl_base.specs.declared.value.MarkedNode.{MarkedNode}
-use Rattle.pl_base.specs.declared.value.MarkedPair.{MarkedPair}
 use Rattle.pl_frame.specs.declared.frame.Frame.{Frame}
 use Rattle.pl_frame.specs.Origins.{across}
 use Rattle.pl_literal.specs.Items.{is}
-use Rattle.pl_directives.specs.declared.fault.ExpandFault.{ExpandFault}
 use Rattle.pl_directives.specs.declared.fault.ExpandProblem.TheVariants.{WrongKind}
 use Rattle.pl_directives.specs.declared.manner.Kind.TheVariants as content
 use Rattle.pl_directives.specs.declared.progress.Chain.TheVariants.{Closed}
@@ -30,20 +27,18 @@ use Rattle.pl_directives.specs.declared.region.Region.TheVariants.{Free, Quiet}
 use Rattle.pl_directives.specs.Contents.{begun}
 use Rattle.pl_directives.specs.Complaints.{refused}
 use Rattle.pl_directives.specs.Counting.{entered}
-use Rattle.pl_directives.specs.Steps.{◌>>=◌}
 use Rattle.pl_calls.specs.Calls.{path_text, pairs_from}
 use Rattle.pl_calls.specs.Frames.{framed_by}
 use Rattle.pl_calls.specs.Judging.{unless_at, stray, held, template_in}
-use Rattle.pl_calls.specs.Meant.{◌>>>◌, alone}
 use Rattle.pl_calls.specs.Parts.{Body, body_of, under}
 use Rattle.pl_calls.specs.Reaching.{Opens, node_in as file_node}
 use Rattle.pl_calls.specs.declared.reaching.Opened.{Opened as OpenedFile}
-use Rattle.pl_expanding.specs.Expanding.{part_of, entry_of, expanded, path_by, pair_behind}
+use Rattle.pl_expanding.specs.Expanding.{part_of, entry_of, expanded, pair_behind}
 use Rattle.pl_expanding.specs.Following.{Follow}
 use Rattle.pl_expanding.specs.Levels.{followed}
 use Rattle.pl_expanding.specs.declared.followed.SettledPairs.{SettledPairs}
 use Rattle.pl_eval_laws.proofs.Lists.{Has}
-use Rattle.pl_eval_laws.proofs.Trees.{NodeFrom, PairFrom, node_parts, value_parts}
+use Rattle.pl_eval_laws.proofs.Trees.{PairFrom, node_parts, value_parts}
 use Rattle.pl_origins.proofs.Called.{Borders, FileIn, OpensFrom, followed_gives, framed_from}
 use Rattle.pl_origins.proofs.Called.{template_inside, pairs_inside}
 use Rattle.pl_origins.proofs.Contents.{ContentFrom, ProgressFrom}
@@ -52,7 +47,7 @@ use Rattle.pl_origins.proofs.Following.{FollowFrom}
 use Rattle.pl_origins.proofs.Frames.{FrameFrom}
 use Rattle.pl_origins.proofs.Nodes.{NodeIn, PairIn, BodyIn, node_in, pair_in, under_in}
 use Rattle.pl_origins.proofs.Scalars.{OneFrom}
-use Rattle.pl_origins.proofs.Steps.{Gives, ok_then, any_then, plain_then, static_then, first_then}
+use Rattle.pl_origins.proofs.Steps.{Gives, ok_then, plain_then, static_then, first_then}
 use Rattle.pl_origins.proofs.Steps.{used_then, used_static_then, alone_gives, done_gives, given}
 use Rattle.pl_expand.specs.declared.extending.Extension.{Extension}
 use Rattle.pl_expand.specs.Extending.{path_in, mapping_from, value_from, argument_behind}

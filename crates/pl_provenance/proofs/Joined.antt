@@ -1,17 +1,14 @@
 -- The tree of a root file and of the template that it extends.
-use Rattle.std.proofs.Common.{◌≡◌, Bool, true, false, cond, Option, Some, None, Result, Ok, Err}
-use Rattle.std.proofs.Common.{List, [], ◌∷◌, ◌++◌, refl, sym, subst, ◌∙◌, ap, rules, ℕ}
-use Rattle.std.specs.Prelude.{IfOk, filter, find, codes, ◌&&◌}
-use Rattle.std.specs.List.{AllByRecursion as Each, filter_map, cons_option, list_any}
+use Rattle.std.proofs.Common.{◌≡◌, Bool, true, false, cond, Option, Some, None}
+use Rattle.std.proofs.Common.{List, [], ◌∷◌, refl, sym, subst, ◌∙◌, ap, rules}
+use Rattle.std.specs.Prelude.{IfOk, filter, find, codes}
+use Rattle.std.specs.List.{AllByRecursion as Each, filter_map, cons_option}
 use Rattle.std.specs.Option.{option_map}
 use Rattle.pl_base.specs.declared.origin.Origin.{Origin}
-use Rattle.pl_base.specs.declared.place.FileKey.{FileKey}
-use Rattle.pl_base.specs.declared.place.Place.{Place}
-use Rattle.pl_base.specs.declared.value.Value.{Value, Object, out-Value, the_lemmas}
+use Rattle.pl_base.specs.declared.value.Value.{Object, out-Value, the_lemmas}
 use Rattle.pl_base.specs.declared.value.Value.TheOpen as layer
 use Rattle.pl_base.specs.declared.value.MarkedNode.{MarkedNode}
 use Rattle.pl_base.specs.declared.value.MarkedPair.{MarkedPair}
-use Rattle.pl_eval.specs.LookUps.{made}
 use Rattle.pl_frame.specs.Doubles.{first_double}
 use Rattle.pl_literal.specs.Items.{is}
 use Rattle.pl_directives.specs.declared.fault.ExpandProblem.{ExpandProblem}
@@ -24,7 +21,6 @@ use Rattle.pl_origins.proofs.Steps.{ok_then, any_then}
 use Rattle.pl_expand.specs.declared.extending.Extension.{Extension}
 use Rattle.pl_expand.specs.Extending.{is_form, form_place, is_replaced, with_items, root_side}
 use Rattle.pl_expand.specs.Extending.{template_side, joined_pairs, shared_variables, merged_with}
-use Rattle.pl_expand.specs.Extending.{merged}
 use Rattle.pl_expand.specs.Tree.{stands, object_pairs, root_object}
 use Rattle.pl_provenance.specs.Roots.{pairs_of, jobs_of}
 

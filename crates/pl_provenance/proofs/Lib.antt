@@ -1,3 +1,4 @@
 pub mod Joined
 pub mod Extended
 pub mod Rooted
+pub mod Through

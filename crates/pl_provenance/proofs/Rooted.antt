@@ -1,9 +1,7 @@
 -- The pairs of a root file, and the tree of the whole.
 use Rattle.std.proofs.Common.{◌≡◌, ℕ, Bool, true, false, cond, Option, Some, None, Result, Ok, Err}
 use Rattle.std.proofs.Common.{List, [], ◌∷◌, ◌++◌, refl, sym, subst}
-use Rattle.std.specs.Prelude.{IfOk, codes, find}
-use Rattle.std.specs.FinMap as finite
-use Rattle.std.specs.Option.{option_map}
+use Rattle.std.specs.Prelude.{IfOk, codes}
 use Rattle.std.specs.List.{AllByRecursion as Each}
 use Rattle.pl_base.specs.Places.{place_at}
 use Rattle.pl_base.specs.declared.expanded.Argument.{Argument as RunArgument}
@@ -13,44 +11,33 @@ use Rattle.pl_base.specs.declared.place.FileKey.{FileKey}
 use Rattle.pl_base.specs.declared.place.Place.{Place}
 use Rattle.pl_base.specs.declared.node.Node.{Node}
 use Rattle.pl_base.specs.declared.node.NodePair.{NodePair}
-use Rattle.pl_base.specs.declared.node.NodeBody.TheOpen.{Scalar, Seq, Map}
 use Rattle.pl_base.specs.declared.value.Value.{Str}
 use Rattle.pl_base.specs.declared.value.MarkedNode.{MarkedNode}
 use Rattle.pl_frame.specs.declared.frame.Frame.{Frame}
 use Rattle.pl_frame.specs.declared.frame.Parameter.{Parameter}
 use Rattle.pl_frame.specs.declared.frame.Variable.{Variable}
-use Rattle.pl_frame.specs.Bindings.{parameters_of}
-use Rattle.pl_frame.specs.Origins.{literal_at, across}
+use Rattle.pl_frame.specs.Origins.{literal_at}
 use Rattle.pl_line.specs.declared.code.YamlCode.{YamlCode}
 use Rattle.pl_literal.specs.Literal.{literal, origin_at}
-use Rattle.pl_params.specs.declared.given.Bound.{Bound}
 use Rattle.pl_params.specs.declared.given.Given.{Given}
 use Rattle.pl_params.specs.declared.kind.ParamKind.{ParamKind}
-use Rattle.pl_params.specs.declared.kind.ParamKind.TheVariants as kind
 use Rattle.pl_params.specs.declared.param.Param.{Param}
 use Rattle.pl_yaml.specs.Spells as yaml
-use Rattle.pl_directives.specs.declared.fault.Complaint.{Complaint}
-use Rattle.pl_directives.specs.declared.fault.ExpandFault.{ExpandFault}
 use Rattle.pl_directives.specs.declared.manner.Kind.TheVariants as content
 use Rattle.pl_directives.specs.declared.progress.Chain.TheVariants.{Closed}
 use Rattle.pl_directives.specs.declared.progress.Progress.{Progress}
 use Rattle.pl_directives.specs.declared.region.Form.TheVariants.{Variables as InVariables}
 use Rattle.pl_directives.specs.declared.region.Region.TheVariants.{Free, Calls}
-use Rattle.pl_directives.specs.Contents.{begun, with_chain, with_count, put_pair}
+use Rattle.pl_directives.specs.Contents.{begun, with_chain, with_count}
 use Rattle.pl_directives.specs.Counting.{entered}
-use Rattle.pl_directives.specs.Steps.{◌>>=◌}
-use Rattle.pl_calls.specs.Meant.{◌>>>◌, alone}
-use Rattle.pl_calls.specs.Parameters.{declared_by, bound_to}
-use Rattle.pl_calls.specs.Parts.{Body, body_of, under}
-use Rattle.pl_calls.specs.Reaching.{Opens, opens as opens_of}
-use Rattle.pl_calls.specs.declared.files.Parsed.{Parsed}
-use Rattle.pl_calls.specs.declared.reaching.Home.{Home}
+use Rattle.pl_calls.specs.Parameters.{declared_by}
+use Rattle.pl_calls.specs.Parts.{under}
+use Rattle.pl_calls.specs.Reaching.{Opens}
 use Rattle.pl_expanding.specs.Expanding.{expanded, entry_of, pair_behind}
-use Rattle.pl_expanding.specs.Following.{Follow}
 use Rattle.pl_expanding.specs.Levels.{followed}
 use Rattle.pl_eval_laws.specs.Trees.{origins_of}
 use Rattle.pl_eval_laws.proofs.Lists.{Has, each_append, each_implies}
-use Rattle.pl_eval_laws.proofs.Trees.{NodeFrom, ValueFrom, PairFrom, node_from, pair_from, text_from}
+use Rattle.pl_eval_laws.proofs.Trees.{NodeFrom, PairFrom, node_from, pair_from, text_from}
 use Rattle.pl_origins.proofs.Bound.{ParamIn, BoundFrom, Takeable, declared_in, bound_to_from}
 use Rattle.pl_origins.proofs.Bound.{parameters_from, literal_from, Stands}
 use Rattle.pl_origins.proofs.Called.{Borders, OpensFrom}
@@ -58,10 +45,10 @@ use Rattle.pl_origins.proofs.Contents.{ProgressFrom, put_pair_from}
 use Rattle.pl_origins.proofs.Expanded.{entry_from, expanded_gives, pair_gives}
 use Rattle.pl_origins.proofs.Following.{FollowFrom}
 use Rattle.pl_origins.proofs.Frames.{FrameFrom, ParameterFrom}
-use Rattle.pl_origins.proofs.Nodes.{NodeIn, PairIn, BodyIn, node_in, pair_in, under_in}
+use Rattle.pl_origins.proofs.Nodes.{NodeIn, PairIn, pair_in, under_in}
 use Rattle.pl_origins.proofs.Scalars.{OneFrom}
-use Rattle.pl_origins.proofs.Steps.{Gives, ok_then, any_then, plain_then, static_then, first_then}
-use Rattle.pl_origins.proofs.Steps.{used_then, alone_gives, done_gives, given}
+use Rattle.pl_origins.proofs.Steps.{Gives, ok_then, any_then, plain_then}
+use Rattle.pl_origins.proofs.Steps.{used_then, alone_gives, done_gives}
 use Rattle.pl_expand.specs.declared.extending.Extension.{Extension}
 use Rattle.pl_expand.specs.declared.filling.Early.{Early}
 use Rattle.pl_expand.specs.declared.filling.RootFilling.{RootFilling}
@@ -69,13 +56,13 @@ use Rattle.pl_expand.specs.declared.root.RootNode.{RootNode}
 use Rattle.pl_expand.specs.declared.root_key.RootKey.{RootKey}
 use Rattle.pl_expand.specs.declared.root_key.RootKey.TheVariants as key
 use Rattle.pl_expand.specs.Extending.{extended}
-use Rattle.pl_expand.specs.Tree.{argument_file, given_as, whole_text, read_told, is_text}
+use Rattle.pl_expand.specs.Tree.{argument_file, whole_text, read_told, is_text}
 use Rattle.pl_expand.specs.Tree.{argument_value, kind_for, argument_given, arguments_given, bound_by}
 use Rattle.pl_expand.specs.Tree.{parameters_by, root_frame, first_frame, early_by, root_key}
 use Rattle.pl_expand.specs.Tree.{put_variables, filled_with, ordinary_pair, extends_pair}
 use Rattle.pl_expand.specs.Tree.{passed_over, variables_pair, root_pair, given_to, early_behind}
-use Rattle.pl_expand.specs.Tree.{root_pairs, root_object, file_of, second_frame, root_from}
-use Rattle.pl_expand.specs.Tree.{filled_in, filled_root, pairs_expanded}
+use Rattle.pl_expand.specs.Tree.{root_pairs, root_object, second_frame, root_from}
+use Rattle.pl_expand.specs.Tree.{filled_root, pairs_expanded}
 use Rattle.pl_provenance.specs.Roots.{jobs_of}
 use Rattle.pl_provenance.proofs.Extended.{ExtendsBorder, ExtensionFrom, extended_gives, levels_follow}
 use Rattle.pl_provenance.proofs.Joined.{tree_from}
