@@ -1,4 +1,5 @@
-pub mod Joined
 pub mod Extended
+pub mod Joined
 pub mod Rooted
 pub mod Through
+pub mod Whole
