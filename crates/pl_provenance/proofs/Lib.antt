@@ -3,3 +3,4 @@ pub mod Joined
 pub mod Rooted
 pub mod Through
 pub mod Whole
+pub mod Written

@@ -1,4 +1,5 @@
 ghost use Rattle.pl_provenance.specs.Roots.{StepsComeThrough};
+ghost use Rattle.pl_provenance.specs.Written.{WrittenWhereTold};
 
 /// Where the root file extends a template, all jobs and steps of the expanded pipeline came through
 /// that template (Microsoft Learn, Azure Pipelines, "Security through templates").
@@ -11,4 +12,15 @@ ghost use Rattle.pl_provenance.specs.Roots.{StepsComeThrough};
 /// and `lockBehavior`.
 pub fn steps_come_through_the_template()
     ensures { StepsComeThrough }
+{}
+
+/// Where the root file extends a template, each node and key of the jobs that no argument and no
+/// expression gave is written in the file of the last border that its origin tells: in the
+/// template, or in the file of the last call that led to it (Microsoft Learn, Azure Pipelines,
+/// "Security through templates").
+///
+/// It speaks of files whose nodes and keys have their places in these files, as all have that are
+/// read from texts.
+pub fn what_no_argument_gave_is_written_where_it_is_told()
+    ensures { WrittenWhereTold }
 {}

@@ -3,4 +3,6 @@
 
 mod laws;
 
-pub use laws::steps_come_through_the_template;
+pub use laws::{
+    steps_come_through_the_template, what_no_argument_gave_is_written_where_it_is_told,
+};
