@@ -1,6 +1,6 @@
 -- Where the nodes are written that no argument and no expression gave (Microsoft Learn, Azure
 -- Pipelines, "Security through templates").
-use Rattle.std.specs.Prelude.{◌≡◌, List, [], ◌∷◌, Option, Some, None, IfOk}
+use Rattle.std.specs.Prelude.{◌≡◌, List, [], ◌∷◌, Option, Some, None, Contains, IfOk}
 use Rattle.std.specs.FinMap as finite
 use Rattle.std.specs.List.{AllByRecursion}
 use Rattle.std.specs.Option.{option_or}
@@ -17,6 +17,13 @@ use Rattle.pl_eval_laws.specs.Trees.{origins_in}
 use Rattle.pl_origins.specs.Places.{places_of}
 use Rattle.pl_expand.specs.Tree.{Set, expansion}
 use Rattle.pl_provenance.specs.Roots.{jobs_of}
+
+-- ---- a node or a key of a file stands there
+
+pub record StandsInFile (files : Set) (key : FileKey) (place : Place) : Type 0 where
+  pub node : Node
+  pub file : finite.get files key ≡ Some (Good node)
+  pub stands : Contains (places_of node) place
 
 -- ---- a node is written where it came from, where only calls stand behind the border `extends`
 
@@ -44,22 +51,18 @@ last_file [] = None
 last_file (crossing ∷ crossings) = option_or (last_file crossings) (file_of crossing)
 
 -- what is written stands in the file of the last border that its origin tells
-abbrev pub IsWhereTold : Origin → Type 0
-IsWhereTold origin = IsWritten origin → last_file origin.crossings ≡ Some origin.source.file
+pub record IsThere (files : Set) (origin : Origin) : Type 0 where
+  pub key : FileKey
+  pub told : last_file origin.crossings ≡ Some key
+  pub stands : StandsInFile files key origin.source
 
--- ---- files whose nodes and keys stand in them, as all do that are read from texts
+abbrev pub IsWhereTold : Set → Origin → Type 0
+IsWhereTold files origin = IsWritten origin → IsThere files origin
 
-abbrev pub IsIn : FileKey → Place → Type 0
-IsIn file place = place.file ≡ file
-
-abbrev pub HaveOwnPlaces : Set → Type 0
-HaveOwnPlaces files =
-    (key : FileKey) (node : Node) → finite.get files key ≡ Some (Good node) →
-    AllByRecursion (IsIn key) (places_of node)
-
-abbrev pub ArePairsWhereTold : List MarkedPair → Type 0
-ArePairsWhereTold pairs =
-    AllByRecursion (λ (pair : MarkedPair). AllByRecursion IsWhereTold (origins_in pair)) pairs
+abbrev pub ArePairsWhereTold : Set → List MarkedPair → Type 0
+ArePairsWhereTold files pairs =
+    AllByRecursion (λ (pair : MarkedPair). AllByRecursion (IsWhereTold files) (origins_in pair))
+    pairs
 
 -- Where the root extends a template, each node and key of the jobs that no argument and no
 -- expression gave is written in the template itself, or in the file of the last call that its
@@ -67,6 +70,5 @@ ArePairsWhereTold pairs =
 abbrev pub WrittenWhereTold : Type 0
 WrittenWhereTold =
     (files : Set) (root : FileKey) (arguments : List RunArgument) (file : FileKey) →
-    HaveOwnPlaces files →
     IfOk (expansion files root arguments)
-    (λ whole. whole.extends ≡ Some file → ArePairsWhereTold (jobs_of whole.tree))
+    (λ whole. whole.extends ≡ Some file → ArePairsWhereTold files (jobs_of whole.tree))

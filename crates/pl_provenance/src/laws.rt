@@ -18,9 +18,6 @@ pub fn steps_come_through_the_template()
 /// expression gave is written in the file of the last border that its origin tells: in the
 /// template, or in the file of the last call that led to it (Microsoft Learn, Azure Pipelines,
 /// "Security through templates").
-///
-/// It speaks of files whose nodes and keys have their places in these files, as all have that are
-/// read from texts.
 pub fn what_no_argument_gave_is_written_where_it_is_told()
     ensures { WrittenWhereTold }
 {}
