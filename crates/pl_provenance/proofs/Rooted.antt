@@ -5,6 +5,7 @@ use Rattle.std.specs.Prelude.{IfOk, codes}
 use Rattle.std.specs.List.{AllByRecursion as Each}
 use Rattle.pl_base.specs.Places.{place_at}
 use Rattle.pl_base.specs.declared.expanded.Argument.{Argument as RunArgument}
+use Rattle.pl_base.specs.declared.origin.Crossing.{Crossing}
 use Rattle.pl_base.specs.declared.origin.Crossing.TheVariants.{Argument, Made}
 use Rattle.pl_base.specs.declared.origin.Origin.{Origin}
 use Rattle.pl_base.specs.declared.place.FileKey.{FileKey}
@@ -67,101 +68,106 @@ use Rattle.pl_provenance.specs.Roots.{jobs_of}
 use Rattle.pl_provenance.proofs.Extended.{ExtendsBorder, ExtensionFrom, extended_gives, levels_follow}
 use Rattle.pl_provenance.proofs.Joined.{tree_from}
 
--- What must be so in the root's own frame. A holds of the places of a run argument of a name.
-pub record RootBorder (P : Origin → Type 0) (R : Place → Type 0) (A : List ℕ → Place → Type 0)
-    : Type 0 where
+-- What must be so in the root's own frame. A holds of the places of a run argument.
+pub record RootBorder (P : Origin → Type 0) (R : Place → Type 0)
+    (A : RunArgument → Place → Type 0) : Type 0 where
   pub literal : (place : Place) → R place → P (record { source = place; crossings = [] })
   pub made : (place : Place) → R place → P (record { source = place; crossings = Made ∷ [] })
   pub argument :
-      (name : List ℕ) (source : Place) → A name source → (parameter : List ℕ) (place : Place) →
-      R place → P (record { source = source; crossings = Argument parameter place ∷ [] })
-  pub first : (name : List ℕ) → A name (place_at (argument_file name) 1 1)
-  pub read :
-      (name text : List ℕ) →
-      IfOk (yaml.spells (argument_file name) text) (NodeIn (A name))
+      (argument : RunArgument) (source : Place) → A argument source → (parameter : List ℕ)
+      (place : Place) → R place →
+      P (record { source = source; crossings = Argument parameter place ∷ [] })
+
+-- the places of a run argument: the whole text's, and those of what it spells
+abbrev pub ArgumentIn : (RunArgument → Place → Type 0) → RunArgument → Type 0
+ArgumentIn A argument =
+    A argument (place_at (argument_file argument.name) 1 1)
+    × IfOk (yaml.spells (argument_file argument.name) argument.text) (NodeIn (A argument))
 
 -- ---- the root's parameters
 
-module _ (P : Origin → Type 0) (R : Place → Type 0) (A : List ℕ → Place → Type 0)
+module _ (P : Origin → Type 0) (R : Place → Type 0) (A : RunArgument → Place → Type 0)
     (border : RootBorder P R A) where
   abbrev G : Origin → Type 0
   G = Takeable P R [] border.literal
 
   takes_argument :
-      (name : List ℕ) (origin : Origin) → A name origin.source → origin.crossings ≡ [] → G origin
-  takes_argument name origin stands none parameter place here =
-      subst (λ (crossings : List _). P (record {
+      (argument : RunArgument) (origin : Origin) → A argument origin.source →
+      origin.crossings ≡ [] → G origin
+  takes_argument argument origin stands none parameter place here =
+      subst (λ (crossings : List Crossing). P (record {
         source = origin.source;
         crossings = crossings ++ Argument parameter place ∷ [];
-      })) (sym none) (border.argument name origin.source stands parameter place here)
+      })) (sym none) (border.argument argument origin.source stands parameter place here)
 
-  whole_from : (argument : RunArgument) → NodeFrom G (whole_text argument)
-  whole_from argument =
+  whole_from : (argument : RunArgument) → ArgumentIn A argument → NodeFrom G (whole_text argument)
+  whole_from argument within =
       node_from G (origin_at [] (place_at (argument_file argument.name) 1 1)) (Str argument.text)
-      (takes_argument argument.name _ (border.first argument.name) refl)
-      (text_from G argument.text)
+      (takes_argument argument _ within.0 refl) (text_from G argument.text)
 
-  written_from : (name : List ℕ) (node : Node) → NodeIn (A name) node → NodeFrom G (literal [] node)
+  written_from : (argument : RunArgument) (node : Node) → NodeIn (A argument) node →
+      NodeFrom G (literal [] node)
   unfolding NodeFrom
-  written_from name node within =
-      each_implies (Stands (A name) []) G
-      (λ origin stands. takes_argument name origin stands.0 stands.1) (origins_of (literal [] node))
-      (literal_from (A name) [] node within)
+  written_from argument node within =
+      each_implies (Stands (A argument) []) G
+      (λ origin stands. takes_argument argument origin stands.0 stands.1)
+      (origins_of (literal [] node)) (literal_from (A argument) [] node within)
 
   read_from :
-      (name : List ℕ) (told : Result Node (YamlCode × Place)) → IfOk told (NodeIn (A name)) →
-      IfOk (read_told told) (NodeFrom G)
-  read_from name (Ok node) within = written_from name node within
-  read_from name (Err told) within = tt
+      (argument : RunArgument) (told : Result Node (YamlCode × Place)) →
+      IfOk told (NodeIn (A argument)) → IfOk (read_told told) (NodeFrom G)
+  read_from argument (Ok node) within = written_from argument node within
+  read_from argument (Err told) within = tt
 
-  value_by : (argument : RunArgument) (of : ParamKind) (b : Bool) →
+  value_by : (argument : RunArgument) → ArgumentIn A argument → (b : Bool) →
       IfOk (cond b (Ok (whole_text argument))
       (read_told (yaml.spells (argument_file argument.name) argument.text))) (NodeFrom G)
-  value_by argument of true = whole_from argument
-  value_by argument of false =
-      read_from argument.name (yaml.spells (argument_file argument.name) argument.text)
-      (border.read argument.name argument.text)
+  value_by argument within true = whole_from argument within
+  value_by argument within false =
+      read_from argument (yaml.spells (argument_file argument.name) argument.text) within.1
 
-  value_given : (of : Option ParamKind) (argument : RunArgument) →
+  value_given : (of : Option ParamKind) (argument : RunArgument) → ArgumentIn A argument →
       IfOk (argument_value of argument) (NodeFrom G)
-  value_given None argument = whole_from argument
-  value_given (Some of) argument = value_by argument of (is_text of)
+  value_given None argument within = whole_from argument within
+  value_given (Some of) argument within = value_by argument within (is_text of)
 
   abbrev GivenFrom : Given → Type 0
   GivenFrom one = NodeFrom G one.value
 
-  one_given : (declared : List Param) (argument : RunArgument) →
+  one_given : (declared : List Param) (argument : RunArgument) → ArgumentIn A argument →
       IfOk (argument_given declared argument) GivenFrom
-  one_given declared argument =
+  one_given declared argument within =
       ok_then (NodeFrom G) GivenFrom
       (argument_value (kind_for declared argument.name) argument) _
-      (value_given (kind_for declared argument.name) argument) (λ one all. all)
+      (value_given (kind_for declared argument.name) argument within) (λ one all. all)
 
   all_given :
       (declared : List Param) (arguments : List RunArgument) (before : List Given) →
-      Each GivenFrom before → IfOk (arguments_given declared arguments before) (Each GivenFrom)
-  all_given declared [] before all = all
-  all_given declared (argument ∷ arguments) before all =
+      Each (ArgumentIn A) arguments → Each GivenFrom before →
+      IfOk (arguments_given declared arguments before) (Each GivenFrom)
+  all_given declared [] before within all = all
+  all_given declared (argument ∷ arguments) before within all =
       ok_then GivenFrom (Each GivenFrom) (argument_given declared argument) _
-      (one_given declared argument)
-      (λ one is. all_given declared arguments (before ++ one ∷ [])
+      (one_given declared argument within.0)
+      (λ one is. all_given declared arguments (before ++ one ∷ []) within.1
       (each_append GivenFrom before (one ∷ []) all (is, tt)))
 
-  bound_from : (declared : List Param) (arguments : List RunArgument) → Each (ParamIn R) declared →
+  bound_from : (declared : List Param) (arguments : List RunArgument) →
+      Each (ArgumentIn A) arguments → Each (ParamIn R) declared →
       IfOk (bound_by declared arguments) (Each (BoundFrom G R))
-  bound_from declared arguments within =
+  bound_from declared arguments given_in within =
       ok_then (Each GivenFrom) (Each (BoundFrom G R)) (arguments_given declared arguments []) _
-      (all_given declared arguments [] tt)
+      (all_given declared arguments [] given_in tt)
       (λ given all. bound_to_from G R declared given within all)
 
   pub parameters_are :
-      (node : Option Node) (arguments : List RunArgument) → Has (NodeIn R) node →
-      IfOk (parameters_by node arguments) (Each (ParameterFrom P R))
-  parameters_are node arguments within =
+      (node : Option Node) (arguments : List RunArgument) → Each (ArgumentIn A) arguments →
+      Has (NodeIn R) node → IfOk (parameters_by node arguments) (Each (ParameterFrom P R))
+  parameters_are node arguments given_in within =
       ok_then (Each (ParamIn R)) (Each (ParameterFrom P R)) (declared_by node) _
       (declared_in R node within)
       (λ declared stands. ok_then (Each (BoundFrom G R)) (Each (ParameterFrom P R))
-      (bound_by declared arguments) _ (bound_from declared arguments stands)
+      (bound_by declared arguments) _ (bound_from declared arguments given_in stands)
       (λ bound are. parameters_from P R [] border.literal declared bound stands are))
 
   pub root_frame_from :
@@ -180,7 +186,7 @@ module _ (P : Origin → Type 0) (T : FileKey → Origin → Type 0) (R : FileKe
     (K : FileKey → Type 0) (U : List FileKey → Type 0) (border : ExtendsBorder P T R K)
     (inside : (file : FileKey) → Borders (T file) R K) (outside : Borders P R K) (opens : Opens)
     (opening : OpensFrom R K U opens) (root : FileKey) where
-  abbrev FillingFrom : RootFilling → Type 0
+  abbrev pub FillingFrom : RootFilling → Type 0
   FillingFrom filling =
       ProgressFrom P filling.progress × Has (ExtensionFrom T) filling.extension
 
@@ -298,7 +304,7 @@ module _ (P : Origin → Type 0) (T : FileKey → Origin → Type 0) (R : FileKe
       Each (PairFrom (T file)) (jobs_of tree)
   no_file tree file none = absurd (cc)
 
-  root_by :
+  pub root_by :
       (origin : Origin) (progress : Progress) (extension : Option Extension) →
       Has (ExtensionFrom T) extension →
       IfOk (root_from origin (filled_with extension progress)) RootNodeFrom
@@ -328,30 +334,33 @@ module _ (P : Origin → Type 0) (T : FileKey → Origin → Type 0) (R : FileKe
       (λ one later. done_gives U EarlyFrom (H × OneFrom P one) later
       (record { node = Some one.node; count = one.count }) (λ h. h.1))
 
-  module _ (A : List ℕ → Place → Type 0) (own : RootBorder P (R root) A) where
+  module _ (A : RunArgument → Place → Type 0) (own : RootBorder P (R root) A)
+      (N : RootNode → Type 0)
+      (finishes : (origin : Origin) (filling : RootFilling) → P origin → FillingFrom filling →
+      IfOk (root_from origin filling) N) where
     filled_gives :
         (place : Place) (pairs : List NodePair) (parameters : List Parameter) (H : Type 0)
-        (early : Early) (used : List FileKey) → Each (PairIn (R root)) pairs →
+        (early : Early) (used : List FileKey) → R root place → Each (PairIn (R root)) pairs →
         Each (ParameterFrom P (R root)) parameters → (H → EarlyFrom early) →
-        Gives U H used (filled_root root place pairs parameters opens early used) RootNodeFrom
-    filled_gives place pairs parameters H early used within are known =
+        Gives U H used (filled_root root place pairs parameters opens early used) N
+    filled_gives place pairs parameters H early used here within are known =
         let frame = second_frame root parameters early.node in
         let start = filled_with None (begun content.Pairs Closed early.count) in
-        used_then U FillingFrom RootNodeFrom H used
+        used_then U FillingFrom N H used
         (root_pairs early.node pairs opens frame start used) _
         (pairs_give_root early.node pairs H frame start used within
         (λ h. root_frame_from P (R root) A own root parameters _ are) known (λ h. (tt, tt)))
-        (λ filling later. alone_gives U RootNodeFrom (H × FillingFrom filling) later
+        (λ filling later. alone_gives U N (H × FillingFrom filling) later
         (root_from (literal_at frame place) filling)
-        (λ h. root_by (literal_at frame place) filling.progress filling.extension h.1.1))
+        (λ h. finishes (literal_at frame place) filling (own.literal place here) h.1))
 
     pub pairs_expanded_give :
-        (place : Place) (pairs : List NodePair) (parameters : List Parameter) →
+        (place : Place) (pairs : List NodePair) (parameters : List Parameter) → R root place →
         Each (PairIn (R root)) pairs → Each (ParameterFrom P (R root)) parameters →
-        Gives U (Unit {0}) [] (pairs_expanded root place pairs parameters opens) RootNodeFrom
-    pairs_expanded_give place pairs parameters within are =
-        plain_then U RootNodeFrom (Unit {0}) [] (entered place 0) _
-        (λ count. used_then U EarlyFrom RootNodeFrom (Unit {0}) []
+        Gives U (Unit {0}) [] (pairs_expanded root place pairs parameters opens) N
+    pairs_expanded_give place pairs parameters here within are =
+        plain_then U N (Unit {0}) [] (entered place 0) _
+        (λ count. used_then U EarlyFrom N (Unit {0}) []
         (early_by (under (codes "variables") pairs) (followed 100 opens)
         (first_frame root parameters) count [])
         (filled_root root place pairs parameters opens)
@@ -359,4 +368,4 @@ module _ (P : Origin → Type 0) (T : FileKey → Origin → Type 0) (R : FileKe
         count [] (under_in (R root) (codes "variables") pairs within)
         (λ h. root_frame_from P (R root) A own root parameters _ are))
         (λ early later. filled_gives place pairs parameters (Unit {0} × EarlyFrom early) early
-        later within are (λ h. h.1)))
+        later here within are (λ h. h.1)))

@@ -3,6 +3,7 @@ use Rattle.std.proofs.Common.{◌≡◌, ℕ, Some, Ok, List, [], ◌∷◌, ◌
 use Rattle.std.specs.Prelude.{IfOk}
 use Rattle.std.specs.FinMap as finite
 use Rattle.std.specs.List.{AllByRecursion as Each}
+use Rattle.pl_base.specs.declared.expanded.Argument.{Argument as RunArgument}
 use Rattle.pl_base.specs.declared.expanded.Expanded.{Expanded}
 use Rattle.pl_base.specs.declared.origin.Crossing.{Crossing}
 use Rattle.pl_base.specs.declared.origin.Crossing.TheVariants.{Extends, Include, Argument, Made}
@@ -12,6 +13,7 @@ use Rattle.pl_base.specs.declared.place.Place.{Place}
 use Rattle.pl_yaml.specs.Spells as yaml
 use Rattle.pl_directives.specs.Steps.{◌>>=◌}
 use Rattle.pl_calls.specs.Reaching.{opens as opens_of}
+use Rattle.pl_eval_laws.proofs.Lists.{each_of}
 use Rattle.pl_eval_laws.proofs.Trees.{PairFrom}
 use Rattle.pl_origins.specs.Through.{extended_in}
 use Rattle.pl_origins.proofs.Kept.{any_ok, NoPlace, NoFile, opens_anything, extended_last}
@@ -21,7 +23,7 @@ use Rattle.pl_origins.proofs.Steps.{ok_then}
 use Rattle.pl_expand.specs.Tree.{argument_file, root_node, tree_of}
 use Rattle.pl_provenance.specs.Roots.{jobs_of, IsPairThrough, StepsComeThrough}
 use Rattle.pl_provenance.proofs.Extended.{ExtendsBorder}
-use Rattle.pl_provenance.proofs.Rooted.{RootBorder}
+use Rattle.pl_provenance.proofs.Rooted.{RootBorder, ArgumentIn}
 use Rattle.pl_provenance.proofs.Whole.{TreeFrom, tree_jobs}
 
 pub extends_one :
@@ -53,18 +55,22 @@ crosses R = record {
       ∙ extends_one one.crossings key own;
 }
 
-abbrev pub AnyArgument : List ℕ → Place → Type 0
-AnyArgument name place = Unit {0}
+abbrev pub AnyArgument : RunArgument → Place → Type 0
+AnyArgument argument place = Unit {0}
+
+pub any_arguments : (arguments : List RunArgument) → Each (ArgumentIn AnyArgument) arguments
+any_arguments arguments =
+    each_of (ArgumentIn AnyArgument)
+    (λ argument. (tt, any_ok (NodeIn (AnyArgument argument))
+    (anywhere (AnyArgument argument) (λ place. tt))
+    (yaml.spells (argument_file argument.name) argument.text)))
+    arguments
 
 pub begins : (R : Place → Type 0) → RootBorder Before R AnyArgument
 begins R = record {
   literal = λ place here. refl;
   made = λ place here. refl;
-  argument = λ name source stands parameter place here. refl;
-  first = λ name. tt;
-  read =
-      λ name text. any_ok (NodeIn (AnyArgument name)) (anywhere (AnyArgument name) (λ place. tt))
-      (yaml.spells (argument_file name) text);
+  argument = λ argument source stands parameter place here. refl;
 }
 
 pub steps_through : StepsComeThrough
@@ -77,7 +83,7 @@ steps_through files root arguments file =
     (tree_of files root arguments) _
     (tree_jobs Before Behind NoPlace NoFile (crosses NoPlace) (λ file. kept (file ∷ [])) (kept [])
     files (λ home. opens_anything (opens_of files home)) root AnyArgument (begins (NoPlace root))
-    arguments
+    arguments (any_arguments arguments)
     (any_ok (NodeIn (NoPlace root)) (anywhere (NoPlace root) (λ place. tt))
     (root_node root (finite.get files root))))
     (λ one through extends. through file extends)

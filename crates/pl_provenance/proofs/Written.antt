@@ -40,6 +40,7 @@ use Rattle.pl_provenance.specs.Written.{IsWhereTold, StandsInFile, ArePairsWhere
 use Rattle.pl_provenance.specs.Written.{WrittenWhereTold}
 use Rattle.pl_provenance.proofs.Extended.{ExtendsBorder}
 use Rattle.pl_provenance.proofs.Through.{extends_one, Before, Behind, AnyArgument, begins}
+use Rattle.pl_provenance.proofs.Through.{any_arguments}
 use Rattle.pl_provenance.proofs.Whole.{TreeFrom, tree_jobs}
 
 -- ---- borders behind others
@@ -233,5 +234,5 @@ written files root arguments file =
     (tree_of files root arguments) _
     (tree_jobs Before (Told files) (IsIn files) NoFile (told_crossing files) (told_inside files)
     (before_inside files) files (opens_own files) root AnyArgument (begins (IsIn files root))
-    arguments (root_stands files root))
+    arguments (any_arguments arguments) (root_stands files root))
     (λ one all extends. where_told files file (jobs_of one.expanded.tree) (all file extends))
