@@ -1,6 +1,5 @@
 -- Jobs come through the template that the root extends.
-use Rattle.std.proofs.Common.{◌≡◌, ℕ, Some, Ok, List, [], ◌∷◌, ◌++◌, refl, ◌∙◌}
-use Rattle.std.specs.Prelude.{IfOk}
+use Rattle.std.proofs.Common.{◌≡◌, Some, List, [], ◌∷◌, ◌++◌, refl, ◌∙◌}
 use Rattle.std.specs.FinMap as finite
 use Rattle.std.specs.List.{AllByRecursion as Each}
 use Rattle.pl_base.specs.declared.expanded.Argument.{Argument as RunArgument}
@@ -11,7 +10,6 @@ use Rattle.pl_base.specs.declared.origin.Origin.{Origin}
 use Rattle.pl_base.specs.declared.place.FileKey.{FileKey}
 use Rattle.pl_base.specs.declared.place.Place.{Place}
 use Rattle.pl_yaml.specs.Spells as yaml
-use Rattle.pl_directives.specs.Steps.{◌>>=◌}
 use Rattle.pl_calls.specs.Reaching.{opens as opens_of}
 use Rattle.pl_eval_laws.proofs.Lists.{each_of}
 use Rattle.pl_eval_laws.proofs.Trees.{PairFrom}
@@ -61,9 +59,12 @@ AnyArgument argument place = Unit {0}
 pub any_arguments : (arguments : List RunArgument) → Each (ArgumentIn AnyArgument) arguments
 any_arguments arguments =
     each_of (ArgumentIn AnyArgument)
-    (λ argument. (tt, any_ok (NodeIn (AnyArgument argument))
-    (anywhere (AnyArgument argument) (λ place. tt))
-    (yaml.spells (argument_file argument.name) argument.text)))
+    (λ argument. (
+      tt,
+      any_ok (NodeIn (AnyArgument argument))
+          (anywhere (AnyArgument argument) (λ place. tt))
+          (yaml.spells (argument_file argument.name) argument.text),
+    ))
     arguments
 
 pub begins : (R : Place → Type 0) → RootBorder Before R AnyArgument

@@ -1,5 +1,5 @@
 -- The jobs of the whole tree, where what is asked of origins is kept across all borders.
-use Rattle.std.proofs.Common.{◌≡◌, ℕ, Option, Some, None, Result, Ok, Err, List, []}
+use Rattle.std.proofs.Common.{◌≡◌, Option, Some, None, Result, Ok, Err, List, []}
 use Rattle.std.specs.Prelude.{IfOk, codes}
 use Rattle.std.specs.FinMap as finite
 use Rattle.std.specs.List.{AllByRecursion as Each}
@@ -14,7 +14,6 @@ use Rattle.pl_frame.specs.declared.frame.Frame.{Frame}
 use Rattle.pl_directives.specs.declared.fault.Complaint.{Complaint}
 use Rattle.pl_directives.specs.declared.fault.ExpandFault.{ExpandFault}
 use Rattle.pl_directives.specs.declared.region.Region.TheVariants.{Free}
-use Rattle.pl_directives.specs.Steps.{◌>>=◌}
 use Rattle.pl_calls.specs.Meant.{◌>>>◌}
 use Rattle.pl_calls.specs.Parts.{Body, body_of, under}
 use Rattle.pl_calls.specs.Reaching.{Opens, opens as opens_of}

@@ -1,6 +1,6 @@
 -- What is written stands in the file of the last border.
-use Rattle.std.proofs.Common.{◌≡◌, ℕ, Bool, true, false, cond, Option, Some, None, Result, Ok, Err}
-use Rattle.std.proofs.Common.{List, [], ◌∷◌, ◌++◌, refl, sym, ap, ◌∙◌}
+use Rattle.std.proofs.Common.{◌≡◌, ℕ, Option, Some, None, Ok, Err}
+use Rattle.std.proofs.Common.{List, [], ◌∷◌, ◌++◌, refl, ap, ◌∙◌}
 use Rattle.std.specs.Prelude.{Contains, IfOk}
 use Rattle.std.specs.FinMap as finite
 use Rattle.std.specs.List.{AllByRecursion as Each}
@@ -11,18 +11,15 @@ use Rattle.pl_base.specs.declared.origin.Crossing.TheVariants.{Extends, Include,
 use Rattle.pl_base.specs.declared.origin.Origin.{Origin}
 use Rattle.pl_base.specs.declared.place.FileKey.{FileKey}
 use Rattle.pl_base.specs.declared.place.Place.{Place}
-use Rattle.pl_base.specs.declared.node.Node.{Node}
 use Rattle.pl_base.specs.declared.value.MarkedPair.{MarkedPair}
 use Rattle.pl_paths.specs.Paths.{cut_path}
-use Rattle.pl_directives.specs.Steps.{◌>>=◌}
 use Rattle.pl_calls.specs.Meant.{◌>>>◌}
-use Rattle.pl_calls.specs.Reaching.{Opens, opens as opens_of, target, called_then, found_at}
+use Rattle.pl_calls.specs.Reaching.{opens as opens_of, target, called_then, found_at}
 use Rattle.pl_calls.specs.Reaching.{opened_at, node_in as file_node}
 use Rattle.pl_calls.specs.declared.files.Parsed.{Parsed}
 use Rattle.pl_calls.specs.declared.files.Parsed.TheVariants.{Good, Bad}
 use Rattle.pl_calls.specs.declared.reaching.Home.{Home}
 use Rattle.pl_calls.specs.declared.reaching.Opened.{Opened as OpenedFile}
-use Rattle.pl_yaml.specs.declared.fault.YamlFault.{YamlFault}
 use Rattle.pl_yaml.specs.declared.fault.YamlFault.TheVariants as yaml_faults
 use Rattle.pl_origins.specs.Places.{places_of}
 use Rattle.pl_eval_laws.proofs.Lists.{each_back, each_implies, each_contained}
@@ -30,12 +27,12 @@ use Rattle.pl_eval_laws.proofs.Trees.{PairFrom}
 use Rattle.pl_eval_laws.specs.Trees.{origins_in}
 use Rattle.pl_origins.specs.Through.{extended_in}
 use Rattle.pl_origins.proofs.Called.{Borders, FileIn, OpensFrom}
-use Rattle.pl_origins.proofs.Kept.{any_ok, NoFile, NoFiles, extended_last, Extending}
+use Rattle.pl_origins.proofs.Kept.{any_ok, NoFile, NoFiles, extended_last}
 use Rattle.pl_origins.proofs.Nodes.{NodeIn}
 use Rattle.pl_origins.proofs.Steps.{Used, ok_then, any_then}
 use Rattle.pl_expand.specs.Tree.{Set, root_node, tree_of}
 use Rattle.pl_provenance.specs.Roots.{jobs_of}
-use Rattle.pl_provenance.specs.Written.{behind_extends, IsCall, IsWritten, file_of, last_file}
+use Rattle.pl_provenance.specs.Written.{behind_extends, IsCall, file_of, last_file}
 use Rattle.pl_provenance.specs.Written.{IsWhereTold, StandsInFile, ArePairsWhereTold}
 use Rattle.pl_provenance.specs.Written.{WrittenWhereTold}
 use Rattle.pl_provenance.proofs.Extended.{ExtendsBorder}
@@ -93,8 +90,7 @@ module _ (files : Set) where
     made =
         λ key path item place known from_path from_item here.
         let crossed : extended_in (path.crossings ++ Include key item.source ∷ []) ≡ file ∷ [] =
-        extended_last path.crossings (Include key item.source) refl ∙ from_path.0 in
-        (
+        extended_last path.crossings (Include key item.source) refl ∙ from_path.0 in (
           extended_last (path.crossings ++ Include key item.source ∷ []) Made refl ∙ crossed,
           λ written. no_call
               (not_written (path.crossings ++ Include key item.source ∷ []) Made file []
@@ -103,8 +99,7 @@ module _ (files : Set) where
     argument =
         λ key item given name place known from_item from_given here.
         let crossed : extended_in (given.crossings ++ Include key item.source ∷ []) ≡ file ∷ [] =
-        extended_last given.crossings (Include key item.source) refl ∙ from_given.0 in
-        (
+        extended_last given.crossings (Include key item.source) refl ∙ from_given.0 in (
           extended_last (given.crossings ++ Include key item.source ∷ []) (Argument name place) refl
               ∙ crossed,
           λ written. no_call
@@ -142,8 +137,7 @@ module _ (files : Set) where
     made =
         λ key path place known own here.
         let crossed : extended_in (path.crossings ++ Extends key ∷ []) ≡ key ∷ [] =
-        extends_one path.crossings key own in
-        (
+        extends_one path.crossings key own in (
           extended_last (path.crossings ++ Extends key ∷ []) Made refl ∙ crossed,
           λ written. no_call
               (not_written (path.crossings ++ Extends key ∷ []) Made key [] (λ none. none) crossed
@@ -152,8 +146,7 @@ module _ (files : Set) where
     argument =
         λ key one name place known own here.
         let crossed : extended_in (one.crossings ++ Extends key ∷ []) ≡ key ∷ [] =
-        extends_one one.crossings key own in
-        (
+        extends_one one.crossings key own in (
           extended_last (one.crossings ++ Extends key ∷ []) (Argument name place) refl ∙ crossed,
           λ written. no_call
               (not_written (one.crossings ++ Extends key ∷ []) (Argument name place) key []
@@ -195,11 +188,16 @@ module _ (files : Set) where
   opened_in at None used = tt
   opened_in at (Some key) used = found_in at key (finite.get files key) used refl
 
+  pub files_stand :
+      (home : Home) (at : Place) (path : List ℕ) (used : List FileKey) →
+      IfOk (opens_of files home at path used) (λ both. FileIn (IsIn files) both.0)
+  files_stand home at path used =
+      any_then (λ both. FileIn (IsIn files) both.0) (target at (cut_path path) home) _
+      (λ key. opened_in at key used)
+
   pub opens_own : (home : Home) → OpensFrom (IsIn files) NoFile NoFiles (opens_of files home)
   opens_own home = record {
-    file =
-        λ at path used. any_then (λ both. FileIn (IsIn files) both.0) (target at (cut_path path) home) _
-        (λ key. opened_in at key used);
+    file = files_stand home;
     used =
         λ at path used. any_ok (λ both. (NoFiles both.1 → NoFiles used)
         × (NoFiles both.1 → Unit {0} → NoFile both.0.key)) (λ both. (λ ends. tt, λ ends h. tt))

@@ -7,7 +7,7 @@ use Rattle.std.specs.Option.{option_or}
 use Rattle.pl_base.specs.declared.expanded.Argument.{Argument as RunArgument}
 use Rattle.pl_base.specs.declared.node.Node.{Node}
 use Rattle.pl_base.specs.declared.origin.Crossing.{Crossing}
-use Rattle.pl_base.specs.declared.origin.Crossing.TheVariants.{Extends, Include, Argument, Made}
+use Rattle.pl_base.specs.declared.origin.Crossing.TheVariants.{Extends, Include}
 use Rattle.pl_base.specs.declared.origin.Origin.{Origin}
 use Rattle.pl_base.specs.declared.place.FileKey.{FileKey}
 use Rattle.pl_base.specs.declared.place.Place.{Place}

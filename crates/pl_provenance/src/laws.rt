@@ -1,3 +1,4 @@
+ghost use Rattle.pl_provenance.specs.Known.{OriginsAreKnown};
 ghost use Rattle.pl_provenance.specs.Roots.{StepsComeThrough};
 ghost use Rattle.pl_provenance.specs.Written.{WrittenWhereTold};
 
@@ -20,4 +21,14 @@ pub fn steps_come_through_the_template()
 /// "Security through templates").
 pub fn what_no_argument_gave_is_written_where_it_is_told()
     ensures { WrittenWhereTold }
+{}
+
+/// Each origin in an expanded tree tells places that exist: its source is that of a node or a key
+/// of a used file or of what a run argument spells, each border that it tells leads into a used
+/// file, and each expression that took a parameter stands in a used file. The used files are those
+/// that the expansion tells, the root file among them.
+///
+/// It speaks of every node and key of the whole tree, whatever the root file is.
+pub fn origins_tell_used_files()
+    ensures { OriginsAreKnown }
 {}

@@ -4,5 +4,6 @@
 mod laws;
 
 pub use laws::{
-    steps_come_through_the_template, what_no_argument_gave_is_written_where_it_is_told,
+    origins_tell_used_files, steps_come_through_the_template,
+    what_no_argument_gave_is_written_where_it_is_told,
 };
