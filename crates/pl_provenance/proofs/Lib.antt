@@ -1,4 +1,5 @@
 pub mod Extended
+pub mod Given
 pub mod Joined
 pub mod Known
 pub mod Merged
