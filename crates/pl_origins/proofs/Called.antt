@@ -1,0 +1,374 @@
+-- What calls of templates give.
+use Rattle.std.proofs.Common.{◌≡◌, ℕ, zero, suc, ◌-◌, Option, Some, None, Result, List, []}
+use Rattle.std.proofs.Common.{◌∷◌, ◌++◌, map, refl, subst, Bool, true, false, cond}
+use Rattle.std.specs.Prelude.{IfOk, codes}
+use Rattle.std.specs.List.{AllByRecursion as Each}
+use Rattle.pl_base.specs.declared.origin.Crossing.{Crossing}
+use Rattle.pl_base.specs.declared.origin.Crossing.TheVariants.{Include, Argument, Made}
+use Rattle.pl_base.specs.declared.origin.Origin.{Origin}
+use Rattle.pl_base.specs.declared.place.FileKey.{FileKey}
+use Rattle.pl_base.specs.declared.place.Place.{Place}
+use Rattle.pl_base.specs.declared.node.Node.{Node}
+use Rattle.pl_base.specs.declared.node.NodePair.{NodePair}
+use Rattle.pl_base.specs.declared.node.NodeBody.TheOpen.{Scalar, Seq, Map}
+use Rattle.pl_base.specs.declared.value.Value.{Str, out-Value}
+use Rattle.pl_base.specs.declared.value.Value.TheOpen as layer
+use Rattle.pl_base.specs.declared.value.MarkedNode.{MarkedNode}
+use Rattle.pl_base.specs.declared.value.MarkedPair.{MarkedPair}
+use Rattle.pl_frame.specs.declared.frame.Frame.{Frame}
+use Rattle.pl_frame.specs.declared.frame.Variable.{Variable}
+use Rattle.pl_frame.specs.Origins.{across}
+use Rattle.pl_literal.specs.Items.{is}
+use Rattle.pl_params.specs.declared.given.Given.{Given}
+use Rattle.pl_directives.specs.declared.fault.ExpandFault.{ExpandFault}
+use Rattle.pl_directives.specs.declared.fault.ExpandProblem.{ExpandProblem}
+use Rattle.pl_directives.specs.declared.progress.Counted.{Counted}
+use Rattle.pl_directives.specs.declared.region.Form.{Form}
+use Rattle.pl_directives.specs.declared.region.Form.TheVariants.{Stages, Jobs, Steps, Variables}
+use Rattle.pl_directives.specs.declared.region.Region.TheVariants.{Calls as InCalls}
+use Rattle.pl_directives.specs.Counting.{entered}
+use Rattle.pl_calls.specs.Calls.{Called, path_text, pairs_from, arguments_at, arguments_behind}
+use Rattle.pl_calls.specs.Calls.{call_from, call_of, given_across}
+use Rattle.pl_calls.specs.Frames.{parameters_for, framed_by}
+use Rattle.pl_calls.specs.Judging.{unless_at, mapping_in, template_in, held, body_in, form_key}
+use Rattle.pl_calls.specs.Judging.{stray, may_stand}
+use Rattle.pl_calls.specs.Parameters.{declared_by, bound_to}
+use Rattle.pl_calls.specs.Parts.{Body, body_of, under, key_place_of}
+use Rattle.pl_calls.specs.Reaching.{Opens, node_in as file_node}
+use Rattle.pl_calls.specs.declared.reaching.Opened.{Opened as OpenedFile}
+use Rattle.pl_expanding.specs.Expanding.{expanded}
+use Rattle.pl_expanding.specs.Following.{Follow}
+use Rattle.pl_expanding.specs.Levels.{variable_item, items_of, items_from, frame_for, deeper}
+use Rattle.pl_expanding.specs.Levels.{call_by, followed}
+use Rattle.pl_eval_laws.proofs.Lists.{Has, each_map}
+use Rattle.pl_eval_laws.proofs.Trees.{Opened, NodeFrom, PairFrom, OpenedFrom, node_from, pair_from}
+use Rattle.pl_eval_laws.proofs.Trees.{text_from, object_from, node_parts, pair_parts, value_parts}
+use Rattle.pl_origins.proofs.Bound.{ParamIn, BoundFrom, Takeable, declared_in, bound_to_from}
+use Rattle.pl_origins.proofs.Bound.{parameters_from}
+use Rattle.pl_origins.proofs.Expanded.{expanded_gives}
+use Rattle.pl_origins.proofs.Following.{FollowedFrom, FollowFrom}
+use Rattle.pl_origins.proofs.Frames.{FrameFrom, ParameterFrom}
+use Rattle.pl_origins.proofs.Moved.{moved_from}
+use Rattle.pl_origins.proofs.Nodes.{NodeIn, PairIn, BodyIn, node_in, under_in}
+use Rattle.pl_origins.proofs.Scalars.{OneFrom}
+use Rattle.pl_origins.proofs.Steps.{Gives, ok_then, any_then, plain_then, static_then, first_then}
+use Rattle.pl_origins.proofs.Steps.{used_then, used_static_then, alone_gives, given}
+
+-- ---- the frame behind a border
+
+module _ (P Q : Origin → Type 0) (R : Place → Type 0) (crossing : Crossing)
+    (crossings : List Crossing)
+    (literal_is : (place : Place) → R place →
+    Q (record { source = place; crossings = crossings ++ crossing ∷ [] }))
+    (made_is : (place : Place) → R place →
+    Q (record { source = place; crossings = (crossings ++ crossing ∷ []) ++ Made ∷ [] }))
+    (argument_is : (origin : Origin) → P origin → (name : List ℕ) (place : Place) → R place →
+    Q (across (Argument name place) (across crossing origin))) where
+  abbrev G : Origin → Type 0
+  G = Takeable Q R (crossings ++ crossing ∷ []) literal_is
+
+  each_given :
+      (arguments : List MarkedPair) → Each (PairFrom P) arguments →
+      Each (λ (one : Given). NodeFrom G one.value) (map (given_across crossing) arguments)
+  each_given [] all = tt
+  each_given (pair ∷ arguments) all = (
+    moved_from P G (across crossing) argument_is pair.item (pair_parts P pair all.0).1,
+    each_given arguments all.1,
+  )
+
+  pub framed_from :
+      (file : FileKey) (level : ℕ) (pairs : List NodePair) (variables : List Variable)
+      (arguments : List MarkedPair) → Each (PairIn R) pairs → Each (PairFrom P) arguments →
+      IfOk (framed_by file level pairs variables arguments crossing crossings) (FrameFrom Q R)
+  framed_from file level pairs variables arguments within all =
+      let given = map (given_across crossing) arguments in
+      let behind = crossings ++ crossing ∷ [] in
+      ok_then (Each (ParameterFrom Q R)) (FrameFrom Q R) (parameters_for pairs behind given) _
+      (ok_then (Each (ParamIn R)) (Each (ParameterFrom Q R))
+      (declared_by (under (codes "parameters") pairs)) _
+      (declared_in R (under (codes "parameters") pairs) (under_in R (codes "parameters") pairs
+      within))
+      (λ declared stands. ok_then (Each (BoundFrom G R)) (Each (ParameterFrom Q R))
+      (bound_to declared given) _
+      (bound_to_from G R declared given stands (each_given arguments all))
+      (λ bound is_bound. parameters_from Q R behind literal_is declared bound stands is_bound)))
+      (λ parameters is. record {
+        literal = literal_is;
+        made = made_is;
+        parameters = is;
+        loops = tt;
+      })
+
+-- ---- a template in its file
+
+module _ (R : Place → Type 0) where
+  unless_in :
+      {X : Type 0} (F : X → Type 0) (problem : ExpandProblem) (place : Option Place) (x : X) →
+      F x → IfOk (unless_at problem place x) F
+  unless_in F problem None x holds = holds
+  unless_in F problem (Some place) x holds = tt
+
+  mapping_inside :
+      (body : Body) (place : Place) → BodyIn R body →
+      IfOk (mapping_in body place) (Each (PairIn R))
+  mapping_inside (Scalar text) place within = tt
+  mapping_inside (Seq items) place within = tt
+  mapping_inside (Map pairs) place within = within
+
+  pub template_inside :
+      (node : Node) → NodeIn R node → IfOk (template_in node) (Each (PairIn R))
+  template_inside node within =
+      ok_then (Each (PairIn R)) (Each (PairIn R)) (mapping_in (body_of node) node.place) _
+      (mapping_inside (body_of node) node.place (node_in R node within).1)
+      (λ pairs all. unless_in (Each (PairIn R)) _ (key_place_of (codes "extends") pairs) pairs all)
+
+  held_inside :
+      (place : Place) (body : Option Node) → Has (NodeIn R) body → IfOk (held place body) (NodeIn R)
+  held_inside place None within = tt
+  held_inside place (Some body) within = within
+
+  body_inside :
+      (form : Form) (place : Place) (pairs : List NodePair) → Each (PairIn R) pairs →
+      IfOk (body_in form place pairs) (NodeIn R)
+  body_inside form place pairs within =
+      ok_then (NodeIn R) (NodeIn R) (held place (under (form_key form) pairs)) _
+      (held_inside place (under (form_key form) pairs) (under_in R (form_key form) pairs within))
+      (λ body all. unless_in (NodeIn R) _ (stray (may_stand form) pairs) body all)
+
+-- ---- the item of a call
+
+module _ (P : Origin → Type 0) where
+  pub record CallFrom (call : Called) : Type 0 where
+    -- the scalar of the path
+    path : Origin
+    path_from : P path
+    path_is : path.crossings ≡ call.crossings
+    -- the item's mapping
+    item : Origin
+    item_from : P item
+    item_is : item.source ≡ call.at
+    arguments : Each (PairFrom P) call.arguments
+
+  pub pairs_inside :
+      (opened : Opened) (node : MarkedNode) → OpenedFrom P opened →
+      IfOk (pairs_from opened node) (Each (PairFrom P))
+  pairs_inside (layer.Object pairs) node all = all
+  pairs_inside (layer.Array items) node all = tt
+  pairs_inside layer.Null node all = tt
+  pairs_inside (layer.Bool truth) node all = tt
+  pairs_inside (layer.Number number) node all = tt
+  pairs_inside (layer.Version segments) node all = tt
+  pairs_inside (layer.Str text) node all = tt
+
+  argument_by :
+      (b : Bool) (pair : MarkedPair) (problem : Result (List MarkedPair) ExpandFault) →
+      PairFrom P pair → IfOk problem (Each (PairFrom P)) →
+      IfOk (cond b (pairs_from (out-Value pair.item.value) pair.item) problem) (Each (PairFrom P))
+  argument_by true pair problem all other =
+      pairs_inside (out-Value pair.item.value) pair.item
+      (value_parts P pair.item.value (node_parts P pair.item (pair_parts P pair all).1).1)
+  argument_by false pair problem all other = other
+
+  arguments_inside :
+      (found pairs : List MarkedPair) → Each (PairFrom P) found → Each (PairFrom P) pairs →
+      IfOk (arguments_behind found pairs) (Each (PairFrom P))
+  arguments_inside found [] before all = before
+  arguments_inside found (pair ∷ pairs) before all =
+      ok_then (Each (PairFrom P)) (Each (PairFrom P)) (arguments_at pair) _
+      (argument_by (is pair.key (codes "parameters")) pair _ all.0 tt)
+      (λ found are. arguments_inside found pairs are all.1)
+
+  call_inside :
+      (opened : Opened) (own : Origin) → P own → OpenedFrom P opened →
+      IfOk (call_from opened own.source) CallFrom
+  call_inside (layer.Object []) own is_own all = tt
+  call_inside (layer.Object (pair ∷ pairs)) own is_own all =
+      let path_all = node_parts P pair.item (pair_parts P pair all.0).1 in
+      any_then CallFrom (path_text pair.item) _
+      (λ text. ok_then (Each (PairFrom P)) CallFrom (arguments_behind [] pairs) _
+      (arguments_inside [] pairs tt all.1)
+      (λ arguments are. record {
+        path = pair.item.origin;
+        path_from = path_all.0;
+        path_is = refl;
+        item = own;
+        item_from = is_own;
+        item_is = refl;
+        arguments = are;
+      }))
+  call_inside (layer.Array items) own is_own all = tt
+  call_inside layer.Null own is_own all = tt
+  call_inside (layer.Bool truth) own is_own all = tt
+  call_inside (layer.Number number) own is_own all = tt
+  call_inside (layer.Version segments) own is_own all = tt
+  call_inside (layer.Str text) own is_own all = tt
+
+  pub call_of_from : (item : MarkedNode) → NodeFrom P item → IfOk (call_of item) CallFrom
+  call_of_from item all =
+      let parts = node_parts P item all in
+      call_inside (out-Value item.value) item.origin parts.0 (value_parts P item.value parts.1)
+
+  -- ---- what a call gives in its item's place
+
+  variable_from : (pair : MarkedPair) → PairFrom P pair → NodeFrom P (variable_item pair)
+  variable_from pair all =
+      let parts = pair_parts P pair all in
+      node_from P pair.key_origin _ parts.0
+      (object_from P _ (
+        pair_from P (codes "name") pair.key_origin _ parts.0
+            (node_from P pair.key_origin (Str pair.key) parts.0 (text_from P pair.key)),
+        (pair_from P (codes "value") pair.key_origin pair.item parts.0 parts.1, tt),
+      ))
+
+  pub variables_from :
+      (pairs : List MarkedPair) → Each (PairFrom P) pairs →
+      Each (NodeFrom P) (map variable_item pairs)
+  variables_from pairs all =
+      each_map (PairFrom P) (NodeFrom P) variable_item variable_from pairs all
+
+  items_inside :
+      (form : Form) (opened : Opened) (place : Place) → OpenedFrom P opened →
+      IfOk (items_of form opened place) (Each (NodeFrom P))
+  items_inside form (layer.Array items) place all = all
+  items_inside Variables (layer.Object pairs) place all = variables_from pairs all
+  items_inside Stages (layer.Object pairs) place all = tt
+  items_inside Jobs (layer.Object pairs) place all = tt
+  items_inside Steps (layer.Object pairs) place all = tt
+  items_inside form layer.Null place all = tt
+  items_inside form (layer.Bool truth) place all = tt
+  items_inside form (layer.Number number) place all = tt
+  items_inside form (layer.Version segments) place all = tt
+  items_inside form (layer.Str text) place all = tt
+
+  items_from_inside :
+      (form : Form) (place : Place) (one : Counted) → OneFrom P one →
+      IfOk (items_from form place one) (FollowedFrom P)
+  items_from_inside form place one all =
+      ok_then (Each (NodeFrom P)) (FollowedFrom P) (items_of form (out-Value one.node.value) place)
+      _ (items_inside form (out-Value one.node.value) place
+      (value_parts P one.node.value (node_parts P one.node all).1))
+      (λ items are. are)
+
+-- ---- What P must keep across the border of a call into a file of which K holds. R holds of the
+-- places of that file.
+
+pub record Borders (P : Origin → Type 0) (R : FileKey → Place → Type 0) (K : FileKey → Type 0)
+    : Type 0 where
+  pub literal :
+      (key : FileKey) (path item : Origin) (place : Place) → K key → P path → P item →
+      R key place →
+      P (record { source = place; crossings = path.crossings ++ Include key item.source ∷ [] })
+  pub made :
+      (key : FileKey) (path item : Origin) (place : Place) → K key → P path → P item →
+      R key place →
+      P (record {
+        source = place;
+        crossings = (path.crossings ++ Include key item.source ∷ []) ++ Made ∷ [];
+      })
+  pub argument :
+      (key : FileKey) (item given : Origin) (name : List ℕ) (place : Place) → K key → P item →
+      P given → R key place →
+      P (across (Argument name place) (across (Include key item.source) given))
+
+-- a file that a path leads to
+abbrev pub FileIn : (FileKey → Place → Type 0) → OpenedFile → Type 0
+FileIn R opened = IfOk (file_node opened.file) (NodeIn (R opened.key))
+
+pub record OpensFrom (R : FileKey → Place → Type 0) (K : FileKey → Type 0)
+    (U : List FileKey → Type 0) (opens : Opens) : Type 0 where
+  pub file :
+      (at : Place) (path : List ℕ) (used : List FileKey) →
+      IfOk (opens at path used) (λ both. FileIn R both.0)
+  pub used :
+      (at : Place) (path : List ℕ) (used : List FileKey) →
+      Gives U (Unit {0}) used (opens at path used) (λ opened. K opened.key)
+
+module _ (P : Origin → Type 0) (R : FileKey → Place → Type 0) (K : FileKey → Type 0)
+    (U : List FileKey → Type 0) (borders : Borders P R K) (opens : Opens)
+    (opening : OpensFrom R K U opens) where
+  frame_for_from :
+      (key : FileKey) (level : ℕ) (pairs : List NodePair) (call : Called) (frame : Frame) →
+      Each (PairIn (R key)) pairs → K key → CallFrom P call →
+      IfOk (frame_for key level pairs call frame) (FrameFrom P (R key))
+  frame_for_from key level pairs call frame within known from =
+      framed_from P P (R key) (Include key call.at) call.crossings
+      (λ place stands.
+      subst (λ (at : Place).
+      P (record { source = place; crossings = call.crossings ++ Include key at ∷ [] }))
+      from.item_is
+      (subst (λ (cs : List Crossing).
+      P (record { source = place; crossings = cs ++ Include key from.item.source ∷ [] }))
+      from.path_is
+      (borders.literal key from.path from.item place known from.path_from from.item_from stands)))
+      (λ place stands.
+      subst (λ (at : Place).
+      P (record {
+        source = place;
+        crossings = (call.crossings ++ Include key at ∷ []) ++ Made ∷ [];
+      }))
+      from.item_is
+      (subst (λ (cs : List Crossing).
+      P (record {
+        source = place;
+        crossings = (cs ++ Include key from.item.source ∷ []) ++ Made ∷ [];
+      }))
+      from.path_is
+      (borders.made key from.path from.item place known from.path_from from.item_from stands)))
+      (λ origin is name place stands.
+      subst (λ (at : Place). P (across (Argument name place) (across (Include key at) origin)))
+      from.item_is
+      (borders.argument key from.item origin name place known from.item_from is stands))
+      key level pairs frame.variables call.arguments within from.arguments
+
+  deeper_from :
+      (next : Option Follow) (at : Place) → Has (FollowFrom P U) next →
+      IfOk (deeper next at) (FollowFrom P U)
+  deeper_from None at follows = tt
+  deeper_from (Some follow) at follows = follows
+
+  call_gives :
+      (next : Option Follow) → Has (FollowFrom P U) next → (level : ℕ) →
+      FollowFrom P U (call_by next level opens)
+  call_gives next follows level frame form item count used =
+      let H : Type 0 = NodeFrom P item in
+      let S = FollowedFrom P in
+      first_then U (CallFrom P) S H used (call_of item) _ (call_of_from P item)
+      (λ call. static_then U (FollowFrom P U) S (H × CallFrom P call) used (deeper next call.at) _
+      (deeper_from next call.at follows)
+      (λ follow goes. used_static_then U (FileIn R) (λ (opened : OpenedFile). K opened.key) S
+      (H × CallFrom P call) used (opens call.at call.path used) _
+      (opening.file call.at call.path used)
+      (given U (λ (opened : OpenedFile). K opened.key) (Unit {0}) (H × CallFrom P call) used
+      (opens call.at call.path used) (λ h. tt) (opening.used call.at call.path used))
+      (λ opened later file. static_then U (NodeIn (R opened.key)) S
+      ((H × CallFrom P call) × K opened.key) later (file_node opened.file) _ file
+      (λ node within. static_then U (Each (PairIn (R opened.key))) S
+      ((H × CallFrom P call) × K opened.key) later (template_in node) _
+      (template_inside (R opened.key) node within)
+      (λ pairs inside. static_then U (NodeIn (R opened.key)) S
+      ((H × CallFrom P call) × K opened.key) later (body_in form node.place pairs) _
+      (body_inside (R opened.key) form node.place pairs inside)
+      (λ body stands. first_then U (FrameFrom P (R opened.key)) S
+      ((H × CallFrom P call) × K opened.key) later
+      (frame_for opened.key level pairs call frame) _
+      (λ h. frame_for_from opened.key level pairs call frame inside h.1 h.0.1)
+      (λ inner. plain_then U S
+      (((H × CallFrom P call) × K opened.key) × FrameFrom P (R opened.key) inner) later
+      (entered node.place count) _
+      (λ count. used_then U (OneFrom P) S
+      (((H × CallFrom P call) × K opened.key) × FrameFrom P (R opened.key) inner) later
+      (expanded body follow inner (InCalls form) count later) _
+      (expanded_gives P (R opened.key) U body stands
+      (((H × CallFrom P call) × K opened.key) × FrameFrom P (R opened.key) inner) follow inner
+      (InCalls form) count later goes (λ h. h.1))
+      (λ one last. alone_gives U S
+      ((((H × CallFrom P call) × K opened.key) × FrameFrom P (R opened.key) inner)
+      × OneFrom P one) last (items_from form body.place one)
+      (λ h. items_from_inside P form body.place one h.1))))))))))
+
+  -- with so many levels of templates below
+  pub followed_gives : (levels : ℕ) → FollowFrom P U (followed levels opens)
+  unfolding followed
+  followed_gives zero = call_gives None tt 0
+  followed_gives (suc left) =
+      call_gives (Some (followed left opens)) (followed_gives left) (100 - left)

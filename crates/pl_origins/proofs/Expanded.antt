@@ -1,0 +1,481 @@
+-- What a file's node gives in a frame.
+use Rattle.std.proofs.Common.{◌≡◌, ℕ, Bool, true, false, List, []}
+use Rattle.std.proofs.Common.{◌∷◌, map, subst, rules}
+use Rattle.std.specs.Prelude.{IfOk}
+use Rattle.std.specs.List.{AllByRecursion as Each}
+use Rattle.pl_base.specs.declared.origin.Origin.{Origin}
+use Rattle.pl_base.specs.declared.place.FileKey.{FileKey}
+use Rattle.pl_base.specs.declared.place.Place.{Place}
+use Rattle.pl_base.specs.declared.node.Node.{Node}
+use Rattle.pl_base.specs.declared.node.NodeBody.{NodeBody, out-NodeBody, roll-NodeBody, the_lemmas}
+use Rattle.pl_base.specs.declared.node.NodePair.{NodePair}
+use Rattle.pl_base.specs.declared.node.NodeBody.TheOpen.{Scalar, Seq, Map}
+use Rattle.pl_base.specs.declared.value.Value.{Str}
+use Rattle.pl_base.specs.declared.value.MarkedNode.{MarkedNode}
+use Rattle.pl_frame.specs.declared.frame.Frame.{Frame}
+use Rattle.pl_frame.specs.Names.{within}
+use Rattle.pl_frame.specs.Origins.{literal_at}
+use Rattle.pl_template.specs.Forms.{form_of}
+use Rattle.pl_template.specs.declared.forms.ScalarForm.{ScalarForm}
+use Rattle.pl_template.specs.declared.forms.ScalarForm.TheVariants.{Plain, Whole, Joined, Unclosed}
+use Rattle.pl_directives.specs.declared.action.Action.{Action}
+use Rattle.pl_directives.specs.declared.action.Action.TheVariants as action
+use Rattle.pl_directives.specs.declared.fault.ExpandProblem.{ExpandProblem}
+use Rattle.pl_directives.specs.declared.fault.ExpandProblem.TheVariants.{WrongKind, InsertNoMapping}
+use Rattle.pl_directives.specs.declared.manner.Kind.{Kind}
+use Rattle.pl_directives.specs.declared.manner.Kind.TheVariants as kind
+use Rattle.pl_directives.specs.declared.manner.Manner.{Manner}
+use Rattle.pl_directives.specs.declared.manner.Manner.TheVariants.{Empty, Stays, Splices, Mixed}
+use Rattle.pl_directives.specs.declared.progress.Chain.TheVariants.{Closed}
+use Rattle.pl_directives.specs.declared.progress.Progress.{Progress}
+use Rattle.pl_directives.specs.declared.region.Region.{Region}
+use Rattle.pl_directives.specs.Actions.{key_asks}
+use Rattle.pl_directives.specs.Contents.{with_chain, with_count, begun, as_items, as_pairs}
+use Rattle.pl_directives.specs.Contents.{finished, absorbed}
+use Rattle.pl_directives.specs.Counting.{entered}
+use Rattle.pl_directives.specs.Manners.{manner_of}
+use Rattle.pl_directives.specs.Regions.{under, inside, of_item, is_path}
+use Rattle.pl_directives.specs.Scalars.{counted_value_at, plain_scalar, joined_scalar}
+use Rattle.pl_expanding.specs.Expanding.{Filling, Shape, Part, Entry, scalar, sequence, mapping}
+use Rattle.pl_expanding.specs.Expanding.{collected, value_by, body_by, body, turns, path_by, done}
+use Rattle.pl_expanding.specs.Expanding.{value_under, pair_behind, pairs_behind, mapping_behind}
+use Rattle.pl_expanding.specs.Expanding.{item_by, item_behind, items_behind}
+use Rattle.pl_expanding.specs.Expanding.{facet_of, part_of, shape_of, entry_of, expanded}
+use Rattle.pl_expanding.specs.Following.{Follow}
+use Rattle.pl_expanding.specs.Scalars.{scalar_by, scalar_at, path_at}
+use Rattle.pl_expanding.specs.Scalars.{path_by as path_text_by}
+use Rattle.pl_calls.specs.Parts.{Body}
+use Rattle.pl_eval_laws.proofs.Trees.{NodeFrom, node_from, pair_from, text_from}
+use Rattle.pl_origins.proofs.Contents.{ProgressFrom, nothing_from, as_items_from}
+use Rattle.pl_origins.proofs.Contents.{as_pairs_from, put_pair_from, finished_from, absorbed_from}
+use Rattle.pl_origins.proofs.Following.{FollowFrom, add_item_gives, splice_gives, spread_gives}
+use Rattle.pl_origins.proofs.Following.{settling_gives}
+use Rattle.pl_origins.proofs.Frames.{FrameFrom, turn_from}
+use Rattle.pl_origins.proofs.Induction.{BodyParts, written_induction}
+use Rattle.pl_origins.proofs.Nodes.{NodeIn, PairIn, BodyIn, node_in, pair_in}
+use Rattle.pl_origins.proofs.Scalars.{OneFrom, KeyFrom, ActionFrom, counted_value_from, plain_from}
+use Rattle.pl_origins.proofs.Scalars.{joined_from, key_by_from, key_asks_from}
+use Rattle.pl_origins.proofs.Steps.{Gives, ok_then, any_then, given, done_gives, alone_gives}
+use Rattle.pl_origins.proofs.Steps.{plain_then, first_then, used_then}
+
+-- ---- the path of a call
+
+module _ (P : Origin → Type 0) (R : Place → Type 0) (frame : Frame) (from : FrameFrom P R frame)
+    (place : Place) (stands : R place) where
+  path_text_from :
+      (form : ScalarForm) (text : List ℕ) → IfOk (path_text_by form text frame place) (KeyFrom P)
+  path_text_from Plain text = from.literal place stands
+  path_text_from (Whole inside) text = key_by_from P R frame from place stands (Whole inside)
+  path_text_from (Joined pieces) text = key_by_from P R frame from place stands (Joined pieces)
+  path_text_from Unclosed text = key_by_from P R frame from place stands Unclosed
+
+  path_at_from :
+      (text : List ℕ) (count : ℕ) → IfOk (path_at text frame place count) (OneFrom P)
+  path_at_from text count =
+      any_then (OneFrom P) (entered place count) _
+      (λ count. ok_then (KeyFrom P) (OneFrom P) (path_text_by (form_of text) text frame place) _
+      (path_text_from (form_of text) text)
+      (λ path own. node_from P path.origin (Str path.key) own (text_from P path.key)))
+
+  pub path_from :
+      (shape : Shape) (count : ℕ) → IfOk (path_by shape place frame count) (OneFrom P)
+  path_from (scalar text) count = path_at_from text count
+  path_from (sequence fill) count = any_then (OneFrom P) (entered place count) _ (λ count. tt)
+  path_from (mapping manner fill) count =
+      any_then (OneFrom P) (entered place count) _ (λ count. tt)
+
+module _ (P : Origin → Type 0) (R : Place → Type 0) (U : List FileKey → Type 0) where
+  abbrev pub Held : Type 0 → Frame → Progress → Type 0
+  Held H frame progress = (H → FrameFrom P R frame) × (H → ProgressFrom P progress)
+
+  -- what a filling puts behind what is there
+  abbrev pub FillingFrom : Filling → Type 0
+  FillingFrom fill =
+      (follow : Follow) (frame : Frame) (region : Region) (progress : Progress)
+      (used : List FileKey) → FollowFrom P U follow →
+      Gives U (FrameFrom P R frame × ProgressFrom P progress) used
+      (fill follow frame region progress used) (ProgressFrom P)
+
+  abbrev pub ShapeFrom : Shape → Type 0
+  ShapeFrom (scalar text) = Unit {0}
+  ShapeFrom (sequence fill) = FillingFrom fill
+  ShapeFrom (mapping manner fill) = FillingFrom fill
+
+  abbrev pub PartFrom : Part → Type 0
+  PartFrom part = R part.place × ShapeFrom part.shape
+
+  abbrev pub EntryFrom : Entry → Type 0
+  EntryFrom entry = R entry.key_place × PartFrom entry.part
+
+  module _ (follow : Follow) (follows : FollowFrom P U follow) where
+    filled :
+        (fill : Filling) → FillingFrom fill → (H : Type 0) (frame : Frame) (region : Region)
+        (progress : Progress) (used : List FileKey) → (H → FrameFrom P R frame) →
+        (H → ProgressFrom P progress) →
+        Gives U H used (fill follow frame region progress used) (ProgressFrom P)
+    filled fill fills H frame region progress used from all =
+        given U (ProgressFrom P) (FrameFrom P R frame × ProgressFrom P progress) H used
+        (fill follow frame region progress used) (λ h. (from h, all h))
+        (fills follow frame region progress used follows)
+
+    -- ---- scalars
+
+    scalar_by_gives :
+        (form : ScalarForm) (text : List ℕ) (H : Type 0) (frame : Frame) (region : Region)
+        (place : Place) (count : ℕ) (used : List FileKey) → R place → (H → FrameFrom P R frame) →
+        Gives U H used (scalar_by form text follow frame region place count used) (OneFrom P)
+    scalar_by_gives Plain text H frame region place count used stands from =
+        done_gives U (OneFrom P) H used (plain_scalar text frame place count)
+        (λ h. plain_from P R frame (from h) place stands text count)
+    scalar_by_gives (Whole inside) text H frame region place count used stands from =
+        first_then U (OneFrom P) (OneFrom P) H used (counted_value_at frame place inside count) _
+        (λ h. counted_value_from P R frame (from h) place stands inside count)
+        (λ one. settling_gives P U (H × OneFrom P one) one.node follow frame region one.count used
+        follows (λ h. h.1))
+    scalar_by_gives (Joined pieces) text H frame region place count used stands from =
+        alone_gives U (OneFrom P) H used (joined_scalar pieces frame place count)
+        (λ h. joined_from P R frame (from h) place stands pieces count)
+    scalar_by_gives Unclosed text H frame region place count used stands from = tt
+
+    scalar_gives :
+        (text : List ℕ) (H : Type 0) (frame : Frame) (region : Region) (place : Place) (count : ℕ)
+        (used : List FileKey) → R place → (H → FrameFrom P R frame) →
+        Gives U H used (scalar_at text follow frame region place count used) (OneFrom P)
+    scalar_gives text H frame region place count used stands from =
+        plain_then U (OneFrom P) H used (entered place count) _
+        (λ count. scalar_by_gives (form_of text) text H frame region place count used stands from)
+
+    -- ---- a node as a value
+
+    collected_gives :
+        (of : Kind) (fill : Filling) → FillingFrom fill → (H : Type 0) (place : Place)
+        (frame : Frame) (region : Region) (count : ℕ) (used : List FileKey) → R place →
+        (H → FrameFrom P R frame) →
+        Gives U H used (collected of fill place follow frame region count used) (OneFrom P)
+    collected_gives of fill fills H place frame region count used stands from =
+        plain_then U (OneFrom P) H used (entered place count) _
+        (λ count. used_then U (ProgressFrom P) (OneFrom P) H used
+        (fill follow frame region (begun of Closed count) used) _
+        (filled fill fills H frame region (begun of Closed count) used from
+        (λ h. nothing_from P of))
+        (λ inner later. alone_gives U (OneFrom P) (H × ProgressFrom P inner) later
+        (finished (literal_at frame place) inner)
+        (λ h. finished_from P (literal_at frame place) inner ((from h.0).literal place stands)
+        h.1)))
+
+    pub value_gives :
+        (shape : Shape) → ShapeFrom shape → (H : Type 0) (place : Place) (frame : Frame)
+        (region : Region) (count : ℕ) (used : List FileKey) → R place → (H → FrameFrom P R frame) →
+        Gives U H used (value_by shape place follow frame region count used) (OneFrom P)
+    value_gives (scalar text) fills H place frame region count used stands from =
+        scalar_gives text H frame region place count used stands from
+    value_gives (sequence fill) fills H place frame region count used stands from =
+        collected_gives kind.Items fill fills H place frame region count used stands from
+    value_gives (mapping manner fill) fills H place frame region count used stands from =
+        collected_gives kind.Pairs fill fills H place frame region count used stands from
+
+    -- ---- a node in a directive's place
+
+    body_by_gives :
+        (shape : Shape) → ShapeFrom shape → (H : Type 0) (place : Place) (problem : ExpandProblem)
+        (frame : Frame) (region : Region) (progress : Progress) (used : List FileKey) → R place →
+        (H → FrameFrom P R frame) → (H → ProgressFrom P progress) →
+        Gives U H used (body_by shape place problem follow frame region progress used)
+        (ProgressFrom P)
+    body_by_gives (scalar text) fills H place problem frame region progress used stands from all =
+        used_then U (OneFrom P) (ProgressFrom P) H used
+        (scalar_at text follow frame region place progress.count used) _
+        (scalar_gives text H frame region place progress.count used stands from)
+        (λ one later. alone_gives U (ProgressFrom P) (H × OneFrom P one) later
+        (absorbed one.node problem place (with_count one.count progress))
+        (λ h. absorbed_from P one.node problem place (with_count one.count progress) h.1
+        (all h.0)))
+    body_by_gives (sequence fill) fills H place problem frame region progress used stands from
+        all =
+        plain_then U (ProgressFrom P) H used (entered place progress.count) _
+        (λ count. first_then U (ProgressFrom P) (ProgressFrom P) H used
+        (as_items problem place (with_count count progress)) _
+        (λ h. as_items_from P problem place (with_count count progress) (all h))
+        (λ begun. filled fill fills (H × ProgressFrom P begun) frame region begun used
+        (λ h. from h.0) (λ h. h.1)))
+    body_by_gives (mapping manner fill) fills H place problem frame region progress used stands
+        from all =
+        plain_then U (ProgressFrom P) H used (entered place progress.count) _
+        (λ count. first_then U (ProgressFrom P) (ProgressFrom P) H used
+        (as_pairs problem place (with_count count progress)) _
+        (λ h. as_pairs_from P problem place (with_count count progress) (all h))
+        (λ begun. filled fill fills (H × ProgressFrom P begun) frame region begun used
+        (λ h. from h.0) (λ h. h.1)))
+
+    body_gives :
+        (part : Part) → PartFrom part → (H : Type 0) (problem : ExpandProblem) (frame : Frame)
+        (region : Region) (progress : Progress) (used : List FileKey) →
+        (H → FrameFrom P R frame) → (H → ProgressFrom P progress) →
+        Gives U H used (body part problem follow frame region progress used) (ProgressFrom P)
+    body_gives part fills H problem frame region progress used from all =
+        used_then U (ProgressFrom P) (ProgressFrom P) H used
+        (body_by part.shape part.place problem follow frame region (with_chain Closed progress)
+        used) _
+        (body_by_gives part.shape fills.1 H part.place problem frame region
+        (with_chain Closed progress) used fills.0 from all)
+        (λ after later. done_gives U (ProgressFrom P) (H × ProgressFrom P after) later
+        (with_chain Closed after) (λ h. h.1))
+
+    turns_give :
+        (name : List ℕ) (part : Part) → PartFrom part → (items : List MarkedNode) (H : Type 0)
+        (frame : Frame) (region : Region) (progress : Progress) (used : List FileKey) →
+        (H → Each (NodeFrom P) items) → (H → FrameFrom P R frame) →
+        (H → ProgressFrom P progress) →
+        Gives U H used (turns name part items follow frame region progress used) (ProgressFrom P)
+    turns_give name part fills [] H frame region progress used each from all =
+        done_gives U (ProgressFrom P) H used progress all
+    turns_give name part fills (item ∷ items) H frame region progress used each from all =
+        used_then U (ProgressFrom P) (ProgressFrom P) H used
+        (body part WrongKind follow (within frame name item) region progress used)
+        (turns name part items follow frame region)
+        (body_gives part fills H WrongKind (within frame name item) region progress used
+        (λ h. turn_from P R frame (from h) name item (each h).0) all)
+        (λ after later. turns_give name part fills items (H × ProgressFrom P after) frame region
+        after later (λ h. (each h.0).1) (λ h. from h.0) (λ h. h.1))
+
+    -- ---- pairs of a mapping
+
+    value_under_gives :
+        (path : Bool) (key : List ℕ) (part : Part) → PartFrom part → (H : Type 0) (frame : Frame)
+        (region : Region) (count : ℕ) (used : List FileKey) → (H → FrameFrom P R frame) →
+        Gives U H used (value_under path key part follow frame region count used) (OneFrom P)
+    value_under_gives true key part fills H frame region count used from =
+        alone_gives U (OneFrom P) H used (path_by part.shape part.place frame count)
+        (λ h. path_from P R frame (from h) part.place fills.0 part.shape count)
+    value_under_gives false key part fills H frame region count used from =
+        value_gives part.shape fills.1 H part.place frame (under key region) count used fills.0 from
+
+    done_gives_all :
+        (asked : Action) (part : Part) → PartFrom part → (H : Type 0) (frame : Frame)
+        (region : Region) (progress : Progress) (used : List FileKey) →
+        (H → ActionFrom P asked) → (H → FrameFrom P R frame) → (H → ProgressFrom P progress) →
+        Gives U H used (done asked part follow frame region progress used) (ProgressFrom P)
+    done_gives_all (action.Put key origin) part fills H frame region progress used own from all =
+        used_then U (OneFrom P) (ProgressFrom P) H used
+        (value_under (is_path region progress.content key) key part follow frame region
+        progress.count used) _
+        (value_under_gives (is_path region progress.content key) key part fills H frame region
+        progress.count used from)
+        (λ one later. alone_gives U (ProgressFrom P) (H × OneFrom P one) later _
+        (λ h. put_pair_from P (record { key = key; key_origin = origin; item = one.node })
+        one.count progress (pair_from P key origin one.node (own h.0) h.1) (all h.0)))
+    done_gives_all (action.Run chain) part fills H frame region progress used own from all =
+        used_then U (ProgressFrom P) (ProgressFrom P) H used
+        (body part WrongKind follow frame region progress used) _
+        (body_gives part fills H WrongKind frame region progress used from all)
+        (λ after later. done_gives U (ProgressFrom P) (H × ProgressFrom P after) later
+        (with_chain chain after) (λ h. h.1))
+    done_gives_all (action.Pass chain) part fills H frame region progress used own from all =
+        done_gives U (ProgressFrom P) H used (with_chain chain progress) all
+    done_gives_all (action.Repeat loop count) part fills H frame region progress used own from
+        all =
+        turns_give loop.name part fills loop.items H frame region
+        (with_chain Closed (with_count count progress)) used own from all
+    done_gives_all action.Insert part fills H frame region progress used own from all =
+        body_gives part fills H InsertNoMapping frame region progress used from all
+
+    pub pair_gives :
+        (entry : Entry) → EntryFrom entry → (H : Type 0) (frame : Frame) (region : Region)
+        (progress : Progress) (used : List FileKey) → (H → FrameFrom P R frame) →
+        (H → ProgressFrom P progress) →
+        Gives U H used (pair_behind entry follow frame region progress used) (ProgressFrom P)
+    pair_gives entry fills H frame region progress used from all =
+        first_then U (ActionFrom P) (ProgressFrom P) H used
+        (key_asks entry.key frame entry.key_place progress.chain progress.count) _
+        (λ h. key_asks_from P R frame (from h) entry.key_place fills.0 entry.key progress.chain
+        progress.count)
+        (λ asked. done_gives_all asked entry.part fills.1 (H × ActionFrom P asked) frame region
+        progress used (λ h. h.1) (λ h. from h.0) (λ h. all h.0))
+
+    pairs_give :
+        (entries : List Entry) → Each EntryFrom entries → (H : Type 0) (frame : Frame)
+        (region : Region) (progress : Progress) (used : List FileKey) →
+        (H → FrameFrom P R frame) → (H → ProgressFrom P progress) →
+        Gives U H used (pairs_behind entries follow frame region progress used) (ProgressFrom P)
+    pairs_give [] fills H frame region progress used from all =
+        done_gives U (ProgressFrom P) H used progress all
+    pairs_give (entry ∷ entries) fills H frame region progress used from all =
+        used_then U (ProgressFrom P) (ProgressFrom P) H used
+        (pair_behind entry follow frame region progress used)
+        (pairs_behind entries follow frame region)
+        (pair_gives entry fills.0 H frame region progress used from all)
+        (λ after later. pairs_give entries fills.1 (H × ProgressFrom P after) frame region after
+        later (λ h. from h.0) (λ h. h.1))
+
+    -- ---- items of a sequence
+
+    mapping_gives :
+        (manner : Manner) (fill : Filling) → FillingFrom fill → (H : Type 0) (place : Place)
+        (frame : Frame) (region : Region) (count : ℕ) (progress : Progress)
+        (used : List FileKey) → R place → (H → FrameFrom P R frame) →
+        (H → ProgressFrom P progress) →
+        Gives U H used
+        (mapping_behind manner fill place follow frame region count progress used)
+        (ProgressFrom P)
+    mapping_gives Empty fill fills H place frame region count progress used stands from all =
+        first_then U (OneFrom P) (ProgressFrom P) H used
+        (finished (literal_at frame place) (begun kind.Pairs Closed count)) _
+        (λ h. finished_from P (literal_at frame place) (begun kind.Pairs Closed count)
+        ((from h).literal place stands) tt)
+        (λ one. add_item_gives P U follow follows frame region (H × OneFrom P one) one.node
+        (with_chain Closed (with_count one.count progress)) used (λ h. h.1) (λ h. all h.0))
+    mapping_gives Stays fill fills H place frame region count progress used stands from all =
+        used_then U (ProgressFrom P) (ProgressFrom P) H used
+        (fill follow frame (of_item region) (begun kind.Pairs progress.chain count) used) _
+        (filled fill fills H frame (of_item region) (begun kind.Pairs progress.chain count) used
+        from (λ h. tt))
+        (λ inner later. first_then U (OneFrom P) (ProgressFrom P) (H × ProgressFrom P inner) later
+        (finished (literal_at frame place) inner) _
+        (λ h. finished_from P (literal_at frame place) inner ((from h.0).literal place stands) h.1)
+        (λ one. add_item_gives P U follow follows frame region
+        ((H × ProgressFrom P inner) × OneFrom P one) one.node
+        (with_chain inner.chain (with_count inner.count progress)) later (λ h. h.1)
+        (λ h. all h.0.0)))
+    mapping_gives (Splices of) fill fills H place frame region count progress used stands from
+        all =
+        used_then U (ProgressFrom P) (ProgressFrom P) H used
+        (fill follow frame (of_item region) (begun of progress.chain count) used) _
+        (filled fill fills H frame (of_item region) (begun of progress.chain count) used from
+        (λ h. nothing_from P of))
+        (λ inner later. splice_gives P U follow follows frame region (H × ProgressFrom P inner)
+        (literal_at frame place) inner.content
+        (with_chain inner.chain (with_count inner.count progress)) later
+        (λ h. (from h.0).literal place stands) (λ h. h.1) (λ h. all h.0))
+    mapping_gives (Mixed other) fill fills H place frame region count progress used stands from
+        all = tt
+
+    item_by_gives :
+        (shape : Shape) → ShapeFrom shape → (H : Type 0) (place : Place) (frame : Frame)
+        (region : Region) (progress : Progress) (used : List FileKey) → R place →
+        (H → FrameFrom P R frame) → (H → ProgressFrom P progress) →
+        Gives U H used (item_by shape place follow frame region progress used) (ProgressFrom P)
+    item_by_gives (scalar text) fills H place frame region progress used stands from all =
+        used_then U (OneFrom P) (ProgressFrom P) H used
+        (scalar_at text follow frame region place progress.count used) _
+        (scalar_gives text H frame region place progress.count used stands from)
+        (λ one later. spread_gives P U follow follows frame region (H × OneFrom P one) one.node
+        (with_chain Closed (with_count one.count progress)) later (λ h. h.1) (λ h. all h.0))
+    item_by_gives (sequence fill) fills H place frame region progress used stands from all =
+        used_then U (OneFrom P) (ProgressFrom P) H used
+        (collected kind.Items fill place follow frame (inside region) progress.count used) _
+        (collected_gives kind.Items fill fills H place frame (inside region) progress.count used
+        stands from)
+        (λ one later. add_item_gives P U follow follows frame region (H × OneFrom P one) one.node
+        (with_chain Closed (with_count one.count progress)) later (λ h. h.1) (λ h. all h.0))
+    item_by_gives (mapping manner fill) fills H place frame region progress used stands from all =
+        plain_then U (ProgressFrom P) H used (entered place progress.count) _
+        (λ count. mapping_gives manner fill fills H place frame region count progress used stands
+        from all)
+
+    items_give :
+        (parts : List Part) → Each PartFrom parts → (H : Type 0) (frame : Frame)
+        (region : Region) (progress : Progress) (used : List FileKey) →
+        (H → FrameFrom P R frame) → (H → ProgressFrom P progress) →
+        Gives U H used (items_behind parts follow frame region progress used) (ProgressFrom P)
+    items_give [] fills H frame region progress used from all =
+        done_gives U (ProgressFrom P) H used progress all
+    items_give (part ∷ parts) fills H frame region progress used from all =
+        used_then U (ProgressFrom P) (ProgressFrom P) H used
+        (item_behind part follow frame region progress used)
+        (items_behind parts follow frame region)
+        (item_by_gives part.shape fills.0.1 H part.place frame region progress used fills.0.0 from
+        all)
+        (λ after later. items_give parts fills.1 (H × ProgressFrom P after) frame region after
+        later (λ h. from h.0) (λ h. h.1))
+
+  -- ---- by induction over the node
+
+  abbrev BodyClaim : NodeBody → Type 0
+  BodyClaim one = BodyIn R (out-NodeBody one) → ShapeFrom (shape_of one)
+
+  abbrev NodeClaim : Node → Type 0
+  NodeClaim one = NodeIn R one → PartFrom (part_of one)
+
+  abbrev PairClaim : NodePair → Type 0
+  PairClaim one = PairIn R one → EntryFrom (entry_of one)
+
+  each_claim :
+      {X Y : Type 0} (A : X → Type 0) (B : Y → Type 0) (f : X → Y) (xs : List X) →
+      Each (λ x. A x → B (f x)) xs → Each A xs → Each B (map f xs)
+  each_claim A B f [] claims all = tt
+  each_claim A B f (x ∷ xs) claims all = (claims.0 all.0, each_claim A B f xs claims.1 all.1)
+
+  opened_is : (layer : Body) → out-NodeBody (roll-NodeBody layer) ≡ layer
+  opened_is layer = search (rules, the_lemmas)
+
+  layer_claim :
+      (layer : Body) → BodyParts NodeClaim PairClaim layer → BodyIn R layer →
+      ShapeFrom (shape_of (roll-NodeBody layer))
+  layer_claim (Scalar text) claims within =
+      let is : scalar text ≡ shape_of (roll-NodeBody (Scalar text)) =
+      search (rules, the_lemmas) in
+      subst ShapeFrom is tt
+  layer_claim (Seq items) claims within =
+      let is :
+      sequence (items_behind (map part_of items)) ≡ shape_of (roll-NodeBody (Seq items)) =
+      search (rules, the_lemmas) in
+      let parts : Each PartFrom (map part_of items) =
+      each_claim (NodeIn R) PartFrom part_of items claims within in
+      subst ShapeFrom is
+      (λ follow frame region progress used follows.
+      items_give follow follows (map part_of items) parts
+      (FrameFrom P R frame × ProgressFrom P progress) frame region progress used (λ h. h.0)
+      (λ h. h.1))
+  layer_claim (Map pairs) claims within =
+      let is :
+      mapping (manner_of (map facet_of (map entry_of pairs))) (pairs_behind (map entry_of pairs))
+      ≡ shape_of (roll-NodeBody (Map pairs)) =
+      search (rules, the_lemmas) in
+      let entries : Each EntryFrom (map entry_of pairs) =
+      each_claim (PairIn R) EntryFrom entry_of pairs claims within in
+      subst ShapeFrom is
+      (λ follow frame region progress used follows.
+      pairs_give follow follows (map entry_of pairs) entries
+      (FrameFrom P R frame × ProgressFrom P progress) frame region progress used (λ h. h.0)
+      (λ h. h.1))
+
+  of_layer :
+      (layer : Body) → BodyParts NodeClaim PairClaim layer → BodyClaim (roll-NodeBody layer)
+  of_layer layer claims within =
+      layer_claim layer claims (subst (BodyIn R) (opened_is layer) within)
+
+  of_node :
+      (place : Place) (one : NodeBody) → BodyClaim one →
+      NodeClaim (record { place = place; body = one })
+  of_node place one claim within =
+      let node : Node = record { place = place; body = one } in
+      let is : record { place = place; shape = shape_of one } ≡ part_of node =
+      search (rules, the_lemmas) in
+      let parts = node_in R node within in
+      subst PartFrom is (parts.0, claim parts.1)
+
+  of_pair :
+      (key : List ℕ) (key_place : Place) (item : Node) → NodeClaim item →
+      PairClaim (record { key = key; key_place = key_place; item = item })
+  of_pair key key_place item claim within =
+      let pair : NodePair = record { key = key; key_place = key_place; item = item } in
+      let is : record { key = key; key_place = key_place; part = part_of item } ≡ entry_of pair =
+      search (rules, the_lemmas) in
+      let parts = pair_in R pair within in
+      subst EntryFrom is (parts.0, claim parts.1)
+
+  pub part_from : (node : Node) → NodeIn R node → PartFrom (part_of node)
+  part_from = written_induction BodyClaim NodeClaim PairClaim of_layer of_node of_pair
+
+  pub entry_from : (pair : NodePair) → PairIn R pair → EntryFrom (entry_of pair)
+  entry_from pair within = of_pair pair.key pair.key_place pair.item (part_from pair.item) within
+
+  pub expanded_gives :
+      (node : Node) → NodeIn R node → (H : Type 0) (follow : Follow) (frame : Frame)
+      (region : Region) (count : ℕ) (used : List FileKey) → FollowFrom P U follow →
+      (H → FrameFrom P R frame) →
+      Gives U H used (expanded node follow frame region count used) (OneFrom P)
+  expanded_gives node within H follow frame region count used follows from =
+      let part = part_from node within in
+      value_gives follow follows (part_of node).shape part.1 H (part_of node).place frame region
+      count used part.0 from

@@ -1,0 +1,162 @@
+-- What an expression gives in a frame, where a predicate holds of all origins that the frame has.
+use Rattle.std.proofs.Common.{◌≡◌, ℕ, Bool, true, false, cond, Option, Some, Result, Ok, Err}
+use Rattle.std.proofs.Common.{List, [], ◌∷◌, map, reverse, refl, sym, subst, ◌∙◌}
+use Rattle.std.specs.Prelude.{IfOk}
+use Rattle.std.specs.FinMap as finite
+use Rattle.std.specs.Ordering.{is_eq}
+use Rattle.std.specs.List.{AllByRecursion as Each}
+use Rattle.std.proofs.lemmas.Cmp.{nat_list_cmp_total}
+use Rattle.std.proofs.lemmas.List.{reverse-append}
+use Rattle.pl_base.specs.Files.{text_cmp}
+use Rattle.pl_base.specs.Folding.{folded}
+use Rattle.pl_base.specs.declared.origin.Origin.{Origin}
+use Rattle.pl_base.specs.declared.place.Place.{Place}
+use Rattle.pl_base.specs.declared.value.MarkedNode.{MarkedNode}
+use Rattle.pl_expr.specs.declared.expr.Expr.{Expr}
+use Rattle.pl_expr.specs.declared.expr.Mode.TheVariants.{Compile}
+use Rattle.pl_expr.specs.Grammar.{Fault, parses}
+use Rattle.pl_expr.proofs.Sound.{parses_given}
+use Rattle.pl_eval.specs.Known.{root_of}
+use Rattle.pl_eval.specs.Means.{Meaning, means}
+use Rattle.pl_frame.specs.declared.frame.Frame.{Frame}
+use Rattle.pl_frame.specs.declared.frame.Loop.{Loop}
+use Rattle.pl_frame.specs.declared.frame.Parameter.{Parameter}
+use Rattle.pl_frame.specs.declared.frame.Variable.{Variable}
+use Rattle.pl_frame.specs.Expressions.{defined, meant_by}
+use Rattle.pl_frame.specs.Names.{taken, parameter_pair, parameters_at, variable_pair, variables_at}
+use Rattle.pl_frame.specs.Names.{loop_entry, contexts_at, roots_at, known_at, within}
+use Rattle.pl_frame.specs.Origins.{literal_at, made_at}
+use Rattle.pl_directives.specs.Scalars.{told_at, value_at}
+use Rattle.pl_eval_laws.proofs.Lists.{Has, each_append, each_map, each_of, each_one}
+use Rattle.pl_eval_laws.proofs.Trees.{NodeFrom, ValueFrom, PairFrom, node_from, pair_from}
+use Rattle.pl_eval_laws.proofs.Trees.{object_from}
+use Rattle.pl_eval_laws.proofs.Evaluated.{evaluated}
+use Rattle.pl_origins.proofs.Moved.{all_moved_from}
+
+-- a parameter: where it is declared, and what an expression takes of it
+abbrev pub ParameterFrom : (Origin → Type 0) → (Place → Type 0) → Parameter → Type 0
+ParameterFrom P R parameter =
+    R parameter.place × ((place : Place) → R place → NodeFrom P (taken place parameter))
+
+-- R holds of the places of the frame's file that are spoken of
+pub record FrameFrom (P : Origin → Type 0) (R : Place → Type 0) (frame : Frame) : Type 0 where
+  pub literal : (place : Place) → R place → P (literal_at frame place)
+  pub made : (place : Place) → R place → P (made_at frame place)
+  pub parameters : Each (ParameterFrom P R) frame.parameters
+  pub loops : Each (λ (one : Loop). NodeFrom P one.item) frame.loops
+
+each_reversed : {X : Type 0} (P : X → Type 0) (xs : List X) → Each P xs → Each P (reverse xs)
+each_reversed P [] all = tt
+each_reversed P (x ∷ xs) all =
+    subst (Each P) (sym (reverse-append (x ∷ []) xs))
+    (each_append P (reverse xs) (x ∷ []) (each_reversed P xs all.1) (each_one P x all.0))
+
+abbrev Named : Type 0
+Named = List ℕ × MarkedNode
+
+found_by :
+    (P : MarkedNode → Type 0) (name : List ℕ) (entries : List Named) →
+    Each (λ (entry : Named). P entry.1) entries → Has P (finite.find text_cmp name entries)
+found_by P name [] all = tt
+found_by P name (entry ∷ entries) all =
+    by (is_eq (text_cmp name entry.0)) (found_by P name entries all.1)
+  where
+    by : (b : Bool) → Has P (finite.find text_cmp name entries) →
+        Has P (cond b (Some entry.1) (finite.find text_cmp name entries))
+    by true later = all.0
+    by false later = later
+
+has_some :
+    {X : Type 0} (P : X → Type 0) (found : Option X) (x : X) → Has P found → found ≡ Some x → P x
+has_some P found x has is = subst (Has P) is has
+
+-- the origins of a tree that is made anew
+anything : Origin → Type 0
+anything origin = Unit {0}
+
+anything_below : (one : _) → ValueFrom anything one
+unfolding ValueFrom anything
+anything_below one = each_of anything (λ origin. tt) _
+
+module _ (P : Origin → Type 0) (R : Place → Type 0) (frame : Frame) (from : FrameFrom P R frame)
+  where
+    pub turn_from : (name : List ℕ) (item : MarkedNode) → NodeFrom P item →
+        FrameFrom P R (within frame name item)
+    turn_from name item from_item = record {
+      literal = from.literal;
+      made = from.made;
+      parameters = from.parameters;
+      loops =
+          each_append (λ (one : Loop). NodeFrom P one.item) frame.loops _ from.loops
+          (each_one (λ (one : Loop). NodeFrom P one.item) (record { name = name; item = item })
+          from_item);
+    }
+
+    module _ (place : Place) (stands : R place) where
+      parameter_from :
+          (parameter : Parameter) → ParameterFrom P R parameter →
+          PairFrom P (parameter_pair frame place parameter)
+      parameter_from parameter all =
+          pair_from P parameter.name (literal_at frame parameter.place) (taken place parameter)
+          (from.literal parameter.place all.0) (all.1 place stands)
+
+      parameters_from : NodeFrom P (parameters_at frame place)
+      parameters_from =
+          node_from P (made_at frame place) _ (from.made place stands)
+          (object_from P _ (each_map (ParameterFrom P R) (PairFrom P) (parameter_pair frame place)
+          parameter_from frame.parameters from.parameters))
+
+      variable_from : (one : Variable) → PairFrom P (variable_pair frame place one)
+      variable_from one =
+          pair_from P one.name (made_at frame place) _ (from.made place stands)
+          (node_from P (made_at frame place) _ (from.made place stands)
+          (all_moved_from anything P (λ _. made_at frame place) (λ _ _. from.made place stands)
+          one.value (anything_below one.value)))
+
+      each_variable_from :
+          (variables : List Variable) → Each (PairFrom P) (map (variable_pair frame place) variables)
+      each_variable_from [] = tt
+      each_variable_from (one ∷ variables) = (variable_from one, each_variable_from variables)
+
+      variables_from : NodeFrom P (variables_at frame place)
+      variables_from =
+          node_from P (made_at frame place) _ (from.made place stands)
+          (object_from P _ (each_variable_from frame.variables))
+
+      abbrev EntryFrom : Named → Type 0
+      EntryFrom entry = NodeFrom P entry.1
+
+      roots_from : Each EntryFrom (roots_at frame place)
+      roots_from =
+          each_append EntryFrom (map loop_entry (reverse frame.loops)) (contexts_at frame place)
+          (each_map (λ (one : Loop). NodeFrom P one.item) EntryFrom loop_entry (λ one all. all)
+          (reverse frame.loops)
+          (each_reversed (λ (one : Loop). NodeFrom P one.item) frame.loops from.loops))
+          (parameters_from, (variables_from, tt))
+
+      known_from :
+          (name : List ℕ) (root : MarkedNode) → root_of (known_at frame place) name ≡ Some root →
+          NodeFrom P root
+      known_from name root is =
+          has_some (NodeFrom P) (finite.find text_cmp (folded name) (roots_at frame place)) root
+          (found_by (NodeFrom P) (folded name) (roots_at frame place) roots_from)
+          (sym (finite.get-from_entries nat_list_cmp_total (roots_at frame place) (folded name)) ∙ is)
+
+      told_from :
+          (meaning : Meaning) → IfOk meaning (NodeFrom P) →
+          IfOk (told_at place (defined meaning)) (NodeFrom P)
+      told_from (Ok node) all = all
+      told_from (Err code) all = tt
+
+      meant_from :
+          (text : List ℕ) (read : Result Expr Fault) → parses Compile text ≡ read →
+          IfOk (told_at place (meant_by frame place read)) (NodeFrom P)
+      meant_from text (Ok expr) is =
+          told_from (means (known_at frame place) (made_at frame place) expr)
+          (evaluated P (made_at frame place) (from.made place stands) (known_at frame place)
+          known_from Compile 50 expr (parses_given Compile text expr is))
+      meant_from text (Err fault) is = tt
+
+      -- the value of an expression in the scalar or key there
+      pub value_from : (text : List ℕ) → IfOk (value_at frame place text) (NodeFrom P)
+      value_from text = meant_from text (parses Compile text) refl

@@ -1,0 +1,12 @@
+pub mod Steps
+pub mod Induction
+pub mod Moved
+pub mod Nodes
+pub mod Frames
+pub mod Scalars
+pub mod Contents
+pub mod Bound
+pub mod Following
+pub mod Expanded
+pub mod Called
+pub mod Kept

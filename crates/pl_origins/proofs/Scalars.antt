@@ -1,0 +1,172 @@
+-- Scalars, keys and what keys ask for, in a frame.
+use Rattle.std.proofs.Common.{ℕ, Bool, true, false, List, []}
+use Rattle.std.specs.Prelude.{IfOk}
+use Rattle.std.specs.List.{AllByRecursion as Each}
+use Rattle.pl_base.specs.declared.origin.Origin.{Origin}
+use Rattle.pl_base.specs.declared.place.Place.{Place}
+use Rattle.pl_base.specs.declared.value.Value.{Str, out-Value}
+use Rattle.pl_base.specs.declared.value.Value.TheOpen as layer
+use Rattle.pl_base.specs.declared.value.MarkedNode.{MarkedNode}
+use Rattle.pl_base.specs.declared.value.MarkedPair.{MarkedPair}
+use Rattle.pl_frame.specs.declared.frame.Frame.{Frame}
+use Rattle.pl_frame.specs.Names.{pair_object}
+use Rattle.pl_frame.specs.Origins.{literal_at, made_at}
+use Rattle.pl_frame.specs.Trees.{nodes_in}
+use Rattle.pl_template.specs.declared.forms.ScalarForm.{ScalarForm}
+use Rattle.pl_template.specs.declared.forms.ScalarForm.TheVariants.{Plain, Whole, Joined, Unclosed}
+use Rattle.pl_template.specs.declared.forms.KeyForm.{KeyForm}
+use Rattle.pl_template.specs.declared.forms.KeyForm.TheVariants as form
+use Rattle.pl_template.specs.declared.forms.Piece.{Piece}
+use Rattle.pl_template.specs.Keys.{key_form_of}
+use Rattle.pl_directives.specs.declared.action.Action.{Action}
+use Rattle.pl_directives.specs.declared.action.Action.TheVariants as action
+use Rattle.pl_directives.specs.declared.keys.MadeKey.{MadeKey}
+use Rattle.pl_directives.specs.declared.progress.Chain.{Chain}
+use Rattle.pl_directives.specs.declared.progress.Chain.TheVariants.{Closed, Waiting, Taken}
+use Rattle.pl_directives.specs.declared.progress.Counted.{Counted}
+use Rattle.pl_directives.specs.Actions.{branch, if_asks, elseif_asks, else_asks, items_for}
+use Rattle.pl_directives.specs.Actions.{each_asks, computed_asks, asks, key_asks}
+use Rattle.pl_directives.specs.Counting.{counted}
+use Rattle.pl_directives.specs.Keys.{key_from, key_pieces_behind, key_by}
+use Rattle.pl_directives.specs.Scalars.{value_at, truth_at, one_more, counted_value_at}
+use Rattle.pl_directives.specs.Scalars.{pieces_behind, plain_scalar, joined_scalar}
+use Rattle.pl_eval_laws.proofs.Lists.{each_map}
+use Rattle.pl_eval_laws.proofs.Trees.{Opened, NodeFrom, PairFrom, OpenedFrom, node_from, pair_from}
+use Rattle.pl_eval_laws.proofs.Trees.{text_from, object_from, node_parts, pair_parts, value_parts}
+use Rattle.pl_origins.proofs.Frames.{FrameFrom, value_from}
+use Rattle.pl_origins.proofs.Steps.{ok_then, any_then}
+
+abbrev pub OneFrom : (Origin → Type 0) → Counted → Type 0
+OneFrom P one = NodeFrom P one.node
+
+abbrev pub KeyFrom : (Origin → Type 0) → MadeKey → Type 0
+KeyFrom P made = P made.origin
+
+abbrev pub ActionFrom : (Origin → Type 0) → Action → Type 0
+ActionFrom P (action.Put key origin) = P origin
+ActionFrom P (action.Run chain) = Unit {0}
+ActionFrom P (action.Pass chain) = Unit {0}
+ActionFrom P (action.Repeat loop count) = Each (NodeFrom P) loop.items
+ActionFrom P action.Insert = Unit {0}
+
+module _ (P : Origin → Type 0) (R : Place → Type 0) (frame : Frame) (from : FrameFrom P R frame)
+    (place : Place) (stands : R place) where
+  -- ---- scalars
+
+  pub counted_value_from :
+      (text : List ℕ) (count : ℕ) → IfOk (counted_value_at frame place text count) (OneFrom P)
+  counted_value_from text count =
+      ok_then (NodeFrom P) (OneFrom P) (value_at frame place text) (one_more place count)
+      (value_from P R frame from place stands text)
+      (λ node all. any_then (OneFrom P) (counted place (nodes_in node) count) _ (λ count. all))
+
+  pub plain_from : (text : List ℕ) (count : ℕ) → OneFrom P (plain_scalar text frame place count)
+  plain_from text count =
+      node_from P (literal_at frame place) (Str text) (from.literal place stands) (text_from P text)
+
+  pub joined_from :
+      (pieces : List Piece) (count : ℕ) →
+      IfOk (joined_scalar pieces frame place count) (OneFrom P)
+  joined_from pieces count =
+      any_then (OneFrom P) (pieces_behind frame place pieces (record { text = []; count = count }))
+      _ (λ joined. node_from P (made_at frame place) (Str joined.text) (from.made place stands)
+      (text_from P joined.text))
+
+  -- ---- keys
+
+  atom_key : (opened : Opened) (node : MarkedNode) → P node.origin →
+      IfOk (key_from opened place node) (KeyFrom P)
+  atom_key (layer.Array items) node own = tt
+  atom_key (layer.Object pairs) node own = tt
+  atom_key layer.Null node own = own
+  atom_key (layer.Bool truth) node own = own
+  atom_key (layer.Number number) node own = own
+  atom_key (layer.Version segments) node own = own
+  atom_key (layer.Str text) node own = own
+
+  pub key_by_from : (made : ScalarForm) → IfOk (key_by made frame place) (KeyFrom P)
+  key_by_from (Whole inside) =
+      ok_then (NodeFrom P) (KeyFrom P) (value_at frame place inside) _
+      (value_from P R frame from place stands inside)
+      (λ node all. atom_key (out-Value node.value) node (node_parts P node all).0)
+  key_by_from (Joined pieces) =
+      any_then (KeyFrom P) (key_pieces_behind frame place pieces []) _
+      (λ text. from.made place stands)
+  key_by_from Plain = tt
+  key_by_from Unclosed = tt
+
+  -- ---- what a key asks for
+
+  branch_from : (truth : Bool) → ActionFrom P (branch truth)
+  branch_from true = tt
+  branch_from false = tt
+
+  if_from : (text : List ℕ) → IfOk (if_asks frame place text) (ActionFrom P)
+  if_from text =
+      any_then (ActionFrom P) (truth_at frame place text) _ branch_from
+
+  elseif_from :
+      (chain : Chain) (text : List ℕ) → IfOk (elseif_asks chain frame place text) (ActionFrom P)
+  elseif_from Closed text = tt
+  elseif_from Waiting text = if_from text
+  elseif_from Taken text = tt
+
+  else_from : (chain : Chain) → IfOk (else_asks chain place) (ActionFrom P)
+  else_from Closed = tt
+  else_from Waiting = tt
+  else_from Taken = tt
+
+  turn_of_pair :
+      (pair : MarkedPair) → PairFrom P pair → NodeFrom P (pair_object frame place pair)
+  turn_of_pair pair all =
+      let own : P (made_at frame place) = from.made place stands in
+      let parts = pair_parts P pair all in
+      node_from P (made_at frame place) _ own
+      (object_from P _ (
+        pair_from P _ (made_at frame place) _ own
+            (node_from P pair.key_origin (Str pair.key) parts.0 (text_from P pair.key)),
+        (pair_from P _ (made_at frame place) pair.item own parts.1, tt),
+      ))
+
+  items_from :
+      (opened : Opened) (name : List ℕ) (count : ℕ) → OpenedFrom P opened →
+      IfOk (items_for opened frame place name count) (ActionFrom P)
+  items_from (layer.Array items) name count all = all
+  items_from (layer.Object pairs) name count all =
+      each_map (PairFrom P) (NodeFrom P) (pair_object frame place) turn_of_pair pairs all
+  items_from layer.Null name count all = tt
+  items_from (layer.Bool truth) name count all = tt
+  items_from (layer.Number number) name count all = tt
+  items_from (layer.Version segments) name count all = tt
+  items_from (layer.Str text) name count all = tt
+
+  each_from :
+      (name text : List ℕ) (count : ℕ) →
+      IfOk (each_asks frame place name text count) (ActionFrom P)
+  each_from name text count =
+      ok_then (OneFrom P) (ActionFrom P) (counted_value_at frame place text count) _
+      (counted_value_from text count)
+      (λ one all. items_from (out-Value one.node.value) name one.count
+      (value_parts P one.node.value (node_parts P one.node all).1))
+
+  computed_from : (made : ScalarForm) → IfOk (computed_asks made frame place) (ActionFrom P)
+  computed_from made =
+      ok_then (KeyFrom P) (ActionFrom P) (key_by made frame place) _ (key_by_from made)
+      (λ made own. own)
+
+  asks_from :
+      (asked : KeyForm) (key : List ℕ) (chain : Chain) (count : ℕ) →
+      IfOk (asks asked key frame place chain count) (ActionFrom P)
+  asks_from form.Plain key chain count = from.literal place stands
+  asks_from (form.Computed made) key chain count = computed_from made
+  asks_from (form.If text) key chain count = if_from text
+  asks_from (form.ElseIf text) key chain count = elseif_from chain text
+  asks_from form.Else key chain count = else_from chain
+  asks_from (form.Each name text) key chain count = each_from name text count
+  asks_from form.Insert key chain count = tt
+  asks_from form.Bad key chain count = tt
+
+  pub key_asks_from :
+      (key : List ℕ) (chain : Chain) (count : ℕ) →
+      IfOk (key_asks key frame place chain count) (ActionFrom P)
+  key_asks_from key chain count = asks_from (key_form_of key) key chain count

@@ -1,0 +1,434 @@
+-- Every origin of an expanded tree tells places that exist.
+use Rattle.std.proofs.Common.{◌≡◌, inl, inr, ℕ, zero, suc, ◌<◌, Bool, true, false, cond}
+use Rattle.std.proofs.Common.{Option, Some, None, Result, Ok, Err, List, [], ◌∷◌, ◌++◌, length}
+use Rattle.std.proofs.Common.{refl, sym, subst, ap₂, arith}
+use Rattle.std.specs.Prelude.{Contains, IfOk, codes, filter, not, nat_eq, nat_le, ◌||◌}
+use Rattle.std.specs.List.{slice_index_or}
+use Rattle.std.specs.FinMap as finite
+use Rattle.std.specs.Cmp.Lexicographic.{pointwise}
+use Rattle.std.specs.List.{AllByRecursion as Each}
+use Rattle.std.proofs.lemmas.Bool.{false≢true, and_parts}
+use Rattle.std.proofs.lemmas.Bool.Decides.{nat_tests}
+use Rattle.pl_base.specs.declared.expanded.Argument.{Argument as RunArgument}
+use Rattle.pl_base.specs.declared.expanded.Expanded.{Expanded}
+use Rattle.pl_base.specs.declared.node.Node.{Node}
+use Rattle.pl_base.specs.declared.node.NodePair.{NodePair}
+use Rattle.pl_base.specs.declared.node.NodeBody.TheOpen.{Scalar, Seq, Map}
+use Rattle.pl_base.specs.declared.origin.Crossing.{Crossing}
+use Rattle.pl_base.specs.declared.origin.Crossing.TheVariants.{Extends, Include, Argument, Made}
+use Rattle.pl_base.specs.declared.origin.Origin.{Origin}
+use Rattle.pl_base.specs.declared.place.FileKey.{FileKey}
+use Rattle.pl_base.specs.declared.place.Place.{Place}
+use Rattle.pl_line.specs.declared.code.YamlCode.{YamlCode}
+use Rattle.pl_literal.specs.Items.{is}
+use Rattle.pl_paths.specs.Paths.{cut_path}
+use Rattle.pl_yaml.specs.Spells as yaml
+use Rattle.pl_frame.specs.declared.frame.Parameter.{Parameter}
+use Rattle.pl_directives.specs.declared.fault.ExpandFault.{ExpandFault}
+use Rattle.pl_directives.specs.declared.region.Region.TheVariants.{Free}
+use Rattle.pl_directives.specs.declared.fault.ExpandProblem.TheVariants.{TooManyFiles}
+use Rattle.pl_directives.specs.Complaints.{refused}
+use Rattle.pl_calls.specs.Meant.{◌>>>◌}
+use Rattle.pl_calls.specs.Parts.{Body, body_of, under}
+use Rattle.pl_calls.specs.Reaching.{opens as opens_of, target, same_file, is_called}
+use Rattle.pl_calls.specs.Reaching.{called_then, found_at, opened_at}
+use Rattle.pl_calls.specs.declared.files.Parsed.{Parsed}
+use Rattle.pl_calls.specs.declared.reaching.Home.{Home}
+use Rattle.pl_calls.specs.declared.reaching.Opened.{Opened as OpenedFile}
+use Rattle.pl_expanding.specs.Expanding.{expanded}
+use Rattle.pl_expanding.specs.Levels.{followed}
+use Rattle.pl_eval_laws.proofs.Lists.{Has, each_append, each_front, each_back, each_implies}
+use Rattle.pl_eval_laws.proofs.Lists.{each_contained}
+use Rattle.pl_eval_laws.specs.Trees.{origins_of}
+use Rattle.pl_eval_laws.proofs.Trees.{NodeFrom}
+use Rattle.pl_origins.specs.Places.{places_of}
+use Rattle.pl_origins.proofs.Called.{Borders, OpensFrom, followed_gives}
+use Rattle.pl_origins.proofs.Contents.{ProgressFrom}
+use Rattle.pl_origins.proofs.Expanded.{expanded_gives}
+use Rattle.pl_origins.proofs.Frames.{ParameterFrom}
+use Rattle.pl_origins.proofs.Nodes.{NodeIn, PairIn, BodyIn, node_in, under_in}
+use Rattle.pl_origins.proofs.Scalars.{OneFrom}
+use Rattle.pl_origins.proofs.Steps.{Used, Gives, ok_then, plain_then, used_then}
+use Rattle.pl_origins.proofs.Steps.{done_gives}
+use Rattle.pl_expand.specs.declared.filling.RootFilling.{RootFilling}
+use Rattle.pl_expand.specs.declared.root.RootNode.{RootNode}
+use Rattle.pl_expand.specs.declared.root.RootTree.{RootTree}
+use Rattle.pl_expand.specs.Resources.{earliest}
+use Rattle.pl_expand.specs.Tree.{Set, argument_file, root_complaints, unless, parameters_by}
+use Rattle.pl_expand.specs.Tree.{first_frame, root_from, root_object, pairs_expanded, home_of}
+use Rattle.pl_expand.specs.Tree.{bare_home, used_files, mapping_expanded, bare_expanded}
+use Rattle.pl_expand.specs.Tree.{other_expanded, body_expanded_by, root_node, tree_of}
+use Rattle.pl_provenance.specs.Known.{IsUsed, IsGiven, IsBorder}
+use Rattle.pl_provenance.specs.Known.{IsKnown, OriginsAreKnown}
+use Rattle.pl_provenance.proofs.Extended.{ExtendsBorder, ExtensionFrom}
+use Rattle.pl_provenance.proofs.Merged.{object_from_root}
+use Rattle.pl_provenance.proofs.Rooted.{RootBorder, ArgumentIn, parameters_are, root_frame_from}
+use Rattle.pl_provenance.proofs.Rooted.{pairs_expanded_give}
+use Rattle.pl_provenance.proofs.Whole.{unless_kept}
+use Rattle.pl_provenance.proofs.Written.{IsIn, files_stand, root_stands}
+
+-- ---- what stands in a list
+
+pub first_in : {X : Type 0} (x : X) (xs : List X) → Contains (x ∷ xs) x
+first_in x xs = (0, omega arith, refl)
+
+pub later_in : {X : Type 0} (first : X) (xs : List X) (x : X) → Contains xs x →
+    Contains (first ∷ xs) x
+later_in first xs x (at, within, is) = (suc at, omega (arith, within), is)
+
+-- ---- one file
+
+same_text : (xs ys : List ℕ) → pointwise nat_eq xs ys ≡ true → xs ≡ ys
+same_text [] [] same = refl
+same_text [] (y ∷ ys) same = absurd (false≢true same)
+same_text (x ∷ xs) [] same = absurd (false≢true same)
+same_text (x ∷ xs) (y ∷ ys) same =
+    let parts = and_parts (nat_eq x y) (pointwise nat_eq xs ys) same in
+    let head : x ≡ y = grind (arith, nat_tests, parts.0) in
+    ap₂ (λ (z : ℕ) (zs : List ℕ). z ∷ zs) head (same_text xs ys parts.1)
+
+same_key : (left right : FileKey) → same_file left right ≡ true → left ≡ right
+same_key left right same =
+    let first = and_parts (is left.repo right.repo) _ same in
+    let second = and_parts (is left.git_ref right.git_ref) (is left.path right.path) first.1 in
+    let repo : left.repo ≡ right.repo = same_text left.repo right.repo first.0 in
+    let git_ref : left.git_ref ≡ right.git_ref =
+    same_text left.git_ref right.git_ref second.0 in
+    let path : left.path ≡ right.path = same_text left.path right.path second.1 in
+    λ i. record { repo = repo i; git_ref = git_ref i; path = path i }
+
+-- ---- the files that are used in the end
+
+module _ (final : List FileKey) where
+  abbrev AreUsed : List FileKey → Type 0
+  AreUsed used = Each (Contains final) used
+
+  called_by :
+      (key one : FileKey) (used : List FileKey) → Contains final one →
+      (is_called key used ≡ true → Contains final key) →
+      (b : Bool) → same_file key one ≡ b → (b || is_called key used) ≡ true → Contains final key
+  called_by key one used first later true same called =
+      subst (Contains final) (sym (same_key key one same)) first
+  called_by key one used first later false other called = later called
+
+  called_used :
+      (key : FileKey) (used : List FileKey) → is_called key used ≡ true → AreUsed used →
+      Contains final key
+  called_used key [] called all = absurd (false≢true called)
+  called_used key (one ∷ used) called all =
+      called_by key one used all.0 (λ later. called_used key used later all.1)
+      (same_file key one) refl called
+
+  then_gives :
+      (at : Place) (key : FileKey) (used : List FileKey) →
+      Gives AreUsed (Unit {0}) used (called_then at key used) (λ none. Contains final key)
+  then_gives at key used = by (is_called key used) refl
+    where
+      more : (b : Bool) → Gives AreUsed (Unit {0}) used
+          (cond b (refused {X = Unit {0} × List FileKey} TooManyFiles at)
+          (Ok (tt, used ++ key ∷ []))) (λ none. Contains final key)
+      more true = tt
+      more false = (
+        λ all. each_front (Contains final) used (key ∷ []) all,
+        λ all h. (each_back (Contains final) used (key ∷ []) all).0,
+      )
+
+      by : (b : Bool) → is_called key used ≡ b → Gives AreUsed (Unit {0}) used
+          (cond b (Ok (tt, used))
+          (cond (nat_le 100 (length used)) (refused {X = Unit {0} × List FileKey} TooManyFiles at)
+          (Ok (tt, used ++ key ∷ [])))) (λ none. Contains final key)
+      by true called = (λ all. all, λ all h. called_used key used called all)
+      by false other = more (nat_le 100 (length used))
+
+  abbrev IsFinal : OpenedFile → Type 0
+  IsFinal opened = Contains final opened.key
+
+  found_gives :
+      (at : Place) (key : FileKey) (found : Option Parsed) (used : List FileKey) →
+      Gives AreUsed (Unit {0}) used (found_at at key found used) IsFinal
+  found_gives at key None used = tt
+  found_gives at key (Some file) used =
+      used_then AreUsed (λ none. Contains final key) IsFinal (Unit {0}) used
+      (called_then at key used) _ (then_gives at key used)
+      (λ none later. done_gives AreUsed IsFinal (Unit {0} × Contains final key) later
+      (record { key = key; file = file }) (λ h. h.1))
+
+  opened_gives :
+      (files : Set) (at : Place) (key : Option FileKey) (used : List FileKey) →
+      Gives AreUsed (Unit {0}) used (opened_at files at key used) IsFinal
+  opened_gives files at None used = tt
+  opened_gives files at (Some key) used = found_gives at key (finite.get files key) used
+
+  opens_known : (files : Set) (home : Home) →
+      OpensFrom (IsIn files) (Contains final) AreUsed (opens_of files home)
+  opens_known files home = record {
+    file = files_stand files home;
+    used =
+        λ at path used. plain_then AreUsed IsFinal (Unit {0}) used
+        (target at (cut_path path) home) _ (λ key. opened_gives files at key used);
+  }
+
+-- ---- what is known is kept across borders
+
+module _ (files : Set) (final : List FileKey) (arguments : List RunArgument) where
+  abbrev Known : Origin → Type 0
+  Known = IsKnown files final arguments
+
+  abbrev Border : Crossing → Type 0
+  Border = IsBorder files final arguments
+
+  in_file : (key : FileKey) (place : Place) → Contains final key → IsIn files key place →
+      IsUsed files final place
+  in_file key place known here = record { key = key; is_used = known; stands = here }
+
+  behind : (crossings : List Crossing) (crossing : Crossing) → Each Border crossings →
+      Border crossing → Each Border (crossings ++ crossing ∷ [])
+  behind crossings crossing all one = each_append Border crossings (crossing ∷ []) all (one, tt)
+
+  known_inside : Borders Known (IsIn files) (Contains final)
+  known_inside = record {
+    literal =
+        λ key path item place known from_path from_item here. (
+          inl (in_file key place known here),
+          behind path.crossings (Include key item.source) from_path.1 (known, from_item.0),
+        );
+    made =
+        λ key path item place known from_path from_item here. (
+          inl (in_file key place known here),
+          behind (path.crossings ++ Include key item.source ∷ []) Made
+              (behind path.crossings (Include key item.source) from_path.1 (known, from_item.0))
+              tt,
+        );
+    argument =
+        λ key item given name place known from_item from_given here. (
+          from_given.0,
+          behind (given.crossings ++ Include key item.source ∷ []) (Argument name place)
+              (behind given.crossings (Include key item.source) from_given.1
+              (known, from_item.0))
+              (in_file key place known here),
+        );
+  }
+
+  abbrev AnyFile : FileKey → Origin → Type 0
+  AnyFile file = Known
+
+  known_crossing : ExtendsBorder Known AnyFile (IsIn files) (Contains final)
+  known_crossing = record {
+    literal =
+        λ key path place known own here. (
+          inl (in_file key place known here),
+          behind path.crossings (Extends key) own.1 known,
+        );
+    made =
+        λ key path place known own here. (
+          inl (in_file key place known here),
+          behind (path.crossings ++ Extends key ∷ []) Made
+              (behind path.crossings (Extends key) own.1 known) tt,
+        );
+    argument =
+        λ key one name place known own here. (
+          own.0,
+          behind (one.crossings ++ Extends key ∷ []) (Argument name place)
+              (behind one.crossings (Extends key) own.1 known) (in_file key place known here),
+        );
+  }
+
+  abbrev OfArguments : RunArgument → Place → Type 0
+  OfArguments argument place = IsGiven arguments place
+
+  begins : (root : FileKey) → Contains final root →
+      RootBorder Known (IsIn files root) OfArguments
+  begins root known = record {
+    literal = λ place here. (inl (in_file root place known here), tt);
+    made = λ place here. (inl (in_file root place known here), (tt, tt));
+    argument =
+        λ argument source stands parameter place here.
+        (inr stands, (in_file root place known here, tt));
+  }
+
+-- ---- the places of run arguments
+
+module _ (arguments : List RunArgument) where
+  spelled_in :
+      (argument : RunArgument) → Contains arguments argument →
+      (read : Result Node (YamlCode × Place)) →
+      yaml.spells (argument_file argument.name) argument.text ≡ read →
+      IfOk read (NodeIn (λ place. IsGiven arguments place))
+  unfolding NodeIn
+  spelled_in argument among (Ok node) is =
+      each_implies (Contains (places_of node)) (λ place. IsGiven arguments place)
+      (λ place stands. record {
+        argument = argument;
+        is_given = among;
+        stands = inr (record { node = node; spelled = is; stands = stands });
+      }) (places_of node) (each_contained (places_of node))
+  spelled_in argument among (Err told) is = tt
+
+  arguments_known : Each (ArgumentIn (λ argument place. IsGiven arguments place)) arguments
+  arguments_known =
+      each_implies (Contains arguments) (ArgumentIn (λ argument place. IsGiven arguments place))
+      (λ argument among. (
+        record { argument = argument; is_given = among; stands = inl refl },
+        spelled_in argument among (yaml.spells (argument_file argument.name) argument.text) refl,
+      )) arguments (each_contained arguments)
+
+-- ---- all files that were called are among those that are used in the end
+
+module _ (root : FileKey) where
+  abbrev IsAnother : FileKey → Bool
+  IsAnother key = not (same_file key root)
+
+  shifted :
+      (first : FileKey) (files : List FileKey) (key : FileKey) (at : ℕ) →
+      at < length (root ∷ files) → slice_index_or (root ∷ files) at key ≡ key →
+      Contains (root ∷ first ∷ files) key
+  shifted first files key zero within is = (0, omega arith, is)
+  shifted first files key (suc at) within is = (suc (suc at), omega (arith, within), is)
+
+  all_used : (ends : List FileKey) → Each (Contains (used_files root ends)) ends
+  all_used [] = tt
+  all_used (key ∷ ends) = by (same_file key root) refl (all_used ends)
+    where
+      by : (b : Bool) → same_file key root ≡ b → Each (Contains (used_files root ends)) ends →
+          Each (Contains (root ∷ cond (not b) (key ∷ filter IsAnother ends)
+          (filter IsAnother ends))) (key ∷ ends)
+      by true same all = (
+        subst (Contains (used_files root ends)) (sym (same_key key root same))
+            (first_in root (filter IsAnother ends)),
+        all,
+      )
+      by false other all = (
+        later_in root (key ∷ filter IsAnother ends) key (first_in key (filter IsAnother ends)),
+        each_implies (Contains (used_files root ends))
+            (Contains (root ∷ key ∷ filter IsAnother ends))
+            (λ one stands. shifted key (filter IsAnother ends) one stands.0 stands.1 stands.2)
+            ends all,
+      )
+
+-- ---- the whole
+
+if_all :
+    {X E : Type 0} (Q : List FileKey → X → Type 0) (step : Result X E) →
+    ((ends : List FileKey) → IfOk step (Q ends)) → IfOk step (λ x. (ends : List FileKey) → Q ends x)
+if_all Q (Ok x) all = all
+if_all Q (Err fault) all = tt
+
+module _ (files : Set) (root : FileKey) (arguments : List RunArgument) where
+  abbrev In : List FileKey → Origin → Type 0
+  In ends = IsKnown files (used_files root ends) arguments
+
+  abbrev R : Place → Type 0
+  R = IsIn files root
+
+  abbrev U : List FileKey → List FileKey → Type 0
+  U ends = AreUsed (used_files root ends)
+
+  abbrev TreeKnown : RootTree → Type 0
+  TreeKnown one =
+      NodeFrom (IsKnown files one.expanded.used arguments) one.expanded.tree
+
+  ends_then :
+      {A : Type 0} (Q : List FileKey → A → Type 0) (step : Used A)
+      (next : A → List FileKey → Result RootTree ExpandFault) →
+      ((ends : List FileKey) → Gives (U ends) (Unit {0}) [] step (Q ends)) →
+      ((x : A) (ends : List FileKey) → Q ends x → IfOk (next x ends) TreeKnown) →
+      IfOk (step >>> next) TreeKnown
+  ends_then Q (Ok both) next gives goes =
+      goes both.0 both.1 ((gives both.1).1 (all_used root both.1) tt)
+  ends_then Q (Err fault) next gives goes = tt
+
+  root_used : (ends : List FileKey) → Contains (used_files root ends) root
+  root_used ends = first_in root (filter (IsAnother root) ends)
+
+  finishes :
+      (ends : List FileKey) (origin : Origin) (filling : RootFilling) → In ends origin →
+      ProgressFrom (In ends) filling.progress
+      × Has (ExtensionFrom (λ file. In ends)) filling.extension →
+      IfOk (root_from origin filling) (λ one. NodeFrom (In ends) one.node)
+  finishes ends origin filling own all =
+      ok_then (NodeFrom (In ends)) (λ (one : RootNode). NodeFrom (In ends) one.node)
+      (root_object filling.extension origin filling.progress.content) _
+      (object_from_root (In ends) filling.extension origin filling.progress.content own all.1
+      all.0)
+      (λ node is. is)
+
+  mapping_known :
+      (place : Place) (pairs : List NodePair) → R place → Each (PairIn R) pairs →
+      IfOk (mapping_expanded files root place pairs arguments) TreeKnown
+  mapping_known place pairs here within =
+      ok_then (Each (PairIn R)) TreeKnown (unless (earliest (root_complaints pairs)) pairs) _
+      (unless_kept (Each (PairIn R)) (earliest (root_complaints pairs)) pairs within)
+      (λ pairs within.
+      ok_then (λ parameters. (ends : List FileKey) → Each (ParameterFrom (In ends) R) parameters)
+      TreeKnown (parameters_by (under (codes "parameters") pairs) arguments) _
+      (if_all (λ ends. Each (ParameterFrom (In ends) R))
+      (parameters_by (under (codes "parameters") pairs) arguments)
+      (λ ends. parameters_are (In ends) R (OfArguments files (used_files root ends) arguments)
+      (begins files (used_files root ends) arguments root (root_used ends))
+      (under (codes "parameters") pairs) arguments (arguments_known arguments)
+      (under_in R (codes "parameters") pairs within)))
+      (λ parameters are. ends_then (λ ends one. NodeFrom (In ends) one.node)
+      (pairs_expanded root place pairs parameters (opens_of files (home_of root pairs))) _
+      (λ ends. pairs_expanded_give (In ends) (λ file. In ends) (IsIn files)
+      (Contains (used_files root ends)) (U ends)
+      (known_crossing files (used_files root ends) arguments)
+      (λ file. known_inside files (used_files root ends) arguments)
+      (known_inside files (used_files root ends) arguments)
+      (opens_of files (home_of root pairs))
+      (opens_known (used_files root ends) files (home_of root pairs)) root
+      (OfArguments files (used_files root ends) arguments)
+      (begins files (used_files root ends) arguments root (root_used ends))
+      (λ one. NodeFrom (In ends) one.node) (finishes ends) place pairs parameters here within
+      (are ends))
+      (λ one ends is. is)))
+
+  bare_known :
+      (node : Node) (parameters : List Parameter) → NodeIn R node →
+      ((ends : List FileKey) → Each (ParameterFrom (In ends) R) parameters) →
+      IfOk (bare_expanded files root node (first_frame root parameters)) TreeKnown
+  bare_known node parameters within are =
+      ends_then (λ ends. OneFrom (In ends))
+      (expanded node (followed 100 (opens_of files (bare_home root))) (first_frame root parameters)
+      Free 0 []) _
+      (λ ends. expanded_gives (In ends) R (U ends) node within (Unit {0})
+      (followed 100 (opens_of files (bare_home root))) (first_frame root parameters) Free 0 []
+      (followed_gives (In ends) (IsIn files) (Contains (used_files root ends)) (U ends)
+      (known_inside files (used_files root ends) arguments) (opens_of files (bare_home root))
+      (opens_known (used_files root ends) files (bare_home root)) 100)
+      (λ h. root_frame_from (In ends) R (OfArguments files (used_files root ends) arguments)
+      (begins files (used_files root ends) arguments root (root_used ends)) root parameters _
+      (are ends)))
+      (λ one ends is. is)
+
+  other_known : (node : Node) → NodeIn R node →
+      IfOk (other_expanded files root node arguments) TreeKnown
+  other_known node within =
+      ok_then (λ parameters. (ends : List FileKey) → Each (ParameterFrom (In ends) R) parameters)
+      TreeKnown (parameters_by None arguments) _
+      (if_all (λ ends. Each (ParameterFrom (In ends) R)) (parameters_by None arguments)
+      (λ ends. parameters_are (In ends) R (OfArguments files (used_files root ends) arguments)
+      (begins files (used_files root ends) arguments root (root_used ends)) None arguments
+      (arguments_known arguments) tt))
+      (λ parameters are. bare_known node parameters within are)
+
+  body_known :
+      (body : Body) (node : Node) → NodeIn R node → BodyIn R body →
+      IfOk (body_expanded_by body files root node arguments) TreeKnown
+  body_known (Map pairs) node within below =
+      mapping_known node.place pairs (node_in R node within).0 below
+  body_known (Scalar text) node within below = other_known node within
+  body_known (Seq items) node within below = other_known node within
+
+  tree_known : IfOk (tree_of files root arguments) TreeKnown
+  tree_known =
+      ok_then (NodeIn R) TreeKnown (root_node root (finite.get files root)) _
+      (root_stands files root)
+      (λ node within. body_known (body_of node) node within (node_in R node within).1)
+
+pub known : OriginsAreKnown
+unfolding NodeFrom
+known files root arguments =
+    ok_then (TreeKnown files root arguments)
+    (λ (one : Expanded). Each (IsKnown files one.used arguments) (origins_of one.tree))
+    (tree_of files root arguments) _ (tree_known files root arguments)
+    (λ one is. is)

@@ -1,0 +1,371 @@
+-- The pairs of a root file, and the tree of the whole.
+use Rattle.std.proofs.Common.{◌≡◌, ℕ, Bool, true, false, cond, Option, Some, None, Result, Ok, Err}
+use Rattle.std.proofs.Common.{List, [], ◌∷◌, ◌++◌, refl, sym, subst}
+use Rattle.std.specs.Prelude.{IfOk, codes}
+use Rattle.std.specs.List.{AllByRecursion as Each}
+use Rattle.pl_base.specs.Places.{place_at}
+use Rattle.pl_base.specs.declared.expanded.Argument.{Argument as RunArgument}
+use Rattle.pl_base.specs.declared.origin.Crossing.{Crossing}
+use Rattle.pl_base.specs.declared.origin.Crossing.TheVariants.{Argument, Made}
+use Rattle.pl_base.specs.declared.origin.Origin.{Origin}
+use Rattle.pl_base.specs.declared.place.FileKey.{FileKey}
+use Rattle.pl_base.specs.declared.place.Place.{Place}
+use Rattle.pl_base.specs.declared.node.Node.{Node}
+use Rattle.pl_base.specs.declared.node.NodePair.{NodePair}
+use Rattle.pl_base.specs.declared.value.Value.{Str}
+use Rattle.pl_base.specs.declared.value.MarkedNode.{MarkedNode}
+use Rattle.pl_frame.specs.declared.frame.Frame.{Frame}
+use Rattle.pl_frame.specs.declared.frame.Parameter.{Parameter}
+use Rattle.pl_frame.specs.declared.frame.Variable.{Variable}
+use Rattle.pl_frame.specs.Origins.{literal_at}
+use Rattle.pl_line.specs.declared.code.YamlCode.{YamlCode}
+use Rattle.pl_literal.specs.Literal.{literal, origin_at}
+use Rattle.pl_params.specs.declared.given.Given.{Given}
+use Rattle.pl_params.specs.declared.kind.ParamKind.{ParamKind}
+use Rattle.pl_params.specs.declared.param.Param.{Param}
+use Rattle.pl_yaml.specs.Spells as yaml
+use Rattle.pl_directives.specs.declared.manner.Kind.TheVariants as content
+use Rattle.pl_directives.specs.declared.progress.Chain.TheVariants.{Closed}
+use Rattle.pl_directives.specs.declared.progress.Progress.{Progress}
+use Rattle.pl_directives.specs.declared.region.Form.TheVariants.{Variables as InVariables}
+use Rattle.pl_directives.specs.declared.region.Region.TheVariants.{Free, Calls}
+use Rattle.pl_directives.specs.Contents.{begun, with_chain, with_count}
+use Rattle.pl_directives.specs.Counting.{entered}
+use Rattle.pl_calls.specs.Parameters.{declared_by}
+use Rattle.pl_calls.specs.Parts.{under}
+use Rattle.pl_calls.specs.Reaching.{Opens}
+use Rattle.pl_expanding.specs.Expanding.{expanded, entry_of, pair_behind}
+use Rattle.pl_expanding.specs.Levels.{followed}
+use Rattle.pl_eval_laws.specs.Trees.{origins_of}
+use Rattle.pl_eval_laws.proofs.Lists.{Has, each_append, each_implies}
+use Rattle.pl_eval_laws.proofs.Trees.{NodeFrom, PairFrom, node_from, pair_from, text_from}
+use Rattle.pl_origins.proofs.Bound.{ParamIn, BoundFrom, Takeable, declared_in, bound_to_from}
+use Rattle.pl_origins.proofs.Bound.{parameters_from, literal_from, Stands}
+use Rattle.pl_origins.proofs.Called.{Borders, OpensFrom}
+use Rattle.pl_origins.proofs.Contents.{ProgressFrom, put_pair_from}
+use Rattle.pl_origins.proofs.Expanded.{entry_from, expanded_gives, pair_gives}
+use Rattle.pl_origins.proofs.Following.{FollowFrom}
+use Rattle.pl_origins.proofs.Frames.{FrameFrom, ParameterFrom}
+use Rattle.pl_origins.proofs.Nodes.{NodeIn, PairIn, pair_in, under_in}
+use Rattle.pl_origins.proofs.Scalars.{OneFrom}
+use Rattle.pl_origins.proofs.Steps.{Gives, ok_then, any_then, plain_then}
+use Rattle.pl_origins.proofs.Steps.{used_then, alone_gives, done_gives}
+use Rattle.pl_expand.specs.declared.extending.Extension.{Extension}
+use Rattle.pl_expand.specs.declared.filling.Early.{Early}
+use Rattle.pl_expand.specs.declared.filling.RootFilling.{RootFilling}
+use Rattle.pl_expand.specs.declared.root.RootNode.{RootNode}
+use Rattle.pl_expand.specs.declared.root_key.RootKey.{RootKey}
+use Rattle.pl_expand.specs.declared.root_key.RootKey.TheVariants as key
+use Rattle.pl_expand.specs.Extending.{extended}
+use Rattle.pl_expand.specs.Tree.{argument_file, whole_text, read_told, is_text}
+use Rattle.pl_expand.specs.Tree.{argument_value, kind_for, argument_given, arguments_given, bound_by}
+use Rattle.pl_expand.specs.Tree.{parameters_by, root_frame, first_frame, early_by, root_key}
+use Rattle.pl_expand.specs.Tree.{put_variables, filled_with, ordinary_pair, extends_pair}
+use Rattle.pl_expand.specs.Tree.{passed_over, variables_pair, root_pair, given_to, early_behind}
+use Rattle.pl_expand.specs.Tree.{root_pairs, root_object, second_frame, root_from}
+use Rattle.pl_expand.specs.Tree.{filled_root, pairs_expanded}
+use Rattle.pl_provenance.specs.Roots.{jobs_of}
+use Rattle.pl_provenance.proofs.Extended.{ExtendsBorder, ExtensionFrom, extended_gives, levels_follow}
+use Rattle.pl_provenance.proofs.Joined.{tree_from}
+
+-- What must be so in the root's own frame. A holds of the places of a run argument.
+pub record RootBorder (P : Origin → Type 0) (R : Place → Type 0)
+    (A : RunArgument → Place → Type 0) : Type 0 where
+  pub literal : (place : Place) → R place → P (record { source = place; crossings = [] })
+  pub made : (place : Place) → R place → P (record { source = place; crossings = Made ∷ [] })
+  pub argument :
+      (argument : RunArgument) (source : Place) → A argument source → (parameter : List ℕ)
+      (place : Place) → R place →
+      P (record { source = source; crossings = Argument parameter place ∷ [] })
+
+-- the places of a run argument: the whole text's, and those of what it spells
+abbrev pub ArgumentIn : (RunArgument → Place → Type 0) → RunArgument → Type 0
+ArgumentIn A argument =
+    A argument (place_at (argument_file argument.name) 1 1)
+    × IfOk (yaml.spells (argument_file argument.name) argument.text) (NodeIn (A argument))
+
+-- ---- the root's parameters
+
+module _ (P : Origin → Type 0) (R : Place → Type 0) (A : RunArgument → Place → Type 0)
+    (border : RootBorder P R A) where
+  abbrev G : Origin → Type 0
+  G = Takeable P R [] border.literal
+
+  takes_argument :
+      (argument : RunArgument) (origin : Origin) → A argument origin.source →
+      origin.crossings ≡ [] → G origin
+  takes_argument argument origin stands none parameter place here =
+      subst (λ (crossings : List Crossing). P (record {
+        source = origin.source;
+        crossings = crossings ++ Argument parameter place ∷ [];
+      })) (sym none) (border.argument argument origin.source stands parameter place here)
+
+  whole_from : (argument : RunArgument) → ArgumentIn A argument → NodeFrom G (whole_text argument)
+  whole_from argument within =
+      node_from G (origin_at [] (place_at (argument_file argument.name) 1 1)) (Str argument.text)
+      (takes_argument argument _ within.0 refl) (text_from G argument.text)
+
+  written_from : (argument : RunArgument) (node : Node) → NodeIn (A argument) node →
+      NodeFrom G (literal [] node)
+  unfolding NodeFrom
+  written_from argument node within =
+      each_implies (Stands (A argument) []) G
+      (λ origin stands. takes_argument argument origin stands.0 stands.1)
+      (origins_of (literal [] node)) (literal_from (A argument) [] node within)
+
+  read_from :
+      (argument : RunArgument) (told : Result Node (YamlCode × Place)) →
+      IfOk told (NodeIn (A argument)) → IfOk (read_told told) (NodeFrom G)
+  read_from argument (Ok node) within = written_from argument node within
+  read_from argument (Err told) within = tt
+
+  value_by : (argument : RunArgument) → ArgumentIn A argument → (b : Bool) →
+      IfOk (cond b (Ok (whole_text argument))
+      (read_told (yaml.spells (argument_file argument.name) argument.text))) (NodeFrom G)
+  value_by argument within true = whole_from argument within
+  value_by argument within false =
+      read_from argument (yaml.spells (argument_file argument.name) argument.text) within.1
+
+  value_given : (of : Option ParamKind) (argument : RunArgument) → ArgumentIn A argument →
+      IfOk (argument_value of argument) (NodeFrom G)
+  value_given None argument within = whole_from argument within
+  value_given (Some of) argument within = value_by argument within (is_text of)
+
+  abbrev GivenFrom : Given → Type 0
+  GivenFrom one = NodeFrom G one.value
+
+  one_given : (declared : List Param) (argument : RunArgument) → ArgumentIn A argument →
+      IfOk (argument_given declared argument) GivenFrom
+  one_given declared argument within =
+      ok_then (NodeFrom G) GivenFrom
+      (argument_value (kind_for declared argument.name) argument) _
+      (value_given (kind_for declared argument.name) argument within) (λ one all. all)
+
+  all_given :
+      (declared : List Param) (arguments : List RunArgument) (before : List Given) →
+      Each (ArgumentIn A) arguments → Each GivenFrom before →
+      IfOk (arguments_given declared arguments before) (Each GivenFrom)
+  all_given declared [] before within all = all
+  all_given declared (argument ∷ arguments) before within all =
+      ok_then GivenFrom (Each GivenFrom) (argument_given declared argument) _
+      (one_given declared argument within.0)
+      (λ one is. all_given declared arguments (before ++ one ∷ []) within.1
+      (each_append GivenFrom before (one ∷ []) all (is, tt)))
+
+  bound_from : (declared : List Param) (arguments : List RunArgument) →
+      Each (ArgumentIn A) arguments → Each (ParamIn R) declared →
+      IfOk (bound_by declared arguments) (Each (BoundFrom G R))
+  bound_from declared arguments given_in within =
+      ok_then (Each GivenFrom) (Each (BoundFrom G R)) (arguments_given declared arguments []) _
+      (all_given declared arguments [] given_in tt)
+      (λ given all. bound_to_from G R declared given within all)
+
+  pub parameters_are :
+      (node : Option Node) (arguments : List RunArgument) → Each (ArgumentIn A) arguments →
+      Has (NodeIn R) node → IfOk (parameters_by node arguments) (Each (ParameterFrom P R))
+  parameters_are node arguments given_in within =
+      ok_then (Each (ParamIn R)) (Each (ParameterFrom P R)) (declared_by node) _
+      (declared_in R node within)
+      (λ declared stands. ok_then (Each (BoundFrom G R)) (Each (ParameterFrom P R))
+      (bound_by declared arguments) _ (bound_from declared arguments given_in stands)
+      (λ bound are. parameters_from P R [] border.literal declared bound stands are))
+
+  pub root_frame_from :
+      (root : FileKey) (parameters : List Parameter) (variables : List Variable) →
+      Each (ParameterFrom P R) parameters → FrameFrom P R (root_frame root parameters variables)
+  root_frame_from root parameters variables are = record {
+    literal = border.literal;
+    made = border.made;
+    parameters = are;
+    loops = tt;
+  }
+
+-- ---- the root's pairs
+
+module _ (P : Origin → Type 0) (T : FileKey → Origin → Type 0) (R : FileKey → Place → Type 0)
+    (K : FileKey → Type 0) (U : List FileKey → Type 0) (border : ExtendsBorder P T R K)
+    (inside : (file : FileKey) → Borders (T file) R K) (outside : Borders P R K) (opens : Opens)
+    (opening : OpensFrom R K U opens) (root : FileKey) where
+  abbrev pub FillingFrom : RootFilling → Type 0
+  FillingFrom filling =
+      ProgressFrom P filling.progress × Has (ExtensionFrom T) filling.extension
+
+  follows : (levels : ℕ) → FollowFrom P U (followed levels opens)
+  follows levels = levels_follow P T R K U border inside outside opens opening levels
+
+  ordinary_gives :
+      (pair : NodePair) (H : Type 0) (frame : Frame) (filling : RootFilling)
+      (used : List FileKey) → PairIn (R root) pair → (H → FrameFrom P (R root) frame) →
+      (H → FillingFrom filling) →
+      Gives U H used (ordinary_pair pair opens frame filling used) FillingFrom
+  ordinary_gives pair H frame filling used within from all =
+      used_then U (ProgressFrom P) FillingFrom H used
+      (pair_behind (entry_of pair) (followed 100 opens) frame Free filling.progress used) _
+      (pair_gives P (R root) U (followed 100 opens) (follows 100) (entry_of pair)
+      (entry_from P (R root) U pair within) H frame Free filling.progress used from
+      (λ h. (all h).0))
+      (λ after later. done_gives U FillingFrom (H × ProgressFrom P after) later
+      (filled_with filling.extension after) (λ h. (h.1, (all h.0).1)))
+
+  extends_gives :
+      (pair : NodePair) (H : Type 0) (frame : Frame) (filling : RootFilling)
+      (used : List FileKey) → PairIn (R root) pair → (H → FrameFrom P (R root) frame) →
+      (H → FillingFrom filling) →
+      Gives U H used (extends_pair pair opens frame filling used) FillingFrom
+  extends_gives pair H frame filling used within from all =
+      used_then U (ExtensionFrom T) FillingFrom H used
+      (extended opens pair.item frame filling.progress.count used) _
+      (extended_gives P T R K U border inside outside opens opening root pair.item H frame
+      filling.progress.count used (pair_in (R root) pair within).1 from)
+      (λ extension later. done_gives U FillingFrom (H × ExtensionFrom T extension) later
+      (filled_with (Some extension)
+      (with_chain Closed (with_count extension.count filling.progress)))
+      (λ h. ((all h.0).0, h.1)))
+
+  variables_give :
+      (node : MarkedNode) (pair : NodePair) (frame : Frame) (filling : RootFilling) →
+      PairIn (R root) pair → FrameFrom P (R root) frame → NodeFrom P node → FillingFrom filling →
+      IfOk (variables_pair node pair frame filling) FillingFrom
+  variables_give node pair frame filling within from own all =
+      ok_then (ProgressFrom P) FillingFrom (put_variables node pair frame filling.progress) _
+      (put_pair_from P _ filling.progress.count filling.progress
+      (pair_from P pair.key (literal_at frame pair.key_place) node
+      (from.literal pair.key_place (pair_in (R root) pair within).0) own) all.0)
+      (λ after is. (is, all.1))
+
+  pair_gives_root :
+      (of : RootKey) (early : Option MarkedNode) (pair : NodePair) (H : Type 0) (frame : Frame)
+      (filling : RootFilling) (used : List FileKey) → PairIn (R root) pair →
+      (H → FrameFrom P (R root) frame) → (H → Has (NodeFrom P) early) →
+      (H → FillingFrom filling) →
+      Gives U H used (root_pair of early pair opens frame filling used) FillingFrom
+  pair_gives_root key.Parameters early pair H frame filling used within from known all =
+      done_gives U FillingFrom H used (passed_over filling) all
+  pair_gives_root key.Resources early pair H frame filling used within from known all =
+      done_gives U FillingFrom H used (passed_over filling) all
+  pair_gives_root key.Extends early pair H frame filling used within from known all =
+      extends_gives pair H frame filling used within from all
+  pair_gives_root key.Variables (Some node) pair H frame filling used within from known all =
+      alone_gives U FillingFrom H used (variables_pair node pair frame filling)
+      (λ h. variables_give node pair frame filling within (from h) (known h) (all h))
+  pair_gives_root key.Variables None pair H frame filling used within from known all =
+      ordinary_gives pair H frame filling used within from all
+  pair_gives_root key.Other early pair H frame filling used within from known all =
+      ordinary_gives pair H frame filling used within from all
+
+  to_pair : (of : RootKey) (early : Option MarkedNode) → Has (NodeFrom P) early →
+      Has (NodeFrom P) (given_to of early)
+  to_pair key.Parameters early known = tt
+  to_pair key.Resources early known = tt
+  to_pair key.Extends early known = tt
+  to_pair key.Variables early known = known
+  to_pair key.Other early known = tt
+
+  to_rest : (of : RootKey) (early : Option MarkedNode) → Has (NodeFrom P) early →
+      Has (NodeFrom P) (early_behind of early)
+  to_rest key.Parameters early known = known
+  to_rest key.Resources early known = known
+  to_rest key.Extends early known = known
+  to_rest key.Variables early known = tt
+  to_rest key.Other early known = known
+
+  pairs_give_root :
+      (early : Option MarkedNode) (pairs : List NodePair) (H : Type 0) (frame : Frame)
+      (filling : RootFilling) (used : List FileKey) → Each (PairIn (R root)) pairs →
+      (H → FrameFrom P (R root) frame) → (H → Has (NodeFrom P) early) →
+      (H → FillingFrom filling) →
+      Gives U H used (root_pairs early pairs opens frame filling used) FillingFrom
+  pairs_give_root early [] H frame filling used within from known all =
+      done_gives U FillingFrom H used filling all
+  pairs_give_root early (pair ∷ pairs) H frame filling used within from known all =
+      let of = root_key pair.key in
+      used_then U FillingFrom FillingFrom H used
+      (root_pair of (given_to of early) pair opens frame filling used)
+      (root_pairs (early_behind of early) pairs opens frame)
+      (pair_gives_root of (given_to of early) pair H frame filling used within.0 from
+      (λ h. to_pair of early (known h)) all)
+      (λ after later. pairs_give_root (early_behind of early) pairs (H × FillingFrom after) frame
+      after later within.1 (λ h. from h.0) (λ h. to_rest of early (known h.0)) (λ h. h.1))
+
+  -- ---- the root's tree
+
+  abbrev pub RootNodeFrom : RootNode → Type 0
+  RootNodeFrom one =
+      (file : FileKey) → one.extends ≡ Some file → Each (PairFrom (T file)) (jobs_of one.node)
+
+  same_file :
+      (tree : MarkedNode) (extended file : FileKey) → Some extended ≡ Some file →
+      Each (PairFrom (T extended)) (jobs_of tree) → Each (PairFrom (T file)) (jobs_of tree)
+  same_file tree extended file same all =
+      let is : extended ≡ file = cc in
+      subst (λ (one : FileKey). Each (PairFrom (T one)) (jobs_of tree)) is all
+
+  no_file : (tree : MarkedNode) (file : FileKey) → ◌≡◌ {A = Option FileKey} None (Some file) →
+      Each (PairFrom (T file)) (jobs_of tree)
+  no_file tree file none = absurd (cc)
+
+  pub root_by :
+      (origin : Origin) (progress : Progress) (extension : Option Extension) →
+      Has (ExtensionFrom T) extension →
+      IfOk (root_from origin (filled_with extension progress)) RootNodeFrom
+  root_by origin progress None all =
+      any_then RootNodeFrom (root_object None origin progress.content) _
+      (λ tree file is. no_file tree file is)
+  root_by origin progress (Some extension) all =
+      ok_then (λ tree. Each (PairFrom (T extension.file)) (jobs_of tree)) RootNodeFrom
+      (root_object (Some extension) origin progress.content) _
+      (tree_from (T extension.file) extension origin progress.content all)
+      (λ tree are file is. same_file tree extension.file file is are)
+
+  abbrev EarlyFrom : Early → Type 0
+  EarlyFrom early = Has (NodeFrom P) early.node
+
+  early_gives :
+      (node : Option Node) (H : Type 0) (frame : Frame) (count : ℕ) (used : List FileKey) →
+      Has (NodeIn (R root)) node → (H → FrameFrom P (R root) frame) →
+      Gives U H used (early_by node (followed 100 opens) frame count used) EarlyFrom
+  early_gives None H frame count used within from =
+      done_gives U EarlyFrom H used (record { node = None; count = count }) (λ h. tt)
+  early_gives (Some node) H frame count used within from =
+      used_then U (OneFrom P) EarlyFrom H used
+      (expanded node (followed 100 opens) frame (Calls InVariables) count used) _
+      (expanded_gives P (R root) U node within H (followed 100 opens) frame (Calls InVariables)
+      count used (follows 100) from)
+      (λ one later. done_gives U EarlyFrom (H × OneFrom P one) later
+      (record { node = Some one.node; count = one.count }) (λ h. h.1))
+
+  module _ (A : RunArgument → Place → Type 0) (own : RootBorder P (R root) A)
+      (N : RootNode → Type 0)
+      (finishes : (origin : Origin) (filling : RootFilling) → P origin → FillingFrom filling →
+      IfOk (root_from origin filling) N) where
+    filled_gives :
+        (place : Place) (pairs : List NodePair) (parameters : List Parameter) (H : Type 0)
+        (early : Early) (used : List FileKey) → R root place → Each (PairIn (R root)) pairs →
+        Each (ParameterFrom P (R root)) parameters → (H → EarlyFrom early) →
+        Gives U H used (filled_root root place pairs parameters opens early used) N
+    filled_gives place pairs parameters H early used here within are known =
+        let frame = second_frame root parameters early.node in
+        let start = filled_with None (begun content.Pairs Closed early.count) in
+        used_then U FillingFrom N H used
+        (root_pairs early.node pairs opens frame start used) _
+        (pairs_give_root early.node pairs H frame start used within
+        (λ h. root_frame_from P (R root) A own root parameters _ are) known (λ h. (tt, tt)))
+        (λ filling later. alone_gives U N (H × FillingFrom filling) later
+        (root_from (literal_at frame place) filling)
+        (λ h. finishes (literal_at frame place) filling (own.literal place here) h.1))
+
+    pub pairs_expanded_give :
+        (place : Place) (pairs : List NodePair) (parameters : List Parameter) → R root place →
+        Each (PairIn (R root)) pairs → Each (ParameterFrom P (R root)) parameters →
+        Gives U (Unit {0}) [] (pairs_expanded root place pairs parameters opens) N
+    pairs_expanded_give place pairs parameters here within are =
+        plain_then U N (Unit {0}) [] (entered place 0) _
+        (λ count. used_then U EarlyFrom N (Unit {0}) []
+        (early_by (under (codes "variables") pairs) (followed 100 opens)
+        (first_frame root parameters) count [])
+        (filled_root root place pairs parameters opens)
+        (early_gives (under (codes "variables") pairs) (Unit {0}) (first_frame root parameters)
+        count [] (under_in (R root) (codes "variables") pairs within)
+        (λ h. root_frame_from P (R root) A own root parameters _ are))
+        (λ early later. filled_gives place pairs parameters (Unit {0} × EarlyFrom early) early
+        later here within are (λ h. h.1)))

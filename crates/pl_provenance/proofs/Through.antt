@@ -1,0 +1,90 @@
+-- Jobs come through the template that the root extends.
+use Rattle.std.proofs.Common.{◌≡◌, Some, List, [], ◌∷◌, ◌++◌, refl, ◌∙◌}
+use Rattle.std.specs.FinMap as finite
+use Rattle.std.specs.List.{AllByRecursion as Each}
+use Rattle.pl_base.specs.declared.expanded.Argument.{Argument as RunArgument}
+use Rattle.pl_base.specs.declared.expanded.Expanded.{Expanded}
+use Rattle.pl_base.specs.declared.origin.Crossing.{Crossing}
+use Rattle.pl_base.specs.declared.origin.Crossing.TheVariants.{Extends, Include, Argument, Made}
+use Rattle.pl_base.specs.declared.origin.Origin.{Origin}
+use Rattle.pl_base.specs.declared.place.FileKey.{FileKey}
+use Rattle.pl_base.specs.declared.place.Place.{Place}
+use Rattle.pl_yaml.specs.Spells as yaml
+use Rattle.pl_calls.specs.Reaching.{opens as opens_of}
+use Rattle.pl_eval_laws.proofs.Lists.{each_of}
+use Rattle.pl_eval_laws.proofs.Trees.{PairFrom}
+use Rattle.pl_origins.specs.Through.{extended_in}
+use Rattle.pl_origins.proofs.Kept.{any_ok, NoPlace, NoFile, opens_anything, extended_last}
+use Rattle.pl_origins.proofs.Kept.{Extending, kept}
+use Rattle.pl_origins.proofs.Nodes.{NodeIn, anywhere}
+use Rattle.pl_origins.proofs.Steps.{ok_then}
+use Rattle.pl_expand.specs.Tree.{argument_file, root_node, tree_of}
+use Rattle.pl_provenance.specs.Roots.{jobs_of, IsPairThrough, StepsComeThrough}
+use Rattle.pl_provenance.proofs.Extended.{ExtendsBorder}
+use Rattle.pl_provenance.proofs.Rooted.{RootBorder, ArgumentIn}
+use Rattle.pl_provenance.proofs.Whole.{TreeFrom, tree_jobs}
+
+pub extends_one :
+    (crossings : List Crossing) (file : FileKey) → extended_in crossings ≡ [] →
+    extended_in (crossings ++ Extends file ∷ []) ≡ file ∷ []
+extends_one [] file none = refl
+extends_one (Extends other ∷ crossings) file none = absurd (cc)
+extends_one (Include other at ∷ crossings) file none = extends_one crossings file none
+extends_one (Argument name at ∷ crossings) file none = extends_one crossings file none
+extends_one (Made ∷ crossings) file none = extends_one crossings file none
+
+abbrev pub Before : Origin → Type 0
+Before = Extending []
+
+abbrev pub Behind : FileKey → Origin → Type 0
+Behind file = Extending (file ∷ [])
+
+-- across the border `extends`, whatever K and R say
+pub crosses : (R : FileKey → Place → Type 0) → ExtendsBorder Before Behind R NoFile
+crosses R = record {
+  literal = λ key path place known own here. extends_one path.crossings key own;
+  made =
+      λ key path place known own here.
+      extended_last (path.crossings ++ Extends key ∷ []) Made refl
+      ∙ extends_one path.crossings key own;
+  argument =
+      λ key one name place known own here.
+      extended_last (one.crossings ++ Extends key ∷ []) (Argument name place) refl
+      ∙ extends_one one.crossings key own;
+}
+
+abbrev pub AnyArgument : RunArgument → Place → Type 0
+AnyArgument argument place = Unit {0}
+
+pub any_arguments : (arguments : List RunArgument) → Each (ArgumentIn AnyArgument) arguments
+any_arguments arguments =
+    each_of (ArgumentIn AnyArgument)
+    (λ argument. (
+      tt,
+      any_ok (NodeIn (AnyArgument argument))
+          (anywhere (AnyArgument argument) (λ place. tt))
+          (yaml.spells (argument_file argument.name) argument.text),
+    ))
+    arguments
+
+pub begins : (R : Place → Type 0) → RootBorder Before R AnyArgument
+begins R = record {
+  literal = λ place here. refl;
+  made = λ place here. refl;
+  argument = λ argument source stands parameter place here. refl;
+}
+
+pub steps_through : StepsComeThrough
+unfolding PairFrom
+steps_through files root arguments file =
+    ok_then
+    (TreeFrom Before Behind NoPlace NoFile (crosses NoPlace) (λ file. kept (file ∷ [])) (kept [])
+    files (λ home. opens_anything (opens_of files home)) root AnyArgument (begins (NoPlace root)))
+    (λ (one : Expanded). one.extends ≡ Some file → Each (IsPairThrough file) (jobs_of one.tree))
+    (tree_of files root arguments) _
+    (tree_jobs Before Behind NoPlace NoFile (crosses NoPlace) (λ file. kept (file ∷ [])) (kept [])
+    files (λ home. opens_anything (opens_of files home)) root AnyArgument (begins (NoPlace root))
+    arguments (any_arguments arguments)
+    (any_ok (NodeIn (NoPlace root)) (anywhere (NoPlace root) (λ place. tt))
+    (root_node root (finite.get files root))))
+    (λ one through extends. through file extends)

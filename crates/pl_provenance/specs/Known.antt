@@ -1,0 +1,63 @@
+-- Every origin of an expanded tree tells places that exist: in files that were used, or in the run
+-- arguments.
+use Rattle.std.specs.Prelude.{◌≡◌, ◌⊎◌, List, Ok, Contains, IfOk}
+use Rattle.std.specs.List.{AllByRecursion}
+use Rattle.pl_base.specs.Places.{place_at}
+use Rattle.pl_base.specs.declared.expanded.Argument.{Argument as RunArgument}
+use Rattle.pl_base.specs.declared.node.Node.{Node}
+use Rattle.pl_base.specs.declared.origin.Crossing.{Crossing}
+use Rattle.pl_base.specs.declared.origin.Crossing.TheVariants.{Extends, Include, Argument, Made}
+use Rattle.pl_base.specs.declared.origin.Origin.{Origin}
+use Rattle.pl_base.specs.declared.place.FileKey.{FileKey}
+use Rattle.pl_base.specs.declared.place.Place.{Place}
+use Rattle.pl_yaml.specs.Spells as yaml
+use Rattle.pl_eval_laws.specs.Trees.{origins_of}
+use Rattle.pl_origins.specs.Places.{places_of}
+use Rattle.pl_expand.specs.Tree.{Set, argument_file, expansion}
+use Rattle.pl_provenance.specs.Written.{StandsInFile}
+
+-- a node or a key of a used file stands there
+pub record IsUsed (files : Set) (used : List FileKey) (place : Place) : Type 0 where
+  pub key : FileKey
+  pub is_used : Contains used key
+  pub stands : StandsInFile files key place
+
+-- a node or a key of what a run argument spells stands there
+pub record IsSpelled (argument : RunArgument) (place : Place) : Type 0 where
+  pub node : Node
+  pub spelled : yaml.spells (argument_file argument.name) argument.text ≡ Ok node
+  pub stands : Contains (places_of node) place
+
+-- a run argument's whole text stands there, or a part of what it spells
+abbrev pub IsOfArgument : RunArgument → Place → Type 0
+IsOfArgument argument place =
+    (place ≡ place_at (argument_file argument.name) 1 1) ⊎ IsSpelled argument place
+
+pub record IsGiven (arguments : List RunArgument) (place : Place) : Type 0 where
+  pub argument : RunArgument
+  pub is_given : Contains arguments argument
+  pub stands : IsOfArgument argument place
+
+abbrev pub IsPlace : Set → List FileKey → List RunArgument → Place → Type 0
+IsPlace files used arguments place = IsUsed files used place ⊎ IsGiven arguments place
+
+-- A border leads into a used file. An item that calls stands in a used file or was given by a run
+-- argument, and an expression that takes a parameter stands in a used file.
+abbrev pub IsBorder : Set → List FileKey → List RunArgument → Crossing → Type 0
+IsBorder files used arguments (Extends file) = Contains used file
+IsBorder files used arguments (Include file at) =
+    Contains used file × IsPlace files used arguments at
+IsBorder files used arguments (Argument name at) = IsUsed files used at
+IsBorder files used arguments Made = Unit {0}
+
+abbrev pub IsKnown : Set → List FileKey → List RunArgument → Origin → Type 0
+IsKnown files used arguments origin =
+    IsPlace files used arguments origin.source
+    × AllByRecursion (IsBorder files used arguments) origin.crossings
+
+-- This is so of each node and each key of every expanded tree.
+abbrev pub OriginsAreKnown : Type 0
+OriginsAreKnown =
+    (files : Set) (root : FileKey) (arguments : List RunArgument) →
+    IfOk (expansion files root arguments)
+    (λ whole. AllByRecursion (IsKnown files whole.used arguments) (origins_of whole.tree))

@@ -1,0 +1,34 @@
+ghost use Rattle.pl_provenance.specs.Known.{OriginsAreKnown};
+ghost use Rattle.pl_provenance.specs.Roots.{StepsComeThrough};
+ghost use Rattle.pl_provenance.specs.Written.{WrittenWhereTold};
+
+/// Where the root file extends a template, all jobs and steps of the expanded pipeline came through
+/// that template (Microsoft Learn, Azure Pipelines, "Security through templates").
+///
+/// Each key `stages`, `jobs` and `steps` of the tree, and each node and key under it, crossed the
+/// border `extends` just once, and into that template: it is written there or in what is included
+/// there, or it was handed in through the template's parameters, and then its origin tells the
+/// parameter. The root puts no step beside the template's, whatever its expressions, its parameters
+/// and the run arguments are. Nothing is said here of the root's own pairs, of `variables`, `pool`
+/// and `lockBehavior`.
+pub fn steps_come_through_the_template()
+    ensures { StepsComeThrough }
+{}
+
+/// Where the root file extends a template, each node and key of the jobs that no argument and no
+/// expression gave is written in the file of the last border that its origin tells: in the
+/// template, or in the file of the last call that led to it (Microsoft Learn, Azure Pipelines,
+/// "Security through templates").
+pub fn what_no_argument_gave_is_written_where_it_is_told()
+    ensures { WrittenWhereTold }
+{}
+
+/// Each origin in an expanded tree tells places that exist: its source is that of a node or a key
+/// of a used file or of what a run argument spells, each border that it tells leads into a used
+/// file, and each expression that took a parameter stands in a used file. The used files are those
+/// that the expansion tells, the root file among them.
+///
+/// It speaks of every node and key of the whole tree, whatever the root file is.
+pub fn origins_tell_used_files()
+    ensures { OriginsAreKnown }
+{}

@@ -1,0 +1,13 @@
+//! Laws of where the nodes of an expanded pipeline come from.
+#![tactic(auto)]
+
+mod expansion;
+mod laws;
+#[cfg(test)]
+mod tests;
+
+pub use expansion::expand;
+pub use laws::{
+    origins_tell_used_files, steps_come_through_the_template,
+    what_no_argument_gave_is_written_where_it_is_told,
+};
