@@ -1,16 +1,17 @@
 #!/bin/sh
-# Counts by callgrind the instructions of `pl_plan::plan_of` for four pipelines (text.py), those of reading their texts,
-# and their ratio. Needs valgrind. Not a part of the gate.
+# Counts by callgrind the instructions of `pl_plan::plan_of` and of `pl_plan_report::plan_text` for four pipelines
+# (text.py), those of reading their texts, and their ratios. Needs valgrind. Not a part of the gate.
 set -e
 here=$(cd "$(dirname "$0")" && pwd)
 top=$(cd "$here/../.." && pwd)
 work=$(mktemp -d)
 trap 'rm -rf "$work"' EXIT
 mkdir -p "$work/crates/plan/src"
-below='pl_base pl_expr pl_line pl_literal pl_printing pl_schema pl_graph pl_depends pl_uses pl_plan pl_yaml'
+below='pl_base pl_expr pl_line pl_literal pl_printing pl_schema pl_graph pl_depends pl_uses pl_plan pl_report
+pl_plan_report pl_yaml'
 for crate in $below; do cp -r "$top/crates/$crate" "$work/crates/"; done
-grep -E "^($(echo "$below" | tr ' ' '|')):" "$top/crates.txt" >"$work/crates.txt"
-echo "plan: pl_base pl_literal pl_schema pl_plan pl_yaml" >>"$work/crates.txt"
+grep -E "^($(echo "$below" | tr ' \n' '||')):" "$top/crates.txt" >"$work/crates.txt"
+echo "plan: pl_base pl_literal pl_schema pl_plan pl_plan_report pl_yaml" >>"$work/crates.txt"
 cp "$here/plan.rt.in" "$work/crates/plan/src/main.rt"
 cp "$top/HANDLES" "$work/"
 python3 "$here/text.py" steps >"$work/text"
@@ -24,6 +25,7 @@ for name in steps stages jobs legs; do
     read=$(count read)
     pipeline=$(count pipeline)
     plan=$(count plan)
-    echo "$name: $(wc -c <"$work/text") bytes: read $read, plan_of $((plan - pipeline)) instructions"
-    python3 -c "print(f'ratio {($plan - $pipeline) / $read:.2f}')"
+    told=$(count text)
+    echo "$name: $(wc -c <"$work/text") bytes: read $read, plan_of $((plan - pipeline)), plan_text $((told - plan)) instructions"
+    python3 -c "print(f'ratios {($plan - $pipeline) / $read:.2f}, {($told - $plan) / $read:.2f}')"
 done

@@ -84,7 +84,7 @@ counted job e = counted_by (legs_in job.legs) (leg_count job.legs) (length_legs 
 
 -- ---- what passes together passes alone
 
-first_passes : (r : Result (Unit {0}) Fault) (next : Unit {0} → Result (Unit {0}) Fault) →
+pub first_passes : (r : Result (Unit {0}) Fault) (next : Unit {0} → Result (Unit {0}) Fault) →
     (r >>= next) ≡ Ok tt → r ≡ Ok tt
 first_passes (Ok done) next e = refl
 first_passes (Err fault) next e = cc
@@ -94,7 +94,7 @@ rest_passes : (r : Result (Unit {0}) Fault) (next : Unit {0} → Result (Unit {0
 rest_passes (Ok done) next e = e
 rest_passes (Err fault) next e = cc
 
-each_alone : {X : Type 0} (judge : X → Result (Unit {0}) Fault) (xs : List X) →
+pub each_alone : {X : Type 0} (judge : X → Result (Unit {0}) Fault) (xs : List X) →
     each_passes judge xs ≡ Ok tt → AllByRecursion (λ x. judge x ≡ Ok tt) xs
 each_alone judge [] e = tt
 each_alone judge (x ∷ xs) e = (
@@ -102,7 +102,7 @@ each_alone judge (x ∷ xs) e = (
   each_alone judge xs (rest_passes (judge x) (λ done. each_passes judge xs) e),
 )
 
-weaker : {X : Type 0} (P Q : X → Type 0) → ((x : X) → P x → Q x) → (xs : List X) →
+pub weaker : {X : Type 0} (P Q : X → Type 0) → ((x : X) → P x → Q x) → (xs : List X) →
     AllByRecursion P xs → AllByRecursion Q xs
 weaker P Q step [] all = tt
 weaker P Q step (x ∷ xs) all = (step x all.0, weaker P Q step xs all.1)

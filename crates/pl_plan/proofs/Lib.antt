@@ -1,6 +1,12 @@
 pub mod Acyclic
+pub mod Ascending
 pub mod LegCounts
 pub mod LegEdges
+pub mod LegNames
+pub mod Members
+pub mod OneAnswer
+pub mod OneCycle
+pub mod OnePlan
 pub mod Slices
 pub mod Sound
 pub mod Spending

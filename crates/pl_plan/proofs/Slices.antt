@@ -1,5 +1,6 @@
 -- One leg of a matrix more.
-use Rattle.std.proofs.Common.{◌≡◌, ℕ, ◌+◌, Bool, true, false, ◌||◌, cond, Some, None, Ok, Err, Option, List}
+use Rattle.std.proofs.Common.{◌≡◌, ℕ, ◌+◌, Bool, true, false, ◌||◌, cond, Some, None, Ok, Err}
+use Rattle.std.proofs.Common.{Option, List}
 use Rattle.std.proofs.Common.{[], ◌∷◌, ◌++◌, ◌<◌, length, get_or, drop, refl, sym, ap, ◌∙◌}
 use Rattle.std.specs.Prelude.{Result, is_some}
 use Rattle.std.specs.List.{filter_map, cons_option, list_any}

@@ -23,11 +23,12 @@ use Rattle.pl_plan.specs.declared.plan.Plan.{Plan}
 use Rattle.pl_plan.specs.declared.plan.PlanJob.{PlanJob}
 use Rattle.pl_plan.specs.declared.plan.PlanStage.{PlanStage}
 use Rattle.pl_plan.specs.declared.plan.PlanStep.{PlanStep}
-use Rattle.pl_plan.specs.Laws.{edges_by, IsOrderly, waits_of_jobs, waits_of_stages, IsSound}
+use Rattle.pl_plan.specs.Laws.{edges_by, waits_of_jobs, waits_of_stages, Ascend, IsOrderly, IsSound}
 use Rattle.pl_plan.specs.Legs.{legs_of}
 use Rattle.pl_plan.specs.Plans.{plan_leg, plan_job, plan_jobs, plan_stages, stages_of, plan_from}
 use Rattle.pl_plan.specs.Plans.{judged, plan_step}
 use Rattle.pl_plan.proofs.Acyclic.{no_circle}
+use Rattle.pl_plan.proofs.Ascending.{all_uses_ascend}
 use Rattle.pl_plan.proofs.LegCounts.{IsCounted, AreCounted, all_counted}
 use Rattle.pl_plan.proofs.LegEdges.{IsJobEdge, leg_edges, leg_waits, owner, under_both}
 
@@ -166,6 +167,9 @@ all_jobs_orderly pipeline find at (stage ∷ stages) acyclic counted = (
   all_jobs_orderly pipeline find (at + 1) stages acyclic.1 counted.1,
 )
 
+abbrev UsesAscend : PlanStage → Type 0
+UsesAscend stage = Ascend stage.uses
+
 -- ---- the stages of a plan
 
 stage_edges : (pipeline : Pipeline) (find : Finding) (n at : ℕ) (stages : List StageSpec) →
@@ -173,7 +177,8 @@ stage_edges : (pipeline : Pipeline) (find : Finding) (n at : ℕ) (stages : List
     edges_from n (waiting_stages find at stages)
 stage_edges pipeline find n at [] = refl
 stage_edges pipeline find n at (stage ∷ stages) =
-    ap (λ rest. edges_of_one n (stage_waits find at stage.depends) ++ rest) (stage_edges pipeline find (n + 1) (at + 1) stages)
+    ap (λ rest. edges_of_one n (stage_waits find at stage.depends) ++ rest)
+    (stage_edges pipeline find (n + 1) (at + 1) stages)
 
 stage_lengths : (pipeline : Pipeline) (find : Finding) (at : ℕ) (stages : List StageSpec) →
     length (waits_of_stages (plan_stages pipeline find at stages)) ≡
@@ -206,6 +211,8 @@ plan_is_sound pipeline none passed =
           (recursion_from_All (λ stage. IsAcyclic (job_graph stage.jobs)) pipeline.stages
           none.of_jobs)
           (all_counted pipeline.stages passed));
+      uses = All-from_recursion UsesAscend (stages_of pipeline)
+          (all_uses_ascend pipeline find 0 pipeline.stages);
     }
 
 pub made_is_sound : (pipeline : Pipeline) (judges walks : List StageSpec) (plan : Plan) →

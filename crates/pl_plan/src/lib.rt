@@ -4,6 +4,8 @@
 #![tactic(auto)]
 
 mod jobs;
+mod labels;
+mod laws;
 mod legs;
 mod limits;
 mod plan;
@@ -11,6 +13,8 @@ mod planning;
 mod stages;
 mod steps;
 
+pub use labels::label_of;
+pub use laws::plan_laws;
 pub use pl_depends::{PlanCode, PlanFault};
 pub use pl_uses::Demand;
 pub use plan::{Compiled, Plan, PlanJob, PlanStage, PlanStep, Sources};

@@ -1,6 +1,7 @@
 ghost use Rattle.std.specs.Prelude.{◌≡◌, IfOk};
 ghost use Rattle.pl_depends.specs.Gives.{Gives, Means};
-ghost use Rattle.pl_plan.specs.Laws.{IsSound};
+ghost use Rattle.pl_plan.specs.Laws.{IsAsWritten, IsSound};
+ghost use Rattle.pl_plan.specs.Planned.{IsPlanned};
 ghost use Rattle.pl_plan.specs.Plans as spec;
 ghost use Rattle.pl_plan.specs.Plans.{IsPlanOf};
 
@@ -69,10 +70,13 @@ fn plan_from(alloc: Global, pipeline: &Pipeline) -> Result<Plan, Memory>
 ///   waits for the next one and the last one for the first.
 ///
 /// What a stage of the plan waits for are places of the plan's list, and what a job waits for are
-/// places of its stage's list, and neither has a circle. Memory may come at any time.
+/// places of its stage's list, and neither has a circle. What a stage uses ascends by kind and
+/// name, each once. Memory may come at any time.
 pub fn plan_of(alloc: Global, pipeline: &Pipeline) -> Result<Plan, PlanFault>
     ensures is { Means result (IsPlanOf pipeline.now) }
     ensures sound { IfOk result (λ plan. IsSound plan) }
+    ensures written { IfOk result (λ plan. IsAsWritten pipeline.now plan) }
+    ensures planned { IfOk result (λ plan. IsPlanned pipeline.now plan) }
 {
     judge(alloc, pipeline.stages.as_slice())?;
     judge_cycles(alloc, pipeline.stages.as_slice())?;

@@ -6,5 +6,5 @@ mod lines;
 mod tests;
 mod trees;
 
-pub use lines::{push_key, push_place, refusal_line};
+pub use lines::{push_key, push_place, push_word, refusal_line};
 pub use trees::tree_text;

@@ -4,8 +4,9 @@ ghost use Rattle.pl_report.specs.Places.{and_word, key_text, place_text, refusal
 use pl_base::{FileKey, List, Memory, Place, Refusal, Text};
 use std::alloc::Global;
 
-/// Puts a word behind a text, parted by a space.
-fn push_word(text: &mut Text, word: &str) -> Result<(), Memory>
+/// Puts a word behind a text, parted by a space. Memory where memory is wanting; then the space may
+/// stand there alone.
+pub fn push_word(text: &mut Text, word: &str) -> Result<(), Memory>
     ensures { OnOk result (text.new ≡ text.old ++ and_word word.now) }
 {
     text.push_str(" ")?;
