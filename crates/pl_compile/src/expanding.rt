@@ -1,8 +1,14 @@
-ghost use Rattle.std.specs.Prelude.{Result as Answer};
+ghost use Rattle.std.specs.Prelude.{◌≡◌, Some, Ok, IfOk, Result as Answer};
+ghost use Rattle.std.specs.List.{AllByRecursion};
+ghost use Rattle.pl_base.specs.declared.place.FileKey.{FileKey as Key};
 ghost use Rattle.pl_base.specs.declared.expanded.Expanded.{Expanded as Tree};
 ghost use Rattle.pl_directives.specs.Gives.{Gives};
 ghost use Rattle.pl_directives.specs.declared.fault.ExpandFault.{ExpandFault as Fault};
-ghost use Rattle.pl_compile.specs.Reading.{tree_of};
+ghost use Rattle.pl_eval_laws.specs.Trees.{origins_of};
+ghost use Rattle.pl_provenance.specs.Known.{IsKnown};
+ghost use Rattle.pl_provenance.specs.Roots.{IsPairThrough, jobs_of};
+ghost use Rattle.pl_provenance.specs.Written.{ArePairsWhereTold};
+ghost use Rattle.pl_compile.specs.Reading.{read_all, tree_of};
 ghost use Rattle.pl_compile.specs.Refusals.{Tells};
 
 use crate::fault::CompileFault;
@@ -10,12 +16,13 @@ use crate::refusing::refusal_of;
 use crate::text_files::TextFiles;
 use pl_base::{Argument, Expanded, FileKey, FileSet, List};
 use pl_directives::ExpandFault;
-use pl_expand::expand;
+use pl_provenance::expand;
 use std::alloc::Global;
 
 /// What is told of an expansion.
 fn told(alloc: Global, expanded: Result<Expanded, ExpandFault>) -> Result<Expanded, CompileFault>
-    ensures { (meant : Answer Tree Fault) → Gives expanded meant → Tells result meant }
+    ensures meant { (meant : Answer Tree Fault) → Gives expanded meant → Tells result meant }
+    ensures same { IfOk result (λ whole. expanded ≡ Ok whole) }
 {
     match expanded {
         Ok(expanded) => Ok(expanded),
@@ -35,13 +42,27 @@ fn told(alloc: Global, expanded: Result<Expanded, ExpandFault>) -> Result<Expand
 /// Refused with the first code of the expansion, X1 to X16, at its place; where that is X12, X13, X14
 /// or X16 its one detail is the code of what is wrong with the expression, its value, the parameter
 /// or the text. Memory where memory was wanting.
+///
+/// Where the root extends a template, each key `stages`, `jobs` and `steps` of the tree and each node
+/// and key under it crossed the border `extends` just once, and into that template (clause `steps`);
+/// and what of these no argument and no expression gave is written in the file of the last border
+/// that its origin tells (clause `written`). Each origin in the whole tree tells places of used files
+/// or of run arguments (clause `known`; Microsoft Learn, Azure Pipelines, "Security through
+/// templates").
 pub fn expanded(
     alloc: Global,
     files: &FileSet,
     root: &FileKey,
     arguments: &List<Argument>,
 ) -> Result<Expanded, CompileFault>
-    ensures { Tells result (tree_of files.now root.now arguments.now) }
+    ensures tree { Tells result (tree_of files.now root.now arguments.now) }
+    ensures steps { (file : Key) → IfOk result (λ whole. whole.extends ≡ Some file →
+        AllByRecursion (IsPairThrough file) (jobs_of whole.tree)) }
+    ensures written { (file : Key) → IfOk result (λ whole. whole.extends ≡ Some file →
+        ArePairsWhereTold (read_all files.now) (jobs_of whole.tree)) }
+    ensures known { IfOk result (λ whole.
+        AllByRecursion (IsKnown (read_all files.now) whole.used arguments.now)
+        (origins_of whole.tree)) }
 {
     let mut read = TextFiles::new(alloc, files);
     let expanded = expand(alloc, &mut read, root, arguments);

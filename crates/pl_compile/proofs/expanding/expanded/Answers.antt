@@ -1,0 +1,31 @@
+use Rattle.std.proofs.Common.{◌≡◌, Some, subst}
+use Rattle.std.specs.List.{AllByRecursion}
+use Rattle.std.specs.Prelude.{IfOk}
+use Rattle.pl_eval_laws.specs.Trees.{origins_of}
+use Rattle.pl_provenance.specs.Known.{IsKnown}
+use Rattle.pl_provenance.specs.Roots.{jobs_of}
+use Rattle.pl_provenance.specs.Written.{ArePairsWhereTold}
+use Rattle.pl_compile.specs.Reading.{read_all}
+use Rattle.pl_compile.proofs.Handing.{handed}
+use Rattle.pl_compile.proofs.expanding.expanded.Goals as goal
+
+pub returns-clause-written : goal.returns-clause-written
+returns-clause-written c file =
+    handed c.expand-expanded.result c.told.result
+    (λ whole. whole.extends ≡ Some file →
+    ArePairsWhereTold (read_all c.args.files.now) (jobs_of whole.tree))
+    c.told.ensures.same
+    (subst (λ texts. IfOk c.expand-expanded.result (λ whole. whole.extends ≡ Some file →
+    ArePairsWhereTold (read_all texts) (jobs_of whole.tree)))
+    c.new-read.ensures (c.expand-expanded.ensures.written file))
+
+pub returns-clause-known : goal.returns-clause-known
+returns-clause-known c =
+    handed c.expand-expanded.result c.told.result
+    (λ whole. AllByRecursion (IsKnown (read_all c.args.files.now) whole.used c.args.arguments.now)
+    (origins_of whole.tree))
+    c.told.ensures.same
+    (subst (λ texts. IfOk c.expand-expanded.result (λ whole.
+    AllByRecursion (IsKnown (read_all texts) whole.used c.args.arguments.now)
+    (origins_of whole.tree)))
+    c.new-read.ensures c.expand-expanded.ensures.known)
