@@ -1,0 +1,4 @@
+pub mod Agreeing
+pub mod Called
+pub mod Expanding
+pub mod Settling
