@@ -1,6 +1,6 @@
 -- Calls of templates and `extends`, over two sets of files.
-use Rattle.std.proofs.Common.{◌≡◌, ℕ, zero, suc, ◌-◌, Bool, true, false, cond, Option, Some, None}
-use Rattle.std.proofs.Common.{Result, Ok, Err, List, [], ◌∷◌, refl}
+use Rattle.std.proofs.Common.{ℕ, zero, suc, ◌-◌, Bool, true, false, cond, Some, None}
+use Rattle.std.proofs.Common.{Ok, List, [], ◌∷◌}
 use Rattle.std.specs.Prelude.{codes}
 use Rattle.pl_base.specs.declared.origin.Crossing.TheVariants.{Extends}
 use Rattle.pl_base.specs.declared.place.FileKey.{FileKey}
@@ -15,17 +15,14 @@ use Rattle.pl_directives.specs.declared.fault.ExpandProblem.TheVariants.{WrongKi
 use Rattle.pl_directives.specs.declared.manner.Kind.TheVariants as content
 use Rattle.pl_directives.specs.declared.progress.Chain.TheVariants.{Closed}
 use Rattle.pl_directives.specs.declared.progress.Progress.{Progress}
-use Rattle.pl_directives.specs.declared.region.Form.{Form}
 use Rattle.pl_directives.specs.declared.region.Region.{Region}
 use Rattle.pl_directives.specs.declared.region.Region.TheVariants.{Free, Quiet, Calls as InCalls}
 use Rattle.pl_directives.specs.Complaints.{refused}
 use Rattle.pl_directives.specs.Contents.{begun}
 use Rattle.pl_directives.specs.Counting.{entered}
-use Rattle.pl_directives.specs.Steps.{◌>>=◌}
 use Rattle.pl_calls.specs.Calls.{path_text, call_of}
 use Rattle.pl_calls.specs.Frames.{framed_by}
 use Rattle.pl_calls.specs.Judging.{template_in, body_in}
-use Rattle.pl_calls.specs.Meant.{◌>>>◌, alone}
 use Rattle.pl_calls.specs.Parts.{Body, body_of}
 use Rattle.pl_calls.specs.Reaching.{Opens, node_in as file_node}
 use Rattle.pl_calls.specs.declared.reaching.Opened.{Opened as OpenedFile}
@@ -35,8 +32,8 @@ use Rattle.pl_expanding.specs.Levels.{items_from, frame_for, call_by, followed}
 use Rattle.pl_expanding.specs.declared.followed.SettledPairs.{SettledPairs}
 use Rattle.pl_expand.specs.Extending.{path_in, mapping_from, value_from, argument_behind}
 use Rattle.pl_expand.specs.Extending.{arguments_behind, extended_pairs, body_pair, body_pairs}
-use Rattle.pl_expand.specs.Extending.{pairs_there, body_filled, opened_filled, reached_filled}
-use Rattle.pl_expand.specs.Extending.{mapping_extended, extended_by, extended}
+use Rattle.pl_expand.specs.Extending.{pairs_there, opened_filled, reached_filled}
+use Rattle.pl_expand.specs.Extending.{extended_by, extended}
 use Rattle.pl_used_files.proofs.Agreeing.{Agree, done, both_alone, same_then, both_then}
 use Rattle.pl_used_files.proofs.Expanding.{entry_agrees, expanded_agree, pair_agree}
 use Rattle.pl_used_files.proofs.Settling.{FollowAgree}

@@ -1,5 +1,5 @@
 -- What a file's node gives in a frame, where calls are followed over two sets of files.
-use Rattle.std.proofs.Common.{◌≡◌, ℕ, Bool, true, false, Result, Ok, List, [], ◌∷◌, map, subst, rules}
+use Rattle.std.proofs.Common.{◌≡◌, ℕ, Bool, true, false, List, [], ◌∷◌, map, subst, rules}
 use Rattle.std.specs.List.{AllByRecursion as Each}
 use Rattle.pl_base.specs.declared.place.FileKey.{FileKey}
 use Rattle.pl_base.specs.declared.place.Place.{Place}

@@ -1,13 +1,13 @@
 -- Items that are put into a list, and values that expressions gave, where calls are followed over
 -- two sets of files.
-use Rattle.std.proofs.Common.{◌≡◌, ℕ, Option, Some, None, Result, Ok, List, [], ◌∷◌, map, refl, subst}
+use Rattle.std.proofs.Common.{◌≡◌, ℕ, Option, Some, None, List, [], ◌∷◌, map, subst}
 use Rattle.std.proofs.Common.{rules}
 use Rattle.std.specs.List.{AllByRecursion as Each}
 use Rattle.pl_base.specs.declared.origin.Origin.{Origin}
 use Rattle.pl_base.specs.declared.place.FileKey.{FileKey}
 use Rattle.pl_base.specs.declared.value.Value.{Value, out-Value, roll-Value, the_lemmas}
 use Rattle.pl_base.specs.declared.value.Value.TheVariants as value
-use Rattle.pl_base.specs.declared.value.Value.TheOpen.{Value-F, Null, Bool as Truth, Number}
+use Rattle.pl_base.specs.declared.value.Value.TheOpen.{Null, Bool as Truth, Number}
 use Rattle.pl_base.specs.declared.value.Value.TheOpen.{Version, Str, Array, Object}
 use Rattle.pl_base.specs.declared.value.MarkedNode.{MarkedNode}
 use Rattle.pl_base.specs.declared.value.MarkedPair.{MarkedPair}
