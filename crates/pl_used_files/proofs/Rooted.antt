@@ -44,7 +44,8 @@ use Rattle.pl_expand.specs.Tree.{root_key, filled_with, ordinary_pair, extends_p
 use Rattle.pl_expand.specs.Tree.{variables_pair, root_pair, given_to, early_behind, root_pairs}
 use Rattle.pl_expand.specs.Tree.{root_from, second_frame, filled_root, pairs_expanded, home_of}
 use Rattle.pl_expand.specs.Tree.{bare_home, used_files, whole, mapping_expanded, bare_expanded}
-use Rattle.pl_expand.specs.Tree.{other_expanded, body_expanded_by, body_expanded, root_node, tree_of}
+use Rattle.pl_expand.specs.Tree.{other_expanded, body_expanded_by, body_expanded, root_node}
+use Rattle.pl_expand.specs.Tree.{tree_of}
 use Rattle.pl_provenance.proofs.Known.{first_in}
 use Rattle.pl_used_files.specs.Alone.{AgreeOn, UsedFilesDecide}
 use Rattle.pl_used_files.proofs.Agreeing.{Agree, done, both_alone, same_then, both_then}
