@@ -15,7 +15,15 @@ use Rattle.pl_calls.specs.Reaching.{same_file, is_called, called_then}
 use Rattle.pl_eval_laws.proofs.Lists.{each_front, each_back, each_implies}
 use Rattle.pl_origins.proofs.Steps.{Gives}
 use Rattle.pl_expand.specs.Tree.{used_files}
-use Rattle.pl_provenance.proofs.Known.{first_in, later_in}
+
+-- ---- what stands in a list
+
+pub first_in : {X : Type 0} (x : X) (xs : List X) → Contains (x ∷ xs) x
+first_in x xs = (0, omega arith, refl)
+
+later_in :
+    {X : Type 0} (first : X) (xs : List X) (x : X) → Contains xs x → Contains (first ∷ xs) x
+later_in first xs x (at, within, is) = (suc at, omega (arith, within), is)
 
 -- ---- one file
 

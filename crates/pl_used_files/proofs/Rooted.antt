@@ -46,11 +46,10 @@ use Rattle.pl_expand.specs.Tree.{root_from, second_frame, filled_root, pairs_exp
 use Rattle.pl_expand.specs.Tree.{bare_home, used_files, whole, mapping_expanded, bare_expanded}
 use Rattle.pl_expand.specs.Tree.{other_expanded, body_expanded_by, body_expanded, root_node}
 use Rattle.pl_expand.specs.Tree.{tree_of}
-use Rattle.pl_provenance.proofs.Known.{first_in}
 use Rattle.pl_used_files.specs.Alone.{AgreeOn, UsedFilesDecide}
 use Rattle.pl_used_files.proofs.Agreeing.{Agree, done, both_alone, same_then, both_then}
 use Rattle.pl_used_files.proofs.Called.{OpensAgree, followed_agree, extended_agree}
-use Rattle.pl_used_files.proofs.Ends.{AreUsed, then_gives, all_used}
+use Rattle.pl_used_files.proofs.Ends.{first_in, AreUsed, then_gives, all_used}
 use Rattle.pl_used_files.proofs.Expanding.{entry_agrees, expanded_agree, pair_agree}
 
 -- ---- what paths lead to
