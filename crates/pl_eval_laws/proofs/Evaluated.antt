@@ -1,6 +1,7 @@
 -- What an expression gives, where a predicate holds of all origins that names hold.
 use Rattle.std.proofs.Common.{◌≡◌, ℕ, zero, suc, ℤ, pos, negsuc, Bool, true, false, cond}
-use Rattle.std.proofs.Common.{Option, Some, None, Result, Ok, Err, List, [], ◌∷◌, map, refl, subst, rules}
+use Rattle.std.proofs.Common.{Option, Some, None, Result, Ok, Err, List, [], ◌∷◌, map}
+use Rattle.std.proofs.Common.{refl, subst, rules}
 use Rattle.std.specs.Prelude.{IfOk, unwrap_or, find}
 use Rattle.std.specs.Option.{option_and_then}
 use Rattle.std.specs.List.{AllByRecursion as Each}

@@ -130,7 +130,11 @@ module _ (R : Place → Type 0) (crossings : List Crossing) where
   of_pair key key_place item claim within =
       let pair : NodePair = record { key = key; key_place = key_place; item = item } in
       let is :
-      record { key = key; key_origin = origin_at crossings key_place; item = literal crossings item }
+      record {
+        key = key;
+        key_origin = origin_at crossings key_place;
+        item = literal crossings item;
+      }
       ≡ literal_pair crossings pair =
       search (rules, the_lemmas) in
       let parts = pair_in R pair within in

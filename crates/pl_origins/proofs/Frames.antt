@@ -114,7 +114,8 @@ module _ (P : Origin → Type 0) (R : Place → Type 0) (frame : Frame) (from : 
           one.value (anything_below one.value)))
 
       each_variable_from :
-          (variables : List Variable) → Each (PairFrom P) (map (variable_pair frame place) variables)
+          (variables : List Variable) →
+          Each (PairFrom P) (map (variable_pair frame place) variables)
       each_variable_from [] = tt
       each_variable_from (one ∷ variables) = (variable_from one, each_variable_from variables)
 
@@ -140,7 +141,8 @@ module _ (P : Origin → Type 0) (R : Place → Type 0) (frame : Frame) (from : 
       known_from name root is =
           has_some (NodeFrom P) (finite.find text_cmp (folded name) (roots_at frame place)) root
           (found_by (NodeFrom P) (folded name) (roots_at frame place) roots_from)
-          (sym (finite.get-from_entries nat_list_cmp_total (roots_at frame place) (folded name)) ∙ is)
+          (sym (finite.get-from_entries nat_list_cmp_total (roots_at frame place) (folded name))
+          ∙ is)
 
       told_from :
           (meaning : Meaning) → IfOk meaning (NodeFrom P) →

@@ -35,7 +35,8 @@ use Rattle.pl_expand.specs.Resources.{earliest}
 use Rattle.pl_expand.specs.Tree.{Set, root_complaints, unless, parameters_by, first_frame}
 use Rattle.pl_expand.specs.Tree.{root_from}
 use Rattle.pl_expand.specs.Tree.{pairs_expanded, home_of, bare_home, mapping_expanded}
-use Rattle.pl_expand.specs.Tree.{bare_expanded, other_expanded, body_expanded_by, root_node, tree_of}
+use Rattle.pl_expand.specs.Tree.{bare_expanded, other_expanded, body_expanded_by, root_node}
+use Rattle.pl_expand.specs.Tree.{tree_of}
 use Rattle.pl_provenance.specs.Roots.{jobs_of}
 use Rattle.pl_provenance.proofs.Extended.{ExtendsBorder, ExtensionFrom}
 use Rattle.pl_provenance.proofs.Rooted.{RootBorder, ArgumentIn, parameters_are, root_by}

@@ -20,8 +20,8 @@ use std::alloc::Global;
 /// node and key under it crossed the border `extends` just once, and into that template; and what
 /// of these no argument and no expression gave is written in the file of the last border that its
 /// origin tells. Each origin in the whole tree tells places of used files or of run arguments
-/// (Microsoft Learn, Azure Pipelines, "Security through templates"). The files stay as they are, and
-/// a fault is the one that `pl_expand::expand` gives.
+/// (Microsoft Learn, Azure Pipelines, "Security through templates"). The files stay as they are,
+/// and a fault is the one that `pl_expand::expand` gives.
 pub fn expand<F: Files>(
     alloc: Global,
     files: &mut F,

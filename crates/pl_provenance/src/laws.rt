@@ -6,11 +6,9 @@ ghost use Rattle.pl_provenance.specs.Written.{WrittenWhereTold};
 /// that template (Microsoft Learn, Azure Pipelines, "Security through templates").
 ///
 /// Each key `stages`, `jobs` and `steps` of the tree, and each node and key under it, crossed the
-/// border `extends` just once, and into that template: it is written there or in what is included
-/// there, or it was handed in through the template's parameters, and then its origin tells the
-/// parameter. The root puts no step beside the template's, whatever its expressions, its parameters
-/// and the run arguments are. Nothing is said here of the root's own pairs, of `variables`, `pool`
-/// and `lockBehavior`.
+/// border `extends` just once, and into that template. The root puts no step beside the template's,
+/// whatever its expressions, its parameters and the run arguments are. Nothing is said here of the
+/// root's own pairs, of `variables`, `pool` and `lockBehavior`.
 pub fn steps_come_through_the_template()
     ensures { StepsComeThrough }
 {}

@@ -1,0 +1,8 @@
+//! A law of the files that an expansion uses.
+#![tactic(auto)]
+
+mod laws;
+#[cfg(test)]
+mod tests;
+
+pub use laws::used_files_decide;
