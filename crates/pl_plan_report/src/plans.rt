@@ -25,17 +25,17 @@ fn push_extends(text: &mut Text, extends: &Option<FileKey>) -> Result<(), Memory
 ///
 /// - `extends REPO REF PATH`, where the root file extends a template (Microsoft Learn, Azure
 ///   Pipelines, "Templates", Extend from a template);
-/// - for each stage, in order, `stage NAME depends [A, B] lock BEHAVIOUR uses [KIND NAME, KIND NAME]`:
-///   the names of the stages that it waits for, `sequential` or `runLatest`, and what it uses, the
-///   kind being `environment`, `connection`, `group`, `pool` or `repository`;
-/// - behind it for each of its jobs `job LABEL depends [A, B] pool POOL`: a job's label is its name,
-///   that of a leg `NAME.LEG`, and what it waits for are labels of its stage;
-/// - behind that for each of its steps `step FORM REPO REF PATH:LINE:COL via`: the key that it begins
-///   with and where its mapping is written, and then a space and a word for each border that the
-///   mapping crossed, in order: `extends`, `include`, `argument` or `made`.
+/// - for each stage, in order, `stage NAME depends [A, B] lock BEHAVIOUR uses [KIND NAME, ..]`: the
+///   names of the stages that it waits for, `sequential` or `runLatest`, and what it uses, the kind
+///   being `environment`, `connection`, `group`, `pool` or `repository`;
+/// - behind it for each of its jobs `job LABEL depends [A, B] pool POOL`: a job's label is its
+///   name, that of a leg `NAME.LEG`, and what it waits for are labels of its stage;
+/// - behind that for each of its steps `step FORM REPO REF PATH:LINE:COL via`: the key that it
+///   begins with and where its mapping is written, and then a space and a word for each border that
+///   the mapping crossed, in order: `extends`, `include`, `argument` or `made`.
 ///
-/// Names stand there as they are. A place at which no stage, or no job, stands is passed over; a plan
-/// of `plan_of` has none. Memory where memory is wanting.
+/// Names stand there as they are. A place at which no stage, or no job, stands is passed over; a
+/// plan of `plan_of` has none. Memory where memory is wanting.
 pub fn plan_text(alloc: Global, plan: &Plan) -> Result<Text, Memory>
     ensures { IfOk result (λ text. text ≡ plan_text plan.now) }
 {

@@ -242,8 +242,8 @@ step task shared refs/heads/main /pipeline.yml:20:305 via include made include
 job K depends [K, J.job_1, K] pool Default
 ";
 
-/// What is waited for is told by labels, in the plan's order, doubles kept; a place at which nothing
-/// stands is passed over.
+/// What is waited for is told by labels, in the plan's order, doubles kept; a place at which
+/// nothing stands is passed over.
 #[test]
 fn jobs_are_told_by_their_labels(rt: HostRuntime) -> Result<(), Fail> {
     let alloc = rt.alloc();

@@ -1,7 +1,8 @@
 use Rattle.std.proofs.Common.{List, ℕ, ◌≡◌, ◌++◌, ap, sym, ◌∙◌}
 use Rattle.pl_plan_report.proofs.Parting.{no_name_more, one_name_more}
 use Rattle.pl_plan_report.proofs.names.push_parted.Goals as goal
-use Rattle.pl_plan_report.proofs.names.push_parted.Goals.{in-Some+in_ok-push_str+in_ok-push_str-2, in_default}
+use Rattle.pl_plan_report.proofs.names.push_parted.Goals.{in_default}
+use Rattle.pl_plan_report.proofs.names.push_parted.Goals.{in-Some+in_ok-push_str+in_ok-push_str-2}
 
 pub loop-place-preserved : goal.loop-place-preserved
 loop-place-preserved c =

@@ -1,0 +1,12 @@
+mod given;
+mod jobs;
+mod legs;
+mod lines;
+mod outcomes;
+mod pools;
+mod refusals;
+mod shown;
+mod stages;
+mod table;
+mod uses;
+mod whole;
