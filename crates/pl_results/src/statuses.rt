@@ -84,9 +84,7 @@ fn named_went_well(members: &[Member], names: &[Text]) -> bool
     ensures { result ≡ list_all (λ name. statuses.went_well (result_of members.now name))
         names.now }
 {
-    names
-        .iter()
-        .all(|name| went_well(result_of(members, name)))
+    names.iter().all(|name| went_well(result_of(members, name)))
 }
 
 fn all_went_well(members: &[Member], names: &[Text]) -> bool
@@ -127,9 +125,7 @@ fn any_went_wrong(members: &[Member], names: &[Text]) -> bool
 fn named_was_run(members: &[Member], names: &[Text]) -> bool
     ensures { result ≡ list_any (λ name. statuses.was_run (result_of members.now name)) names.now }
 {
-    names
-        .iter()
-        .any(|name| was_run(result_of(members, name)))
+    names.iter().any(|name| was_run(result_of(members, name)))
 }
 
 /// Whether one of the names has run to its end, or there are no names.
