@@ -1,0 +1,11 @@
+pub mod Inside
+pub mod Keyed
+pub mod Means
+pub mod Members
+pub mod Needed
+pub mod Resolved
+pub mod Roots
+pub mod Segments
+pub mod Small
+pub mod Standing
+pub mod Swapped

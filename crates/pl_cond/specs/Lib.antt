@@ -1,0 +1,6 @@
+pub mod Conditions
+pub mod Contexts
+pub mod Objects
+pub mod Paths
+pub mod Placing
+pub mod Variables

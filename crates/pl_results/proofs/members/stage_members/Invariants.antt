@@ -1,0 +1,8 @@
+use Rattle.std.proofs.Common.{◌≡◌, take}
+use Rattle.std.specs.List.{filter_map}
+use Rattle.pl_results.specs.Members.{stage_member}
+use Rattle.pl_results.proofs.members.stage_members.Given as goal
+
+abbrev pub invariant-loop-place : goal.invariant-loop-place
+invariant-loop-place l =
+    l.members ≡ filter_map (stage_member l.plan l.view) (take l.place-index l.place-items)

@@ -1,0 +1,6 @@
+pub mod Combining
+pub mod Members
+pub mod Nodes
+pub mod Parts
+pub mod Runs
+pub mod Transitive
