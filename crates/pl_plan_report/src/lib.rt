@@ -7,8 +7,6 @@ mod names;
 mod plans;
 mod stages;
 mod steps;
-#[cfg(test)]
-mod tests;
 mod words;
 
 pub use plans::plan_text;
