@@ -18,7 +18,7 @@ const INPUTS: [(&str, Ending, &str); 8] = [
     (
         "%%% app refs/heads/main /ci.yml\nparameters:\n- name: who\nsteps:\n- template: t.yml\n",
         Ending::Refused,
-        "refused X1 app refs/heads/main /ci.yml:5:3\n",
+        "refused X1 app refs/heads/main /ci.yml:4:3\n",
     ),
     (
         "%%% app refs/heads/main /ci.yml\nparameters:\n- name: who\nsteps:\n- template: t.yml\n%%% app refs/heads/main /t.yml\nsteps:\n- script: a\n",

@@ -14,7 +14,7 @@ const INPUTS: [(&[u8], Status, &[u8]); 3] = [
     (
         b"%%% app refs/heads/main /ci.yml\nparameters:\n- name: who\nsteps:\n- template: t.yml\n",
         Status::Refused,
-        b"refused X1 app refs/heads/main /ci.yml:5:3\n",
+        b"refused X1 app refs/heads/main /ci.yml:4:3\n",
     ),
     (b"steps:\n- script: a\n", Status::NotWhole, b""),
 ];
