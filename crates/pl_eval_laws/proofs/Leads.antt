@@ -1,9 +1,10 @@
 -- The calls that the mappings of a tree of values would be: a call has its mapping's place, and the
 -- borders that the mapping's first value crossed.
-use Rattle.std.proofs.Common.{◌≡◌, ℕ, Option, Some, None, List, [], ◌∷◌, ◌++◌, map, sym, subst}
+use Rattle.std.proofs.Common.{◌≡◌, ℕ, Option, Some, None, List, [], ◌∷◌, ◌++◌, map, sym}
 use Rattle.std.proofs.Common.{ap, refl, ◌∙◌, rules}
 use Rattle.pl_base.specs.declared.origin.Origin.{Origin}
 use Rattle.pl_base.specs.declared.value.Value.{Value, out-Value, roll-Value, fold-Value, the_lemmas}
+use Rattle.pl_base.specs.declared.value.Value.TheVariants as value
 use Rattle.pl_base.specs.declared.value.Value.TheOpen.{Value-F, MarkedNode-F, MarkedPair-F}
 use Rattle.pl_base.specs.declared.value.Value.TheOpen.{Null, Bool as Truth, Number, Version, Str}
 use Rattle.pl_base.specs.declared.value.Value.TheOpen.{Array, Object}
@@ -119,6 +120,18 @@ rolled one = search (rules, the_lemmas)
 
 pub opened_is : (layer : Opened) → out-Value (roll-Value layer) ≡ layer
 opened_is layer = search (rules, the_lemmas)
+
+pub opened_array : (items : List MarkedNode) → out-Value (value.Array items) ≡ Array items
+opened_array items = search (rules, the_lemmas)
+
+pub opened_object : (pairs : List MarkedPair) → out-Value (value.Object pairs) ≡ Object pairs
+opened_object pairs = search (rules, the_lemmas)
+
+pub object_head : (pairs : List MarkedPair) → head_of (value.Object pairs) ≡ head_in pairs
+object_head pairs = ap head_by (opened_object pairs)
+
+pub array_head : (items : List MarkedNode) → head_of (value.Array items) ≡ None
+array_head items = ap head_by (opened_array items)
 
 first_is : (pairs : List MarkedPair) → first_own (map pair_seen pairs) ≡ head_in pairs
 first_is [] = refl

@@ -271,14 +271,23 @@ module _ (P L : Origin → Type 0) where
   value_parts one all =
       layer_parts (out-Value one) (subst (ValueFrom P L) (sym (rolled one)) all)
 
+  pub first_from : (pairs : List MarkedPair) → Each (PairFrom P L) pairs → Has P (head_in pairs)
+  first_from [] all = tt
+  first_from (pair ∷ pairs) all = (node_parts pair.item (pair_parts pair all.0).1).0
+
   head_within : (layer : Opened) → OpenedFrom P L layer → Has P (head_by layer)
-  head_within (Object []) all = tt
-  head_within (Object (pair ∷ pairs)) all = (node_parts pair.item (pair_parts pair all.0).1).0
+  head_within (Object pairs) all = first_from pairs all
   head_within atom all = tt
 
   -- the first value of a mapping
   pub head_from : (one : Value) → ValueFrom P L one → Has P (head_of one)
   head_from one all = head_within (out-Value one) (value_parts one all)
+
+pub led_from :
+    (P L : Origin → Type 0) (origin : Origin) → ((path : Origin) → P path → L (lead origin path)) →
+    (head : Option Origin) → Has P head → Led L origin head
+led_from P L origin leads None has = tt
+led_from P L origin leads (Some path) has = leads path has
 
 -- ---- other predicates
 
