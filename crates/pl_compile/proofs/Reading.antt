@@ -21,7 +21,7 @@ tied Equal equal = refl
 tied Greater equal = absurd (grind (arith, equal))
 
 -- keys that compare as equal are equal
-same_key : (key file : FileKey) → eq_by_cmp file_cmp key file ≡ true → key ≡ file
+pub same_key : (key file : FileKey) → eq_by_cmp file_cmp key file ≡ true → key ≡ file
 same_key key file equal = exact_files key file (tied (file_cmp key file) equal)
 
 find_read :

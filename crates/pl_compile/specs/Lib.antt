@@ -1,3 +1,5 @@
 pub mod Codes
+pub mod Compiling
 pub mod Reading
 pub mod Refusals
+pub mod Tracing

@@ -1,11 +1,14 @@
-//! Pipelines, compiled: from the texts of files to the expanded tree, or to the first refusal.
+//! Pipelines, compiled: from the texts of files to the expanded tree and to the plan, or to the first
+//! refusal.
 #![tactic(auto)]
 
 mod codes;
+mod compiling;
 mod expanding;
 mod fault;
 mod refusing;
 mod text_files;
 
+pub use compiling::compile;
 pub use expanding::expanded;
 pub use fault::CompileFault;

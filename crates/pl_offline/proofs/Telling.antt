@@ -4,22 +4,22 @@ use Rattle.pl_base.specs.declared.expanded.Argument.{Argument}
 use Rattle.pl_bundle.specs.Bundles.{bundle_of}
 use Rattle.pl_bundle.specs.declared.bundle.Bundle.{Bundle}
 use Rattle.pl_streams.specs.Whole.{Inflow, IsWhole}
-use Rattle.pl_offline.specs.Output.{IsLine, IsOutput, IsTree}
+use Rattle.pl_offline.specs.Output.{IsLine, IsOutput, IsPlan}
 use Rattle.pl_offline.specs.Running.{Holds, Told}
 use Rattle.pl_offline.specs.declared.output.Output.TheVariants as output
 
 module _ (arguments : List Argument) (bytes given : List ℕ) (old new : Inflow)
     (same : given ≡ bytes) (whole : IsWhole bytes old new) where
-  pub tree_held :
-      (text : List ℕ) → IsOutput (bundle_of given) arguments (output.Tree text) →
-      Holds IsTree arguments text old new
-  tree_held text told =
+  pub plan_held :
+      (text : List ℕ) → IsOutput (bundle_of given) arguments (output.Plan text) →
+      Holds IsPlan arguments text old new
+  plan_held text told =
       go (bundle_of bytes) refl
-      (subst (λ bytes. IsOutput (bundle_of bytes) arguments (output.Tree text)) same told)
+      (subst (λ bytes. IsOutput (bundle_of bytes) arguments (output.Plan text)) same told)
     where
       go :
           (found : Option Bundle) → bundle_of bytes ≡ found →
-          IsOutput found arguments (output.Tree text) → Holds IsTree arguments text old new
+          IsOutput found arguments (output.Plan text) → Holds IsPlan arguments text old new
       go None is told = absurd told
       go (Some bundle) is told = record {
         bytes = bytes;
@@ -49,8 +49,8 @@ module _ (arguments : List Argument) (bytes given : List ℕ) (old new : Inflow)
       }
 
 module _ (arguments : List Argument) (text : List ℕ) (old new : Inflow) where
-  pub tree_told : Holds IsTree arguments text old new → Holds Told arguments text old new
-  tree_told held = record {
+  pub plan_told : Holds IsPlan arguments text old new → Holds Told arguments text old new
+  plan_told held = record {
     bytes = held.bytes;
     whole = held.whole;
     bundle = held.bundle;

@@ -6,7 +6,7 @@ use Rattle.pl_bundle.specs.declared.bundle.Bundle.{Bundle}
 use Rattle.pl_base.specs.Streams.{with_front}
 use Rattle.pl_streams.specs.Whole.{Inflow, IsBegun, IsRead, IsSent, IsWhole, Outflow}
 use Rattle.pl_streams.specs.declared.reading.Unread.TheVariants as unread
-use Rattle.pl_offline.specs.Output.{IsLine, IsTree}
+use Rattle.pl_offline.specs.Output.{IsLine, IsPlan}
 use Rattle.pl_offline.specs.declared.ending.Ending.{Ending}
 use Rattle.pl_offline.specs.declared.ending.Ending.TheVariants as ending
 
@@ -22,11 +22,11 @@ pub record Holds
 
 -- a text that is told of a pipeline
 abbrev pub Told : Bundle → List Argument → List ℕ → Type 0
-Told bundle arguments text = IsTree bundle arguments text ⊎ IsLine bundle arguments text
+Told bundle arguments text = IsPlan bundle arguments text ⊎ IsLine bundle arguments text
 
 abbrev pub Runs : List Argument → Ending → Inflow → Inflow → Outflow → Outflow → Type 0
 Runs arguments ending.Compiled old new before after =
-    (text : List ℕ) × Holds IsTree arguments text old new × IsSent text before after
+    (text : List ℕ) × Holds IsPlan arguments text old new × IsSent text before after
 Runs arguments ending.Refused old new before after =
     (line : List ℕ) × Holds IsLine arguments line old new × IsSent line before after
 Runs arguments ending.NotBundle old new before after =

@@ -1,7 +1,7 @@
 /// How a bundle was compiled.
 #[derive(Clone, Copy, Debug, PartialEq, Eq)]
 pub enum Ending {
-    /// The text of the expanded tree was written.
+    /// The text of the plan was written.
     Compiled,
     /// The line of the refusal was written.
     Refused,

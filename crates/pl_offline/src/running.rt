@@ -10,8 +10,8 @@ use std::alloc::Global;
 /// Compiles the bundle that a source holds, as a run with these arguments, onto a sink.
 ///
 /// The source is read to its end. Where its bytes are a bundle (files behind lines
-/// `%%% REPO REF PATH`, the root file first), the sink gets the text of the expanded tree, or the line
-/// `refused CODE REPO REF PATH:LINE:COL` of the first refusal; where they are none, nothing. At most
+/// `%%% REPO REF PATH`, the root file first), the sink gets the text of the pipeline's plan, or the
+/// line `refused CODE REPO REF PATH:LINE:COL` of the first refusal; where they are none, nothing. At most
 /// 67,108,864 bytes are taken. The text is made before the first byte is written, so where memory is
 /// wanting nothing is written.
 pub fn compile_bundle<S: Source, K: Sink>(
@@ -30,7 +30,7 @@ pub fn compile_bundle<S: Source, K: Sink>(
         Err(Unread::Memory) => return Ending::Memory,
     };
     match output_of(alloc, bytes.as_slice(), arguments) {
-        Ok(Output::Tree(text)) => match write_all(sink, text.as_slice()) {
+        Ok(Output::Plan(text)) => match write_all(sink, text.as_str().as_bytes()) {
             Ok(()) => Ending::Compiled,
             Err(_) => Ending::WriteFault,
         },

@@ -4,7 +4,7 @@ use std::alloc::Global;
 use std::test::Fail;
 
 /// Inputs, and what is told of each with the argument `who`, which is `me`.
-const INPUTS: [(&str, Ending, &str); 8] = [
+const INPUTS: [(&str, Ending, &str); 10] = [
     (
         "%%% app refs/heads/main /ci.yml\nsteps:\n- script: echo hi\n",
         Ending::Refused,
@@ -13,7 +13,7 @@ const INPUTS: [(&str, Ending, &str); 8] = [
     (
         "%%% app refs/heads/main /ci.yml\nparameters:\n- name: who\nsteps:\n- script: echo ${{ parameters.who }}\n",
         Ending::Compiled,
-        "\"steps\":\n  -\n    \"script\": \"echo me\"\n",
+        "stage __default depends [] lock runLatest uses [pool Default]\njob Job depends [] pool Default\nstep script app refs/heads/main /ci.yml:4:3 via\n",
     ),
     (
         "%%% app refs/heads/main /ci.yml\nparameters:\n- name: who\nsteps:\n- template: t.yml\n",
@@ -23,12 +23,22 @@ const INPUTS: [(&str, Ending, &str); 8] = [
     (
         "%%% app refs/heads/main /ci.yml\nparameters:\n- name: who\nsteps:\n- template: t.yml\n%%% app refs/heads/main /t.yml\nsteps:\n- script: a\n",
         Ending::Compiled,
-        "\"steps\":\n  -\n    \"script\": \"a\"\n",
+        "stage __default depends [] lock runLatest uses [pool Default]\njob Job depends [] pool Default\nstep script app refs/heads/main /t.yml:2:3 via include\n",
     ),
     (
         "%%% app refs/heads/main /ci.yml\n\ta: b\n",
         Ending::Refused,
         "refused X16 app refs/heads/main /ci.yml:1:1 Y2\n",
+    ),
+    (
+        "%%% app refs/heads/main /ci.yml\nparameters:\n- name: who\nstep: x\nsteps: []\n",
+        Ending::Refused,
+        "refused S1 app refs/heads/main /ci.yml:4:1\n",
+    ),
+    (
+        "%%% app refs/heads/main /ci.yml\nparameters:\n- name: who\njobs:\n- job: A\n  dependsOn: B\n  steps: []\n",
+        Ending::Refused,
+        "refused L1 app refs/heads/main /ci.yml:6:14\n",
     ),
     ("a: b\n", Ending::NotBundle, ""),
     ("", Ending::NotBundle, ""),
@@ -85,7 +95,7 @@ fn fails(alloc: Global, reads: &[u64], writes: &[u64]) -> Result<(Ending, usize)
 #[test]
 fn faults_of_streams_are_told(rt: HostRuntime) -> Result<(), Fail> {
     let alloc = rt.alloc();
-    assert_eq!(rt; fails(alloc, &[], &[])?, (Ending::Compiled, 37));
+    assert_eq!(rt; fails(alloc, &[], &[])?, (Ending::Compiled, 142));
     assert_eq!(rt; fails(alloc, &[1], &[])?, (Ending::ReadFault, 0));
     assert_eq!(rt; fails(alloc, &[3], &[])?, (Ending::ReadFault, 0));
     assert_eq!(rt; fails(alloc, &[], &[1])?, (Ending::WriteFault, 0));

@@ -3,33 +3,33 @@ use Rattle.pl_bundle.specs.Bundles.{bundle_of}
 use Rattle.pl_streams.specs.Flows.{inflow, outflow}
 use Rattle.pl_streams.specs.Whole.{IsBegun, IsSent}
 use Rattle.pl_offline.specs.Output.{IsOutput}
-use Rattle.pl_offline.proofs.Telling.{line_held, line_told, tree_held, tree_told}
+use Rattle.pl_offline.proofs.Telling.{line_held, line_told, plan_held, plan_told}
 use Rattle.pl_offline.proofs.running.compile_bundle.Goals as goal
 
 pub returns-in-Ok-write_all : goal.returns-in-Ok-write_all
 returns-in-Ok-write_all g c = (
-  c.in-Ok-Tree.text,
-  tree_held c.args.arguments.now c.in-Ok.bytes c.as_slice.result.now
+  c.in-Ok-Plan.text,
+  plan_held c.args.arguments.now c.in-Ok.bytes c.as_slice.result.now
       (inflow g.S.Source c.args.source.now) (inflow g.S.Source c.read_to_end.new.source)
-      c.as_slice.ensures c.in-Ok.ensures c.in-Ok-Tree.text (subst (IsOutput (bundle_of c.as_slice.result.now) c.args.arguments.now)
-      c.in-Ok-Tree.field-0-is c.in-Ok-Tree.ensures),
+      c.as_slice.ensures c.in-Ok.ensures c.in-Ok-Plan.text (subst (IsOutput (bundle_of c.as_slice.result.now) c.args.arguments.now)
+      c.in-Ok-Plan.field-0-is c.in-Ok-Plan.ensures),
   subst (λ text. IsSent text (outflow g.K.Sink c.args.sink.now)
       (outflow g.K.Sink c.write_all.new.sink))
-      c.as_slice-in-Ok-Tree.ensures c.in-Ok-write_all.ensures,
+      c.as_slice-in-Ok-Plan.ensures c.in-Ok-write_all.ensures,
 )
 
-pub returns-in-Ok-Tree : goal.returns-in-Ok-Tree
-returns-in-Ok-Tree g c = (
-  c.in-Ok-Tree.text,
-  tree_told c.args.arguments.now c.in-Ok-Tree.text (inflow g.S.Source c.args.source.now)
+pub returns-in-Ok-Plan : goal.returns-in-Ok-Plan
+returns-in-Ok-Plan g c = (
+  c.in-Ok-Plan.text,
+  plan_told c.args.arguments.now c.in-Ok-Plan.text (inflow g.S.Source c.args.source.now)
       (inflow g.S.Source c.read_to_end.new.source)
-      (tree_held c.args.arguments.now c.in-Ok.bytes c.as_slice.result.now
+      (plan_held c.args.arguments.now c.in-Ok.bytes c.as_slice.result.now
       (inflow g.S.Source c.args.source.now) (inflow g.S.Source c.read_to_end.new.source)
-      c.as_slice.ensures c.in-Ok.ensures c.in-Ok-Tree.text (subst (IsOutput (bundle_of c.as_slice.result.now) c.args.arguments.now)
-      c.in-Ok-Tree.field-0-is c.in-Ok-Tree.ensures)),
+      c.as_slice.ensures c.in-Ok.ensures c.in-Ok-Plan.text (subst (IsOutput (bundle_of c.as_slice.result.now) c.args.arguments.now)
+      c.in-Ok-Plan.field-0-is c.in-Ok-Plan.ensures)),
   subst (λ text. IsBegun text (outflow g.K.Sink c.args.sink.now)
       (outflow g.K.Sink c.write_all.new.sink))
-      c.as_slice-in-Ok-Tree.ensures c.in-Err-write_all.ensures,
+      c.as_slice-in-Ok-Plan.ensures c.in-Err-write_all.ensures,
 )
 
 pub returns-in-Ok-write_all-2 : goal.returns-in-Ok-write_all-2
