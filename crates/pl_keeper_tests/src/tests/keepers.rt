@@ -1,5 +1,5 @@
-use crate::{Keeper, KeeperFault, MemKeeper};
 use pl_base::{Bytes, Change, List, Memory, Row};
+use pl_keeper::{Keeper, KeeperFault, MemKeeper};
 use std::alloc::Global;
 use std::test::Fail;
 
@@ -52,22 +52,44 @@ fn tells(alloc: Global, keeper: &mut MemKeeper, bodies: &[u8]) -> Result<bool, K
     Ok(all)
 }
 
+/// Three rows, and the second and the fifth call fail.
+fn failing_keeper(alloc: Global) -> Result<MemKeeper, Memory> {
+    let failing = List::from_slice(alloc, [2u64, 5].as_slice())?;
+    Ok(MemKeeper::new(three_rows(alloc)?, failing))
+}
+
+/// Whether a failing call changes nothing and is counted.
+fn fails_whole(
+    alloc: Global,
+    keeper: &mut MemKeeper,
+    changes: &List<Change>,
+) -> Result<bool, KeeperFault> {
+    let in_order = tells(alloc, keeper, [12, 11, 10].as_slice())?;
+    let failed = keeper.apply(alloc, changes) == Err(KeeperFault::Failed) && keeper.faults() == 1;
+    Ok(in_order && failed && tells(alloc, keeper, [12, 11, 10].as_slice())?)
+}
+
+/// Whether a call makes all changes, and the next one fails and is counted.
+fn changes_all(
+    alloc: Global,
+    keeper: &mut MemKeeper,
+    changes: &List<Change>,
+) -> Result<bool, KeeperFault> {
+    let changed = keeper.apply(alloc, changes) == Ok(()) && keeper.faults() == 1;
+    let failed = matches!(keeper.rows(alloc), Err(KeeperFault::Failed)) && keeper.faults() == 2;
+    Ok(changed && failed && tells(alloc, keeper, [12, 21, 20].as_slice())?)
+}
+
+fn changes_or_nothing(alloc: Global, keeper: &mut MemKeeper) -> Result<bool, KeeperFault> {
+    let changes = three_changes(alloc)?;
+    Ok(fails_whole(alloc, keeper, &changes)? && changes_all(alloc, keeper, &changes)?)
+}
+
 // Rows are told in order of table and key, a failing call changes nothing and is counted, and all
 // changes of another call are made.
 #[test]
 fn changes_or_none(rt: HostRuntime) -> Result<(), Fail> {
-    let alloc = rt.alloc();
-    let failing = List::from_slice(alloc, [2u64, 5].as_slice())?;
-    let mut keeper = MemKeeper::new(three_rows(alloc)?, failing);
-    assert!(rt; tells(alloc, &mut keeper, [12, 11, 10].as_slice())?);
-    let changes = three_changes(alloc)?;
-    assert_eq!(rt; keeper.apply(alloc, &changes), Err(KeeperFault::Failed));
-    assert_eq!(rt; keeper.faults(), 1);
-    assert!(rt; tells(alloc, &mut keeper, [12, 11, 10].as_slice())?);
-    assert_eq!(rt; keeper.apply(alloc, &changes), Ok(()));
-    assert_eq!(rt; keeper.faults(), 1);
-    assert!(rt; matches!(keeper.rows(alloc), Err(KeeperFault::Failed)));
-    assert_eq!(rt; keeper.faults(), 2);
-    assert!(rt; tells(alloc, &mut keeper, [12, 21, 20].as_slice())?);
+    let mut keeper = failing_keeper(rt.alloc())?;
+    assert!(rt; changes_or_nothing(rt.alloc(), &mut keeper)?);
     Ok(())
 }

@@ -1,8 +1,6 @@
 mod cuts;
 mod hostile;
 mod keepers;
+mod records;
 mod rows;
-mod runs;
-mod samples;
-mod settings;
 mod trips;

@@ -1,5 +1,5 @@
-use crate::{DecodeFault, decode};
 use pl_base::{Bytes, List, Memory, Row};
+use pl_keeper::{DecodeFault, decode};
 use std::alloc::Global;
 use std::test::Fail;
 
