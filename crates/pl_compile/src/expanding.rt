@@ -5,6 +5,7 @@ ghost use Rattle.pl_base.specs.declared.expanded.Expanded.{Expanded as Tree};
 ghost use Rattle.pl_directives.specs.Gives.{Gives};
 ghost use Rattle.pl_directives.specs.declared.fault.ExpandFault.{ExpandFault as Fault};
 ghost use Rattle.pl_eval_laws.specs.Trees.{origins_of};
+ghost use Rattle.pl_provenance.specs.Closure.{ArePairsFromClosure};
 ghost use Rattle.pl_provenance.specs.Known.{IsKnown};
 ghost use Rattle.pl_provenance.specs.Roots.{IsPairThrough, jobs_of};
 ghost use Rattle.pl_provenance.specs.Written.{ArePairsWhereTold};
@@ -46,8 +47,9 @@ fn told(alloc: Global, expanded: Result<Expanded, ExpandFault>) -> Result<Expand
 /// Where the root extends a template, each key `stages`, `jobs` and `steps` of the tree and each node
 /// and key under it crossed the border `extends` just once, and into that template (clause `steps`);
 /// and what of these no argument and no expression gave is written in the file of the last border
-/// that its origin tells (clause `written`). Each origin in the whole tree tells places of used files
-/// or of run arguments (clause `known`; Microsoft Learn, Azure Pipelines, "Security through
+/// that its origin tells (clause `written`), which is the template or a file that it calls, itself or
+/// by files that it calls (clause `closure`). Each origin in the whole tree tells places of used
+/// files or of run arguments (clause `known`; Microsoft Learn, Azure Pipelines, "Security through
 /// templates").
 pub fn expanded(
     alloc: Global,
@@ -60,6 +62,8 @@ pub fn expanded(
         AllByRecursion (IsPairThrough file) (jobs_of whole.tree)) }
     ensures written { (file : Key) → IfOk result (λ whole. whole.extends ≡ Some file →
         ArePairsWhereTold (read_all files.now) (jobs_of whole.tree)) }
+    ensures closure { (file : Key) → IfOk result (λ whole. whole.extends ≡ Some file →
+        ArePairsFromClosure (read_all files.now) whole.tree file) }
     ensures known { IfOk result (λ whole.
         AllByRecursion (IsKnown (read_all files.now) whole.used arguments.now)
         (origins_of whole.tree)) }

@@ -1,3 +1,4 @@
 pub mod Evaluated
+pub mod Leads
 pub mod Lists
 pub mod Trees

@@ -42,18 +42,18 @@ use Rattle.pl_params.specs.Declaring.{item_param, object_param, pair_complaint, 
 use Rattle.pl_params.specs.Declaring.{declares_from, declares}
 use Rattle.pl_params.specs.Judging.{allows, judged_read, judged}
 use Rattle.pl_params.specs.Kinds.{number_from, boolean_from, is_item, items_from, value_as}
-use Rattle.pl_params.specs.Kinds.{with_value, read_as, item_in}
+use Rattle.pl_params.specs.Kinds.{with_value, read_as}
 use Rattle.pl_params.specs.Nodes.{under}
 use Rattle.pl_params.specs.Steps.{in_turn, ◌>>=◌}
 use Rattle.pl_calls.specs.Parameters.{parameter_told, declared_by, bound_to}
 use Rattle.pl_calls.specs.Parts.{Body}
-use Rattle.pl_eval_laws.specs.Trees.{origins_of}
-use Rattle.pl_eval_laws.proofs.Lists.{Has, has_map, each_append, each_found, each_implies}
-use Rattle.pl_eval_laws.proofs.Trees.{Opened, NodeFrom, ValueFrom, PairFrom, OpenedFrom, node_from}
-use Rattle.pl_eval_laws.proofs.Trees.{pair_from, array_from, object_from, node_parts, value_parts}
-use Rattle.pl_eval_laws.proofs.Trees.{truth_from, text_from}
-use Rattle.pl_eval_laws.proofs.Trees.{number_from as number_is_from}
-use Rattle.pl_origins.proofs.Frames.{ParameterFrom}
+use Rattle.pl_eval_laws.proofs.Leads.{Opened}
+use Rattle.pl_eval_laws.proofs.Lists.{Has, has_map, each_append, each_found}
+use Rattle.pl_eval_laws.proofs.Trees.{NodeFrom, ValueFrom, PairFrom, OpenedFrom, node_from}
+use Rattle.pl_eval_laws.proofs.Trees.{pair_from, array_from, object_from, text_from, text_node}
+use Rattle.pl_eval_laws.proofs.Trees.{number_node, truth_node, array_node, node_parts, value_parts}
+use Rattle.pl_eval_laws.proofs.Trees.{head_from, led_from, node_implies}
+use Rattle.pl_origins.proofs.Frames.{Seen, SeenFrom, ParameterFrom}
 use Rattle.pl_origins.proofs.Induction.{BodyParts, written_induction}
 use Rattle.pl_origins.proofs.Moved.{moved_from}
 use Rattle.pl_origins.proofs.Nodes.{NodeIn, PairIn, BodyIn, node_in, pair_in}
@@ -65,13 +65,13 @@ module _ (R : Place → Type 0) (crossings : List Crossing) where
   Stands origin = R origin.source × (origin.crossings ≡ crossings)
 
   abbrev BodyClaim : NodeBody → Type 0
-  BodyClaim one = BodyIn R (out-NodeBody one) → ValueFrom Stands (literal_body crossings one)
+  BodyClaim one = BodyIn R (out-NodeBody one) → ValueFrom Stands Stands (literal_body crossings one)
 
   abbrev NodeClaim : Node → Type 0
-  NodeClaim one = NodeIn R one → NodeFrom Stands (literal crossings one)
+  NodeClaim one = NodeIn R one → NodeFrom Stands Stands (literal crossings one)
 
   abbrev PairClaim : NodePair → Type 0
-  PairClaim one = PairIn R one → PairFrom Stands (literal_pair crossings one)
+  PairClaim one = PairIn R one → PairFrom Stands Stands (literal_pair crossings one)
 
   each_claim :
       {X Y : Type 0} (A : X → Type 0) (B : Y → Type 0) (f : X → Y) (xs : List X) →
@@ -84,27 +84,27 @@ module _ (R : Place → Type 0) (crossings : List Crossing) where
 
   layer_claim :
       (layer : Body) → BodyParts NodeClaim PairClaim layer → BodyIn R layer →
-      ValueFrom Stands (literal_body crossings (roll-NodeBody layer))
+      ValueFrom Stands Stands (literal_body crossings (roll-NodeBody layer))
   layer_claim (Scalar text) claims within =
       let is : value.Str text ≡ literal_body crossings (roll-NodeBody (Scalar text)) =
       search (rules, the_lemmas) in
-      subst (ValueFrom Stands) is (text_from Stands text)
+      subst (ValueFrom Stands Stands) is (text_from Stands Stands text)
   layer_claim (Seq items) claims within =
       let is :
       value.Array (map (literal crossings) items)
       ≡ literal_body crossings (roll-NodeBody (Seq items)) =
       search (rules, the_lemmas) in
-      subst (ValueFrom Stands) is
-      (array_from Stands _
-      (each_claim (NodeIn R) (NodeFrom Stands) (literal crossings) items claims within))
+      subst (ValueFrom Stands Stands) is
+      (array_from Stands Stands _
+      (each_claim (NodeIn R) (NodeFrom Stands Stands) (literal crossings) items claims within))
   layer_claim (Map pairs) claims within =
       let is :
       value.Object (map (literal_pair crossings) pairs)
       ≡ literal_body crossings (roll-NodeBody (Map pairs)) =
       search (rules, the_lemmas) in
-      subst (ValueFrom Stands) is
-      (object_from Stands _
-      (each_claim (PairIn R) (PairFrom Stands) (literal_pair crossings) pairs claims within))
+      subst (ValueFrom Stands Stands) is
+      (object_from Stands Stands _
+      (each_claim (PairIn R) (PairFrom Stands Stands) (literal_pair crossings) pairs claims within))
 
   of_layer :
       (layer : Body) → BodyParts NodeClaim PairClaim layer → BodyClaim (roll-NodeBody layer)
@@ -121,8 +121,10 @@ module _ (R : Place → Type 0) (crossings : List Crossing) where
       ≡ literal crossings node =
       search (rules, the_lemmas) in
       let parts = node_in R node within in
-      subst (NodeFrom Stands) is
-      (node_from Stands (origin_at crossings place) _ (parts.0, refl) (claim parts.1))
+      subst (NodeFrom Stands Stands) is
+      (node_from Stands Stands (origin_at crossings place) _ (parts.0, refl) (claim parts.1)
+      (led_from Stands Stands (origin_at crossings place) (λ path stands. (parts.0, stands.1)) _
+      (head_from Stands Stands _ (claim parts.1))))
 
   of_pair :
       (key : List ℕ) (key_place : Place) (item : Node) → NodeClaim item →
@@ -138,8 +140,8 @@ module _ (R : Place → Type 0) (crossings : List Crossing) where
       ≡ literal_pair crossings pair =
       search (rules, the_lemmas) in
       let parts = pair_in R pair within in
-      subst (PairFrom Stands) is
-      (pair_from Stands key (origin_at crossings key_place) (literal crossings item)
+      subst (PairFrom Stands Stands) is
+      (pair_from Stands Stands key (origin_at crossings key_place) (literal crossings item)
       (parts.0, refl) (claim parts.1))
 
   pub literal_from : (node : Node) → NodeClaim node
@@ -147,105 +149,105 @@ module _ (R : Place → Type 0) (crossings : List Crossing) where
 
 -- ---- a value as a type reads it
 
-module _ (P : Origin → Type 0) where
-  abbrev ReadFrom : Option Value → Type 0
-  ReadFrom = Has (ValueFrom P)
+module _ (P L : Origin → Type 0) where
+  module _ (origin : Origin) (own : P origin) where
+    abbrev Whole : Value → Type 0
+    Whole one = NodeFrom P L (record { origin = origin; value = one })
 
-  text_read : (text : Option (List ℕ)) → Has (ValueFrom P) (option_map value.Str text)
-  text_read None = tt
-  text_read (Some text) = text_from P text
+    abbrev Read : Option Value → Type 0
+    Read = Has Whole
 
-  number_read : (number : Option ℤ) → Has (ValueFrom P) (option_map value.Number number)
-  number_read None = tt
-  number_read (Some number) = number_is_from P number
+    text_read : (text : Option (List ℕ)) → Read (option_map value.Str text)
+    text_read None = tt
+    text_read (Some text) = text_node P L origin own text
 
-  truth_read : (truth : Option Bool) → Has (ValueFrom P) (option_map value.Bool truth)
-  truth_read None = tt
-  truth_read (Some truth) = truth_from P truth
+    number_read : (number : Option ℤ) → Read (option_map value.Number number)
+    number_read None = tt
+    number_read (Some number) = number_node P L origin own number
 
-  a_number : (opened : Opened) → Has (ValueFrom P) (number_from opened)
-  a_number (layer.Number number) = number_is_from P number
-  a_number (layer.Str []) = tt
-  a_number (layer.Str (byte ∷ bytes)) = number_read (number_in (byte ∷ bytes))
-  a_number layer.Null = tt
-  a_number (layer.Bool truth) = tt
-  a_number (layer.Version segments) = tt
-  a_number (layer.Array items) = tt
-  a_number (layer.Object pairs) = tt
+    truth_read : (truth : Option Bool) → Read (option_map value.Bool truth)
+    truth_read None = tt
+    truth_read (Some truth) = truth_node P L origin own truth
 
-  a_boolean : (opened : Opened) → Has (ValueFrom P) (boolean_from opened)
-  a_boolean (layer.Bool truth) = truth_from P truth
-  a_boolean (layer.Str text) = truth_read (boolean_in text)
-  a_boolean layer.Null = tt
-  a_boolean (layer.Number number) = tt
-  a_boolean (layer.Version segments) = tt
-  a_boolean (layer.Array items) = tt
-  a_boolean (layer.Object pairs) = tt
+    a_number : (opened : Opened) → Read (number_from opened)
+    a_number (layer.Number number) = number_node P L origin own number
+    a_number (layer.Str []) = tt
+    a_number (layer.Str (byte ∷ bytes)) = number_read (number_in (byte ∷ bytes))
+    a_number layer.Null = tt
+    a_number (layer.Bool truth) = tt
+    a_number (layer.Version segments) = tt
+    a_number (layer.Array items) = tt
+    a_number (layer.Object pairs) = tt
 
-  where_so : (b : Bool) (one : Value) → ValueFrom P one →
-      Has (ValueFrom P) (cond b (Some one) None)
-  where_so true one all = all
-  where_so false one all = tt
+    a_boolean : (opened : Opened) → Read (boolean_from opened)
+    a_boolean (layer.Bool truth) = truth_node P L origin own truth
+    a_boolean (layer.Str text) = truth_read (boolean_in text)
+    a_boolean layer.Null = tt
+    a_boolean (layer.Number number) = tt
+    a_boolean (layer.Version segments) = tt
+    a_boolean (layer.Array items) = tt
+    a_boolean (layer.Object pairs) = tt
 
-  an_item : (wanted : ItemKind) (one : Value) → ValueFrom P one →
-      Has (ValueFrom P) (item_in wanted one)
-  an_item wanted one all = where_so (is_item wanted one) one all
+    where_so : (b : Bool) (one : Value) → Whole one → Read (cond b (Some one) None)
+    where_so true one all = all
+    where_so false one all = tt
 
-  some_items : (wanted : ItemKind) (opened : Opened) → OpenedFrom P opened →
-      Has (ValueFrom P) (items_from wanted opened)
-  some_items wanted layer.Null all = array_from P [] tt
-  some_items wanted (layer.Str []) all = array_from P [] tt
-  some_items wanted (layer.Str (byte ∷ bytes)) all = tt
-  some_items wanted (layer.Array items) all =
-      where_so (list_all (λ node. is_item wanted node.value) items) (value.Array items)
-      (array_from P items all)
-  some_items wanted (layer.Bool truth) all = tt
-  some_items wanted (layer.Number number) all = tt
-  some_items wanted (layer.Version segments) all = tt
-  some_items wanted (layer.Object pairs) all = tt
+    some_items : (wanted : ItemKind) (opened : Opened) → OpenedFrom P L opened →
+        Read (items_from wanted opened)
+    some_items wanted layer.Null all = array_node P L origin own [] tt
+    some_items wanted (layer.Str []) all = array_node P L origin own [] tt
+    some_items wanted (layer.Str (byte ∷ bytes)) all = tt
+    some_items wanted (layer.Array items) all =
+        where_so (list_all (λ node. is_item wanted node.value) items) (value.Array items)
+        (array_node P L origin own items all)
+    some_items wanted (layer.Bool truth) all = tt
+    some_items wanted (layer.Number number) all = tt
+    some_items wanted (layer.Version segments) all = tt
+    some_items wanted (layer.Object pairs) all = tt
 
-  value_read : (of : ParamKind) (one : Value) → ValueFrom P one →
-      Has (ValueFrom P) (value_as of one)
-  value_read kind.String one all = text_read (text_of one)
-  value_read kind.Number one all = a_number (out-Value one)
-  value_read kind.Boolean one all = a_boolean (out-Value one)
-  value_read kind.Object one all = all
-  value_read kind.Step one all = an_item item.Step one all
-  value_read kind.StepList one all = some_items item.Step (out-Value one) (value_parts P one all)
-  value_read kind.Job one all = an_item item.Job one all
-  value_read kind.JobList one all = some_items item.Job (out-Value one) (value_parts P one all)
-  value_read kind.Deployment one all = an_item item.Deployment one all
-  value_read kind.DeploymentList one all =
-      some_items item.Deployment (out-Value one) (value_parts P one all)
-  value_read kind.Stage one all = an_item item.Stage one all
-  value_read kind.StageList one all =
-      some_items item.Stage (out-Value one) (value_parts P one all)
+    below : (one : Value) → Whole one → OpenedFrom P L (out-Value one)
+    below one all =
+        value_parts P L one (node_parts P L (record { origin = origin; value = one }) all).1
+
+    value_read : (of : ParamKind) (one : Value) → Whole one → Read (value_as of one)
+    value_read kind.String one all = text_read (text_of one)
+    value_read kind.Number one all = a_number (out-Value one)
+    value_read kind.Boolean one all = a_boolean (out-Value one)
+    value_read kind.Object one all = all
+    value_read kind.Step one all = where_so (is_item item.Step one) one all
+    value_read kind.StepList one all = some_items item.Step (out-Value one) (below one all)
+    value_read kind.Job one all = where_so (is_item item.Job one) one all
+    value_read kind.JobList one all = some_items item.Job (out-Value one) (below one all)
+    value_read kind.Deployment one all = where_so (is_item item.Deployment one) one all
+    value_read kind.DeploymentList one all =
+        some_items item.Deployment (out-Value one) (below one all)
+    value_read kind.Stage one all = where_so (is_item item.Stage one) one all
+    value_read kind.StageList one all = some_items item.Stage (out-Value one) (below one all)
 
   abbrev JudgedFrom : Judged → Type 0
-  JudgedFrom (Fits node) = NodeFrom P node
+  JudgedFrom (Fits node) = NodeFrom P L node
   JudgedFrom NotOfType = Unit {0}
   JudgedFrom NotAllowed = Unit {0}
 
-  allowed_from : (b : Bool) (node : MarkedNode) → NodeFrom P node →
+  allowed_from : (b : Bool) (node : MarkedNode) → NodeFrom P L node →
       JudgedFrom (cond b (Fits node) NotAllowed)
   allowed_from true node all = all
   allowed_from false node all = tt
 
   judged_by :
       (of : ParamKind) (entries : List Node) (read : Option MarkedNode) →
-      Has (NodeFrom P) read → JudgedFrom (judged_read of entries read)
+      Has (NodeFrom P L) read → JudgedFrom (judged_read of entries read)
   judged_by of entries None has = tt
   judged_by of entries (Some node) has = allowed_from (allows of entries node.value) node has
 
   judged_from :
-      (of : ParamKind) (entries : List Node) (node : MarkedNode) → NodeFrom P node →
+      (of : ParamKind) (entries : List Node) (node : MarkedNode) → NodeFrom P L node →
       JudgedFrom (judged of entries node)
   judged_from of entries node all =
-      let parts = node_parts P node all in
+      let own = (node_parts P L node all).0 in
       judged_by of entries (read_as of node)
-      (has_map (ValueFrom P) (NodeFrom P) (with_value node)
-      (λ one below. node_from P node.origin one parts.0 below) (value_as of node.value)
-      (value_read of node.value parts.1))
+      (has_map (Whole node.origin own) (NodeFrom P L) (with_value node) (λ one whole. whole)
+      (value_as of node.value) (value_read node.origin own of node.value all))
 
 -- ---- one after the other
 
@@ -313,28 +315,29 @@ module _ (R : Place → Type 0) where
 
 -- ---- what is bound
 
-module _ (G : Origin → Type 0) (R : Place → Type 0) where
+abbrev InFile : (Place → Type 0) → Origin → Type 0
+InFile R origin = R origin.source
+
+module _ (G M : Origin → Type 0) (R : Place → Type 0) where
   -- what was given, and what is the default, in its file
   abbrev BoundBy : Bool → MarkedNode → Type 0
-  BoundBy true node = NodeFrom G node
-  BoundBy false node = NodeFrom (λ origin. R origin.source) node
+  BoundBy true node = NodeFrom G M node
+  BoundBy false node = NodeFrom (InFile R) (InFile R) node
 
   abbrev pub BoundFrom : Bound → Type 0
   BoundFrom one = BoundBy one.given one.value
 
   abbrev pub GivenFrom : Given → Type 0
-  GivenFrom one = NodeFrom G one.value
+  GivenFrom one = NodeFrom G M one.value
 
-  source_in : (node : Node) → NodeIn R node →
-      NodeFrom (λ origin. R origin.source) (literal [] node)
-  unfolding NodeFrom
+  source_in : (node : Node) → NodeIn R node → NodeFrom (InFile R) (InFile R) (literal [] node)
   source_in node within =
-      each_implies (Stands R []) (λ origin. R origin.source) (λ origin stands. stands.0)
-      (origins_of (literal [] node)) (literal_from R [] node within)
+      node_implies (Stands R []) (InFile R) (Stands R []) (InFile R) (λ origin stands. stands.0)
+      (λ origin stands. stands.0) (literal [] node) (literal_from R [] node within)
 
   default_by :
       (param : Param) (node : Node) (judgement : Judged) →
-      JudgedFrom (λ origin. R origin.source) judgement →
+      JudgedFrom (InFile R) (InFile R) judgement →
       IfOk (default_judged param node judgement) BoundFrom
   default_by param node (Fits one) all = all
   default_by param node NotOfType all = tt
@@ -346,11 +349,11 @@ module _ (G : Origin → Type 0) (R : Place → Type 0) where
   default_from param None within = tt
   default_from param (Some node) within =
       default_by param node (judged param.kind param.values (literal [] node))
-      (judged_from (λ origin. R origin.source) param.kind param.values (literal [] node)
+      (judged_from (InFile R) (InFile R) param.kind param.values (literal [] node)
       (source_in node within))
 
   given_by :
-      (param : Param) (given : Given) (judgement : Judged) → JudgedFrom G judgement →
+      (param : Param) (given : Given) (judgement : Judged) → JudgedFrom G M judgement →
       IfOk (given_judged param given judgement) BoundFrom
   given_by param given (Fits one) all = all
   given_by param given NotOfType all = tt
@@ -362,7 +365,7 @@ module _ (G : Origin → Type 0) (R : Place → Type 0) where
   bound_by param None within all = default_from param param.default within.1
   bound_by param (Some given) within all =
       given_by param given (judged param.kind param.values given.value)
-      (judged_from G param.kind param.values given.value all)
+      (judged_from G M param.kind param.values given.value all)
 
   param_bound :
       (given : List Given) → Each GivenFrom given → (before : List Bound) (param : Param) →
@@ -395,42 +398,50 @@ declared_in R (Some node) within =
     (declares_in R node (out-NodeBody node.body) (node_in R node within).1)
 
 pub bound_to_from :
-    (G : Origin → Type 0) (R : Place → Type 0) (declared : List Param) (given : List Given) →
-    Each (ParamIn R) declared → Each (GivenFrom G R) given →
-    IfOk (bound_to declared given) (Each (BoundFrom G R))
-bound_to_from G R declared given within all =
-    parameter_ok (Each (BoundFrom G R)) (binds declared given)
-    (binds_by G R (unexpected declared given) declared given within all)
+    (G M : Origin → Type 0) (R : Place → Type 0) (declared : List Param) (given : List Given) →
+    Each (ParamIn R) declared → Each (GivenFrom G M R) given →
+    IfOk (bound_to declared given) (Each (BoundFrom G M R))
+bound_to_from G M R declared given within all =
+    parameter_ok (Each (BoundFrom G M R)) (binds declared given)
+    (binds_by G M R (unexpected declared given) declared given within all)
 
 -- ---- the parameters of a frame
+
+-- what is given has Q once an expression took it
+abbrev pub Takeable : (Origin → Type 0) → (Place → Type 0) → Origin → Type 0
+Takeable Q R origin =
+    (name : List ℕ) (place : Place) → R place → Q (across (Argument name place) origin)
 
 module _ (Q : Origin → Type 0) (R : Place → Type 0) (crossings : List Crossing)
     (literal_is : (place : Place) → R place →
     Q (record { source = place; crossings = crossings })) where
-  -- what is given has Q once an expression took it
-  abbrev pub Takeable : Origin → Type 0
-  Takeable origin =
-      (name : List ℕ) (place : Place) → R place → Q (across (Argument name place) origin)
+  abbrev GivenIn : Origin → Type 0
+  GivenIn = Takeable (Seen Q R) R
+
+  abbrev CallIn : Origin → Type 0
+  CallIn = Takeable Q R
 
   parameter_by :
       (given : Bool) (name : List ℕ) (place : Place) (one : MarkedNode) →
-      BoundBy Takeable R given one → (at : Place) → R at →
-      NodeFrom Q (taken at (record {
+      BoundBy GivenIn CallIn R given one → (at : Place) → R at →
+      SeenFrom Q R (taken at (record {
         name = name;
         place = place;
         value = cond given one (moved (crossed crossings) one);
         given = given;
       }))
   parameter_by true name place one all at stands =
-      moved_from Takeable Q (across (Argument name at)) (λ origin takes. takes name at stands) one
-      all
+      moved_from GivenIn (Seen Q R) CallIn Q (across (Argument name at))
+      (λ origin takes. takes name at stands) (λ origin takes. takes name at stands)
+      (λ item path. refl) one all
   parameter_by false name place one all at stands =
-      moved_from (λ origin. R origin.source) Q (crossed crossings)
-      (λ origin within. literal_is origin.source within) one all
+      moved_from (InFile R) (Seen Q R) (InFile R) Q
+      (crossed crossings) (λ origin within. (literal_is origin.source within, literal_is))
+      (λ origin within. literal_is origin.source within) (λ item path. refl) one all
 
   pub parameters_from :
       (declared : List Param) (bound : List Bound) → Each (ParamIn R) declared →
-      Each (BoundFrom Takeable R) bound →
+      Each (BoundFrom GivenIn CallIn R) bound →
       Each (ParameterFrom Q R) (parameters_of crossings declared bound)
   parameters_from [] bound within all = tt
   parameters_from (param ∷ declared) [] within all = tt

@@ -1,6 +1,6 @@
 -- What calls of templates give.
-use Rattle.std.proofs.Common.{◌≡◌, ℕ, zero, suc, ◌-◌, Option, Some, None, Result, List, []}
-use Rattle.std.proofs.Common.{◌∷◌, ◌++◌, map, refl, subst, Bool, true, false, cond}
+use Rattle.std.proofs.Common.{ℕ, zero, suc, ◌-◌, Option, Some, None, Result, List, []}
+use Rattle.std.proofs.Common.{◌∷◌, ◌++◌, map, refl, Bool, true, false, cond}
 use Rattle.std.specs.Prelude.{IfOk, codes}
 use Rattle.std.specs.List.{AllByRecursion as Each}
 use Rattle.pl_base.specs.declared.origin.Crossing.{Crossing}
@@ -11,7 +11,7 @@ use Rattle.pl_base.specs.declared.place.Place.{Place}
 use Rattle.pl_base.specs.declared.node.Node.{Node}
 use Rattle.pl_base.specs.declared.node.NodePair.{NodePair}
 use Rattle.pl_base.specs.declared.node.NodeBody.TheOpen.{Scalar, Seq, Map}
-use Rattle.pl_base.specs.declared.value.Value.{Str, out-Value}
+use Rattle.pl_base.specs.declared.value.Value.{out-Value}
 use Rattle.pl_base.specs.declared.value.Value.TheOpen as layer
 use Rattle.pl_base.specs.declared.value.MarkedNode.{MarkedNode}
 use Rattle.pl_base.specs.declared.value.MarkedPair.{MarkedPair}
@@ -40,14 +40,15 @@ use Rattle.pl_expanding.specs.Expanding.{expanded}
 use Rattle.pl_expanding.specs.Following.{Follow}
 use Rattle.pl_expanding.specs.Levels.{variable_item, items_of, items_from, frame_for, deeper}
 use Rattle.pl_expanding.specs.Levels.{call_by, followed}
+use Rattle.pl_eval_laws.proofs.Leads.{Opened, head_by}
 use Rattle.pl_eval_laws.proofs.Lists.{Has, each_map}
-use Rattle.pl_eval_laws.proofs.Trees.{Opened, NodeFrom, PairFrom, OpenedFrom, node_from, pair_from}
-use Rattle.pl_eval_laws.proofs.Trees.{text_from, object_from, node_parts, pair_parts, value_parts}
+use Rattle.pl_eval_laws.proofs.Trees.{NodeFrom, PairFrom, OpenedFrom, Led, pair_from, text_node}
+use Rattle.pl_eval_laws.proofs.Trees.{object_node, node_parts, node_led, pair_parts, value_parts}
 use Rattle.pl_origins.proofs.Bound.{ParamIn, BoundFrom, Takeable, declared_in, bound_to_from}
 use Rattle.pl_origins.proofs.Bound.{parameters_from}
 use Rattle.pl_origins.proofs.Expanded.{expanded_gives}
 use Rattle.pl_origins.proofs.Following.{FollowedFrom, FollowFrom}
-use Rattle.pl_origins.proofs.Frames.{FrameFrom, ParameterFrom}
+use Rattle.pl_origins.proofs.Frames.{Seen, FrameFrom, ParameterFrom}
 use Rattle.pl_origins.proofs.Moved.{moved_from}
 use Rattle.pl_origins.proofs.Nodes.{NodeIn, PairIn, BodyIn, node_in, under_in}
 use Rattle.pl_origins.proofs.Scalars.{OneFrom}
@@ -63,22 +64,27 @@ module _ (P Q : Origin → Type 0) (R : Place → Type 0) (crossing : Crossing)
     (made_is : (place : Place) → R place →
     Q (record { source = place; crossings = (crossings ++ crossing ∷ []) ++ Made ∷ [] }))
     (argument_is : (origin : Origin) → P origin → (name : List ℕ) (place : Place) → R place →
-    Q (across (Argument name place) (across crossing origin))) where
+    Seen Q R (across (Argument name place) (across crossing origin))) where
   abbrev G : Origin → Type 0
-  G = Takeable Q R (crossings ++ crossing ∷ []) literal_is
+  G = Takeable (Seen Q R) R
+
+  abbrev M : Origin → Type 0
+  M = Takeable Q R
 
   each_given :
-      (arguments : List MarkedPair) → Each (PairFrom P) arguments →
-      Each (λ (one : Given). NodeFrom G one.value) (map (given_across crossing) arguments)
+      (arguments : List MarkedPair) → Each (PairFrom P P) arguments →
+      Each (λ (one : Given). NodeFrom G M one.value) (map (given_across crossing) arguments)
   each_given [] all = tt
   each_given (pair ∷ arguments) all = (
-    moved_from P G (across crossing) argument_is pair.item (pair_parts P pair all.0).1,
+    moved_from P G P M (across crossing) argument_is
+        (λ origin is name place stands. (argument_is origin is name place stands).0)
+        (λ item path. refl) pair.item (pair_parts P P pair all.0).1,
     each_given arguments all.1,
   )
 
   pub framed_from :
       (file : FileKey) (level : ℕ) (pairs : List NodePair) (variables : List Variable)
-      (arguments : List MarkedPair) → Each (PairIn R) pairs → Each (PairFrom P) arguments →
+      (arguments : List MarkedPair) → Each (PairIn R) pairs → Each (PairFrom P P) arguments →
       IfOk (framed_by file level pairs variables arguments crossing crossings) (FrameFrom Q R)
   framed_from file level pairs variables arguments within all =
       let given = map (given_across crossing) arguments in
@@ -88,9 +94,9 @@ module _ (P Q : Origin → Type 0) (R : Place → Type 0) (crossing : Crossing)
       (declared_by (under (codes "parameters") pairs)) _
       (declared_in R (under (codes "parameters") pairs) (under_in R (codes "parameters") pairs
       within))
-      (λ declared stands. ok_then (Each (BoundFrom G R)) (Each (ParameterFrom Q R))
+      (λ declared stands. ok_then (Each (BoundFrom G M R)) (Each (ParameterFrom Q R))
       (bound_to declared given) _
-      (bound_to_from G R declared given stands (each_given arguments all))
+      (bound_to_from G M R declared given stands (each_given arguments all))
       (λ bound is_bound. parameters_from Q R behind literal_is declared bound stands is_bound)))
       (λ parameters is. record {
         literal = literal_is;
@@ -138,20 +144,14 @@ module _ (R : Place → Type 0) where
 -- ---- the item of a call
 
 module _ (P : Origin → Type 0) where
-  pub record CallFrom (call : Called) : Type 0 where
-    -- the scalar of the path
-    path : Origin
-    path_from : P path
-    path_is : path.crossings ≡ call.crossings
-    -- the item's mapping
-    item : Origin
-    item_from : P item
-    item_is : item.source ≡ call.at
-    arguments : Each (PairFrom P) call.arguments
+  abbrev pub CallFrom : Called → Type 0
+  CallFrom call =
+      P (record { source = call.at; crossings = call.crossings })
+      × Each (PairFrom P P) call.arguments
 
   pub pairs_inside :
-      (opened : Opened) (node : MarkedNode) → OpenedFrom P opened →
-      IfOk (pairs_from opened node) (Each (PairFrom P))
+      (opened : Opened) (node : MarkedNode) → OpenedFrom P P opened →
+      IfOk (pairs_from opened node) (Each (PairFrom P P))
   pairs_inside (layer.Object pairs) node all = all
   pairs_inside (layer.Array items) node all = tt
   pairs_inside layer.Null node all = tt
@@ -162,73 +162,62 @@ module _ (P : Origin → Type 0) where
 
   argument_by :
       (b : Bool) (pair : MarkedPair) (problem : Result (List MarkedPair) ExpandFault) →
-      PairFrom P pair → IfOk problem (Each (PairFrom P)) →
-      IfOk (cond b (pairs_from (out-Value pair.item.value) pair.item) problem) (Each (PairFrom P))
+      PairFrom P P pair → IfOk problem (Each (PairFrom P P)) →
+      IfOk (cond b (pairs_from (out-Value pair.item.value) pair.item) problem) (Each (PairFrom P P))
   argument_by true pair problem all other =
       pairs_inside (out-Value pair.item.value) pair.item
-      (value_parts P pair.item.value (node_parts P pair.item (pair_parts P pair all).1).1)
+      (value_parts P P pair.item.value (node_parts P P pair.item (pair_parts P P pair all).1).1)
   argument_by false pair problem all other = other
 
   arguments_inside :
-      (found pairs : List MarkedPair) → Each (PairFrom P) found → Each (PairFrom P) pairs →
-      IfOk (arguments_behind found pairs) (Each (PairFrom P))
+      (found pairs : List MarkedPair) → Each (PairFrom P P) found → Each (PairFrom P P) pairs →
+      IfOk (arguments_behind found pairs) (Each (PairFrom P P))
   arguments_inside found [] before all = before
   arguments_inside found (pair ∷ pairs) before all =
-      ok_then (Each (PairFrom P)) (Each (PairFrom P)) (arguments_at pair) _
+      ok_then (Each (PairFrom P P)) (Each (PairFrom P P)) (arguments_at pair) _
       (argument_by (is pair.key (codes "parameters")) pair _ all.0 tt)
       (λ found are. arguments_inside found pairs are all.1)
 
   call_inside :
-      (opened : Opened) (own : Origin) → P own → OpenedFrom P opened →
+      (opened : Opened) (own : Origin) → Led P own (head_by opened) → OpenedFrom P P opened →
       IfOk (call_from opened own.source) CallFrom
-  call_inside (layer.Object []) own is_own all = tt
-  call_inside (layer.Object (pair ∷ pairs)) own is_own all =
-      let path_all = node_parts P pair.item (pair_parts P pair all.0).1 in
+  call_inside (layer.Object []) own led all = tt
+  call_inside (layer.Object (pair ∷ pairs)) own led all =
       any_then CallFrom (path_text pair.item) _
-      (λ text. ok_then (Each (PairFrom P)) CallFrom (arguments_behind [] pairs) _
-      (arguments_inside [] pairs tt all.1)
-      (λ arguments are. record {
-        path = pair.item.origin;
-        path_from = path_all.0;
-        path_is = refl;
-        item = own;
-        item_from = is_own;
-        item_is = refl;
-        arguments = are;
-      }))
-  call_inside (layer.Array items) own is_own all = tt
-  call_inside layer.Null own is_own all = tt
-  call_inside (layer.Bool truth) own is_own all = tt
-  call_inside (layer.Number number) own is_own all = tt
-  call_inside (layer.Version segments) own is_own all = tt
-  call_inside (layer.Str text) own is_own all = tt
+      (λ text. ok_then (Each (PairFrom P P)) CallFrom (arguments_behind [] pairs) _
+      (arguments_inside [] pairs tt all.1) (λ arguments are. (led, are)))
+  call_inside (layer.Array items) own led all = tt
+  call_inside layer.Null own led all = tt
+  call_inside (layer.Bool truth) own led all = tt
+  call_inside (layer.Number number) own led all = tt
+  call_inside (layer.Version segments) own led all = tt
+  call_inside (layer.Str text) own led all = tt
 
-  pub call_of_from : (item : MarkedNode) → NodeFrom P item → IfOk (call_of item) CallFrom
+  pub call_of_from : (item : MarkedNode) → NodeFrom P P item → IfOk (call_of item) CallFrom
   call_of_from item all =
-      let parts = node_parts P item all in
-      call_inside (out-Value item.value) item.origin parts.0 (value_parts P item.value parts.1)
+      call_inside (out-Value item.value) item.origin (node_led P P item all)
+      (value_parts P P item.value (node_parts P P item all).1)
 
   -- ---- what a call gives in its item's place
 
-  variable_from : (pair : MarkedPair) → PairFrom P pair → NodeFrom P (variable_item pair)
+  variable_from : (pair : MarkedPair) → PairFrom P P pair → NodeFrom P P (variable_item pair)
   variable_from pair all =
-      let parts = pair_parts P pair all in
-      node_from P pair.key_origin _ parts.0
-      (object_from P _ (
-        pair_from P (codes "name") pair.key_origin _ parts.0
-            (node_from P pair.key_origin (Str pair.key) parts.0 (text_from P pair.key)),
-        (pair_from P (codes "value") pair.key_origin pair.item parts.0 parts.1, tt),
-      ))
+      let parts = pair_parts P P pair all in
+      object_node P P pair.key_origin parts.0 _ (
+        pair_from P P (codes "name") pair.key_origin _ parts.0
+            (text_node P P pair.key_origin parts.0 pair.key),
+        (pair_from P P (codes "value") pair.key_origin pair.item parts.0 parts.1, tt),
+      ) parts.0
 
   pub variables_from :
-      (pairs : List MarkedPair) → Each (PairFrom P) pairs →
-      Each (NodeFrom P) (map variable_item pairs)
+      (pairs : List MarkedPair) → Each (PairFrom P P) pairs →
+      Each (NodeFrom P P) (map variable_item pairs)
   variables_from pairs all =
-      each_map (PairFrom P) (NodeFrom P) variable_item variable_from pairs all
+      each_map (PairFrom P P) (NodeFrom P P) variable_item variable_from pairs all
 
   items_inside :
-      (form : Form) (opened : Opened) (place : Place) → OpenedFrom P opened →
-      IfOk (items_of form opened place) (Each (NodeFrom P))
+      (form : Form) (opened : Opened) (place : Place) → OpenedFrom P P opened →
+      IfOk (items_of form opened place) (Each (NodeFrom P P))
   items_inside form (layer.Array items) place all = all
   items_inside Variables (layer.Object pairs) place all = variables_from pairs all
   items_inside Stages (layer.Object pairs) place all = tt
@@ -241,34 +230,32 @@ module _ (P : Origin → Type 0) where
   items_inside form (layer.Str text) place all = tt
 
   items_from_inside :
-      (form : Form) (place : Place) (one : Counted) → OneFrom P one →
+      (R : Place → Type 0) (form : Form) (place : Place) (one : Counted) → OneFrom P R one →
       IfOk (items_from form place one) (FollowedFrom P)
-  items_from_inside form place one all =
-      ok_then (Each (NodeFrom P)) (FollowedFrom P) (items_of form (out-Value one.node.value) place)
+  items_from_inside R form place one all =
+      ok_then (Each (NodeFrom P P)) (FollowedFrom P) (items_of form (out-Value one.node.value) place)
       _ (items_inside form (out-Value one.node.value) place
-      (value_parts P one.node.value (node_parts P one.node all).1))
+      (value_parts P P one.node.value (node_parts P P one.node all.0).1))
       (λ items are. are)
 
 -- ---- What P must keep across the border of a call into a file of which K holds. R holds of the
--- places of that file.
+-- places of that file. A call has its item's place, and the borders that its path crossed.
 
 pub record Borders (P : Origin → Type 0) (R : FileKey → Place → Type 0) (K : FileKey → Type 0)
     : Type 0 where
   pub literal :
-      (key : FileKey) (path item : Origin) (place : Place) → K key → P path → P item →
-      R key place →
-      P (record { source = place; crossings = path.crossings ++ Include key item.source ∷ [] })
+      (key : FileKey) (call : Origin) (place : Place) → K key → P call → R key place →
+      P (record { source = place; crossings = call.crossings ++ Include key call.source ∷ [] })
   pub made :
-      (key : FileKey) (path item : Origin) (place : Place) → K key → P path → P item →
-      R key place →
+      (key : FileKey) (call : Origin) (place : Place) → K key → P call → R key place →
       P (record {
         source = place;
-        crossings = (path.crossings ++ Include key item.source ∷ []) ++ Made ∷ [];
+        crossings = (call.crossings ++ Include key call.source ∷ []) ++ Made ∷ [];
       })
   pub argument :
-      (key : FileKey) (item given : Origin) (name : List ℕ) (place : Place) → K key → P item →
+      (key : FileKey) (call given : Origin) (name : List ℕ) (place : Place) → K key → P call →
       P given → R key place →
-      P (across (Argument name place) (across (Include key item.source) given))
+      Seen P (R key) (across (Argument name place) (across (Include key call.source) given))
 
 -- a file that a path leads to
 abbrev pub FileIn : (FileKey → Place → Type 0) → OpenedFile → Type 0
@@ -291,34 +278,13 @@ module _ (P : Origin → Type 0) (R : FileKey → Place → Type 0) (K : FileKey
       Each (PairIn (R key)) pairs → K key → CallFrom P call →
       IfOk (frame_for key level pairs call frame) (FrameFrom P (R key))
   frame_for_from key level pairs call frame within known from =
+      let at : Origin = record { source = call.at; crossings = call.crossings } in
       framed_from P P (R key) (Include key call.at) call.crossings
-      (λ place stands.
-      subst (λ (at : Place).
-      P (record { source = place; crossings = call.crossings ++ Include key at ∷ [] }))
-      from.item_is
-      (subst (λ (cs : List Crossing).
-      P (record { source = place; crossings = cs ++ Include key from.item.source ∷ [] }))
-      from.path_is
-      (borders.literal key from.path from.item place known from.path_from from.item_from stands)))
-      (λ place stands.
-      subst (λ (at : Place).
-      P (record {
-        source = place;
-        crossings = (call.crossings ++ Include key at ∷ []) ++ Made ∷ [];
-      }))
-      from.item_is
-      (subst (λ (cs : List Crossing).
-      P (record {
-        source = place;
-        crossings = (cs ++ Include key from.item.source ∷ []) ++ Made ∷ [];
-      }))
-      from.path_is
-      (borders.made key from.path from.item place known from.path_from from.item_from stands)))
-      (λ origin is name place stands.
-      subst (λ (at : Place). P (across (Argument name place) (across (Include key at) origin)))
-      from.item_is
-      (borders.argument key from.item origin name place known from.item_from is stands))
-      key level pairs frame.variables call.arguments within from.arguments
+      (λ place stands. borders.literal key at place known from.0 stands)
+      (λ place stands. borders.made key at place known from.0 stands)
+      (λ origin is name place stands. borders.argument key at origin name place known from.0 is
+      stands)
+      key level pairs frame.variables call.arguments within from.1
 
   deeper_from :
       (next : Option Follow) (at : Place) → Has (FollowFrom P U) next →
@@ -330,7 +296,7 @@ module _ (P : Origin → Type 0) (R : FileKey → Place → Type 0) (K : FileKey
       (next : Option Follow) → Has (FollowFrom P U) next → (level : ℕ) →
       FollowFrom P U (call_by next level opens)
   call_gives next follows level frame form item count used =
-      let H : Type 0 = NodeFrom P item in
+      let H : Type 0 = NodeFrom P P item in
       let S = FollowedFrom P in
       first_then U (CallFrom P) S H used (call_of item) _ (call_of_from P item)
       (λ call. static_then U (FollowFrom P U) S (H × CallFrom P call) used (deeper next call.at) _
@@ -355,7 +321,7 @@ module _ (P : Origin → Type 0) (R : FileKey → Place → Type 0) (K : FileKey
       (λ inner. plain_then U S
       (((H × CallFrom P call) × K opened.key) × FrameFrom P (R opened.key) inner) later
       (entered node.place count) _
-      (λ count. used_then U (OneFrom P) S
+      (λ count. used_then U (OneFrom P (R opened.key)) S
       (((H × CallFrom P call) × K opened.key) × FrameFrom P (R opened.key) inner) later
       (expanded body follow inner (InCalls form) count later) _
       (expanded_gives P (R opened.key) U body stands
@@ -363,8 +329,8 @@ module _ (P : Origin → Type 0) (R : FileKey → Place → Type 0) (K : FileKey
       (InCalls form) count later goes (λ h. h.1))
       (λ one last. alone_gives U S
       ((((H × CallFrom P call) × K opened.key) × FrameFrom P (R opened.key) inner)
-      × OneFrom P one) last (items_from form body.place one)
-      (λ h. items_from_inside P form body.place one h.1))))))))))
+      × OneFrom P (R opened.key) one) last (items_from form body.place one)
+      (λ h. items_from_inside P (R opened.key) form body.place one h.1))))))))))
 
   -- with so many levels of templates below
   pub followed_gives : (levels : ℕ) → FollowFrom P U (followed levels opens)

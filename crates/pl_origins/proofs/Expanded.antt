@@ -1,6 +1,6 @@
 -- What a file's node gives in a frame.
 use Rattle.std.proofs.Common.{◌≡◌, ℕ, Bool, true, false, List, []}
-use Rattle.std.proofs.Common.{◌∷◌, map, subst, rules}
+use Rattle.std.proofs.Common.{◌∷◌, map, sym, subst, rules}
 use Rattle.std.specs.Prelude.{IfOk}
 use Rattle.std.specs.List.{AllByRecursion as Each}
 use Rattle.pl_base.specs.declared.origin.Origin.{Origin}
@@ -10,7 +10,6 @@ use Rattle.pl_base.specs.declared.node.Node.{Node}
 use Rattle.pl_base.specs.declared.node.NodeBody.{NodeBody, out-NodeBody, roll-NodeBody, the_lemmas}
 use Rattle.pl_base.specs.declared.node.NodePair.{NodePair}
 use Rattle.pl_base.specs.declared.node.NodeBody.TheOpen.{Scalar, Seq, Map}
-use Rattle.pl_base.specs.declared.value.Value.{Str}
 use Rattle.pl_base.specs.declared.value.MarkedNode.{MarkedNode}
 use Rattle.pl_frame.specs.declared.frame.Frame.{Frame}
 use Rattle.pl_frame.specs.Names.{within}
@@ -44,18 +43,23 @@ use Rattle.pl_expanding.specs.Expanding.{facet_of, part_of, shape_of, entry_of, 
 use Rattle.pl_expanding.specs.Following.{Follow}
 use Rattle.pl_expanding.specs.Scalars.{scalar_by, scalar_at, path_at}
 use Rattle.pl_expanding.specs.Scalars.{path_by as path_text_by}
+use Rattle.pl_expanding.specs.Settling.{node_settling}
+use Rattle.pl_directives.specs.declared.progress.Counted.{Counted}
 use Rattle.pl_calls.specs.Parts.{Body}
-use Rattle.pl_eval_laws.proofs.Trees.{NodeFrom, node_from, pair_from, text_from}
+use Rattle.pl_eval_laws.proofs.Lists.{Has}
+use Rattle.pl_eval_laws.proofs.Trees.{pair_from}
 use Rattle.pl_origins.proofs.Contents.{ProgressFrom, nothing_from, as_items_from}
 use Rattle.pl_origins.proofs.Contents.{as_pairs_from, put_pair_from, finished_from, absorbed_from}
 use Rattle.pl_origins.proofs.Following.{FollowFrom, add_item_gives, splice_gives, spread_gives}
-use Rattle.pl_origins.proofs.Following.{settling_gives}
-use Rattle.pl_origins.proofs.Frames.{FrameFrom, turn_from}
+use Rattle.pl_origins.proofs.Following.{KeptFrom, settling_gives}
+use Rattle.pl_origins.proofs.Frames.{Seen, SeenFrom, FrameFrom, turn_from, literal_seen}
 use Rattle.pl_origins.proofs.Induction.{BodyParts, written_induction}
 use Rattle.pl_origins.proofs.Nodes.{NodeIn, PairIn, BodyIn, node_in, pair_in}
 use Rattle.pl_origins.proofs.Scalars.{OneFrom, KeyFrom, ActionFrom, counted_value_from, plain_from}
-use Rattle.pl_origins.proofs.Scalars.{joined_from, key_by_from, key_asks_from}
-use Rattle.pl_origins.proofs.Steps.{Gives, ok_then, any_then, given, done_gives, alone_gives}
+use Rattle.pl_origins.proofs.Scalars.{joined_from, key_by_from, key_asks_from, SeenOne, seen_tree}
+use Rattle.pl_origins.proofs.Scalars.{seen_held, text_held}
+use Rattle.pl_origins.proofs.Steps.{Gives, ok_then, any_then, given, implied, done_gives}
+use Rattle.pl_origins.proofs.Steps.{alone_gives}
 use Rattle.pl_origins.proofs.Steps.{plain_then, first_then, used_then}
 
 -- ---- the path of a call
@@ -63,38 +67,50 @@ use Rattle.pl_origins.proofs.Steps.{plain_then, first_then, used_then}
 module _ (P : Origin → Type 0) (R : Place → Type 0) (frame : Frame) (from : FrameFrom P R frame)
     (place : Place) (stands : R place) where
   path_text_from :
-      (form : ScalarForm) (text : List ℕ) → IfOk (path_text_by form text frame place) (KeyFrom P)
-  path_text_from Plain text = from.literal place stands
+      (form : ScalarForm) (text : List ℕ) → IfOk (path_text_by form text frame place) (KeyFrom P R)
+  path_text_from Plain text = literal_seen P R frame from place stands
   path_text_from (Whole inside) text = key_by_from P R frame from place stands (Whole inside)
   path_text_from (Joined pieces) text = key_by_from P R frame from place stands (Joined pieces)
   path_text_from Unclosed text = key_by_from P R frame from place stands Unclosed
 
   path_at_from :
-      (text : List ℕ) (count : ℕ) → IfOk (path_at text frame place count) (OneFrom P)
+      (text : List ℕ) (count : ℕ) → IfOk (path_at text frame place count) (OneFrom P R)
   path_at_from text count =
-      any_then (OneFrom P) (entered place count) _
-      (λ count. ok_then (KeyFrom P) (OneFrom P) (path_text_by (form_of text) text frame place) _
+      any_then (OneFrom P R) (entered place count) _
+      (λ count. ok_then (KeyFrom P R) (OneFrom P R) (path_text_by (form_of text) text frame place) _
       (path_text_from (form_of text) text)
-      (λ path own. node_from P path.origin (Str path.key) own (text_from P path.key)))
+      (λ path own. text_held P R path.origin path.key own))
 
   pub path_from :
-      (shape : Shape) (count : ℕ) → IfOk (path_by shape place frame count) (OneFrom P)
+      (shape : Shape) (count : ℕ) → IfOk (path_by shape place frame count) (OneFrom P R)
   path_from (scalar text) count = path_at_from text count
-  path_from (sequence fill) count = any_then (OneFrom P) (entered place count) _ (λ count. tt)
+  path_from (sequence fill) count = any_then (OneFrom P R) (entered place count) _ (λ count. tt)
   path_from (mapping manner fill) count =
-      any_then (OneFrom P) (entered place count) _ (λ count. tt)
+      any_then (OneFrom P R) (entered place count) _ (λ count. tt)
+
+kept_held :
+    (P : Origin → Type 0) (R : Place → Type 0) (node : MarkedNode) (one : Counted) →
+    SeenFrom P R node → KeptFrom P node one → OneFrom P R one
+kept_held P R node one all kept =
+    let held = seen_held P R node all in (
+      kept.0,
+      (
+        subst (Seen P R) (sym kept.1.0) held.1.0,
+        subst (Has (Seen P R)) (sym kept.1.1) held.1.1,
+      ),
+    )
 
 module _ (P : Origin → Type 0) (R : Place → Type 0) (U : List FileKey → Type 0) where
   abbrev pub Held : Type 0 → Frame → Progress → Type 0
-  Held H frame progress = (H → FrameFrom P R frame) × (H → ProgressFrom P progress)
+  Held H frame progress = (H → FrameFrom P R frame) × (H → ProgressFrom P R progress)
 
   -- what a filling puts behind what is there
   abbrev pub FillingFrom : Filling → Type 0
   FillingFrom fill =
       (follow : Follow) (frame : Frame) (region : Region) (progress : Progress)
       (used : List FileKey) → FollowFrom P U follow →
-      Gives U (FrameFrom P R frame × ProgressFrom P progress) used
-      (fill follow frame region progress used) (ProgressFrom P)
+      Gives U (FrameFrom P R frame × ProgressFrom P R progress) used
+      (fill follow frame region progress used) (ProgressFrom P R)
 
   abbrev pub ShapeFrom : Shape → Type 0
   ShapeFrom (scalar text) = Unit {0}
@@ -111,10 +127,10 @@ module _ (P : Origin → Type 0) (R : Place → Type 0) (U : List FileKey → Ty
     filled :
         (fill : Filling) → FillingFrom fill → (H : Type 0) (frame : Frame) (region : Region)
         (progress : Progress) (used : List FileKey) → (H → FrameFrom P R frame) →
-        (H → ProgressFrom P progress) →
-        Gives U H used (fill follow frame region progress used) (ProgressFrom P)
+        (H → ProgressFrom P R progress) →
+        Gives U H used (fill follow frame region progress used) (ProgressFrom P R)
     filled fill fills H frame region progress used from all =
-        given U (ProgressFrom P) (FrameFrom P R frame × ProgressFrom P progress) H used
+        given U (ProgressFrom P R) (FrameFrom P R frame × ProgressFrom P R progress) H used
         (fill follow frame region progress used) (λ h. (from h, all h))
         (fills follow frame region progress used follows)
 
@@ -123,26 +139,29 @@ module _ (P : Origin → Type 0) (R : Place → Type 0) (U : List FileKey → Ty
     scalar_by_gives :
         (form : ScalarForm) (text : List ℕ) (H : Type 0) (frame : Frame) (region : Region)
         (place : Place) (count : ℕ) (used : List FileKey) → R place → (H → FrameFrom P R frame) →
-        Gives U H used (scalar_by form text follow frame region place count used) (OneFrom P)
+        Gives U H used (scalar_by form text follow frame region place count used) (OneFrom P R)
     scalar_by_gives Plain text H frame region place count used stands from =
-        done_gives U (OneFrom P) H used (plain_scalar text frame place count)
+        done_gives U (OneFrom P R) H used (plain_scalar text frame place count)
         (λ h. plain_from P R frame (from h) place stands text count)
     scalar_by_gives (Whole inside) text H frame region place count used stands from =
-        first_then U (OneFrom P) (OneFrom P) H used (counted_value_at frame place inside count) _
+        first_then U (SeenOne P R) (OneFrom P R) H used (counted_value_at frame place inside count) _
         (λ h. counted_value_from P R frame (from h) place stands inside count)
-        (λ one. settling_gives P U (H × OneFrom P one) one.node follow frame region one.count used
-        follows (λ h. h.1))
+        (λ one. implied U (KeptFrom P one.node) (OneFrom P R) (H × SeenOne P R one) used
+        (node_settling one.node follow frame region one.count used)
+        (λ after h kept. kept_held P R one.node after h.1 kept)
+        (settling_gives P U (H × SeenOne P R one) one.node follow frame region one.count used
+        follows (λ h. seen_tree P R one.node h.1)))
     scalar_by_gives (Joined pieces) text H frame region place count used stands from =
-        alone_gives U (OneFrom P) H used (joined_scalar pieces frame place count)
+        alone_gives U (OneFrom P R) H used (joined_scalar pieces frame place count)
         (λ h. joined_from P R frame (from h) place stands pieces count)
     scalar_by_gives Unclosed text H frame region place count used stands from = tt
 
     scalar_gives :
         (text : List ℕ) (H : Type 0) (frame : Frame) (region : Region) (place : Place) (count : ℕ)
         (used : List FileKey) → R place → (H → FrameFrom P R frame) →
-        Gives U H used (scalar_at text follow frame region place count used) (OneFrom P)
+        Gives U H used (scalar_at text follow frame region place count used) (OneFrom P R)
     scalar_gives text H frame region place count used stands from =
-        plain_then U (OneFrom P) H used (entered place count) _
+        plain_then U (OneFrom P R) H used (entered place count) _
         (λ count. scalar_by_gives (form_of text) text H frame region place count used stands from)
 
     -- ---- a node as a value
@@ -151,22 +170,22 @@ module _ (P : Origin → Type 0) (R : Place → Type 0) (U : List FileKey → Ty
         (of : Kind) (fill : Filling) → FillingFrom fill → (H : Type 0) (place : Place)
         (frame : Frame) (region : Region) (count : ℕ) (used : List FileKey) → R place →
         (H → FrameFrom P R frame) →
-        Gives U H used (collected of fill place follow frame region count used) (OneFrom P)
+        Gives U H used (collected of fill place follow frame region count used) (OneFrom P R)
     collected_gives of fill fills H place frame region count used stands from =
-        plain_then U (OneFrom P) H used (entered place count) _
-        (λ count. used_then U (ProgressFrom P) (OneFrom P) H used
+        plain_then U (OneFrom P R) H used (entered place count) _
+        (λ count. used_then U (ProgressFrom P R) (OneFrom P R) H used
         (fill follow frame region (begun of Closed count) used) _
         (filled fill fills H frame region (begun of Closed count) used from
-        (λ h. nothing_from P of))
-        (λ inner later. alone_gives U (OneFrom P) (H × ProgressFrom P inner) later
+        (λ h. nothing_from P R of))
+        (λ inner later. alone_gives U (OneFrom P R) (H × ProgressFrom P R inner) later
         (finished (literal_at frame place) inner)
-        (λ h. finished_from P (literal_at frame place) inner ((from h.0).literal place stands)
-        h.1)))
+        (λ h. finished_from P R (literal_at frame place)
+        (literal_seen P R frame (from h.0) place stands) stands inner h.1)))
 
     pub value_gives :
         (shape : Shape) → ShapeFrom shape → (H : Type 0) (place : Place) (frame : Frame)
         (region : Region) (count : ℕ) (used : List FileKey) → R place → (H → FrameFrom P R frame) →
-        Gives U H used (value_by shape place follow frame region count used) (OneFrom P)
+        Gives U H used (value_by shape place follow frame region count used) (OneFrom P R)
     value_gives (scalar text) fills H place frame region count used stands from =
         scalar_gives text H frame region place count used stands from
     value_gives (sequence fill) fills H place frame region count used stands from =
@@ -179,63 +198,63 @@ module _ (P : Origin → Type 0) (R : Place → Type 0) (U : List FileKey → Ty
     body_by_gives :
         (shape : Shape) → ShapeFrom shape → (H : Type 0) (place : Place) (problem : ExpandProblem)
         (frame : Frame) (region : Region) (progress : Progress) (used : List FileKey) → R place →
-        (H → FrameFrom P R frame) → (H → ProgressFrom P progress) →
+        (H → FrameFrom P R frame) → (H → ProgressFrom P R progress) →
         Gives U H used (body_by shape place problem follow frame region progress used)
-        (ProgressFrom P)
+        (ProgressFrom P R)
     body_by_gives (scalar text) fills H place problem frame region progress used stands from all =
-        used_then U (OneFrom P) (ProgressFrom P) H used
+        used_then U (OneFrom P R) (ProgressFrom P R) H used
         (scalar_at text follow frame region place progress.count used) _
         (scalar_gives text H frame region place progress.count used stands from)
-        (λ one later. alone_gives U (ProgressFrom P) (H × OneFrom P one) later
+        (λ one later. alone_gives U (ProgressFrom P R) (H × OneFrom P R one) later
         (absorbed one.node problem place (with_count one.count progress))
-        (λ h. absorbed_from P one.node problem place (with_count one.count progress) h.1
+        (λ h. absorbed_from P R one.node problem place (with_count one.count progress) h.1
         (all h.0)))
     body_by_gives (sequence fill) fills H place problem frame region progress used stands from
         all =
-        plain_then U (ProgressFrom P) H used (entered place progress.count) _
-        (λ count. first_then U (ProgressFrom P) (ProgressFrom P) H used
+        plain_then U (ProgressFrom P R) H used (entered place progress.count) _
+        (λ count. first_then U (ProgressFrom P R) (ProgressFrom P R) H used
         (as_items problem place (with_count count progress)) _
-        (λ h. as_items_from P problem place (with_count count progress) (all h))
-        (λ begun. filled fill fills (H × ProgressFrom P begun) frame region begun used
+        (λ h. as_items_from P R problem place (with_count count progress) (all h))
+        (λ begun. filled fill fills (H × ProgressFrom P R begun) frame region begun used
         (λ h. from h.0) (λ h. h.1)))
     body_by_gives (mapping manner fill) fills H place problem frame region progress used stands
         from all =
-        plain_then U (ProgressFrom P) H used (entered place progress.count) _
-        (λ count. first_then U (ProgressFrom P) (ProgressFrom P) H used
+        plain_then U (ProgressFrom P R) H used (entered place progress.count) _
+        (λ count. first_then U (ProgressFrom P R) (ProgressFrom P R) H used
         (as_pairs problem place (with_count count progress)) _
-        (λ h. as_pairs_from P problem place (with_count count progress) (all h))
-        (λ begun. filled fill fills (H × ProgressFrom P begun) frame region begun used
+        (λ h. as_pairs_from P R problem place (with_count count progress) (all h))
+        (λ begun. filled fill fills (H × ProgressFrom P R begun) frame region begun used
         (λ h. from h.0) (λ h. h.1)))
 
     body_gives :
         (part : Part) → PartFrom part → (H : Type 0) (problem : ExpandProblem) (frame : Frame)
         (region : Region) (progress : Progress) (used : List FileKey) →
-        (H → FrameFrom P R frame) → (H → ProgressFrom P progress) →
-        Gives U H used (body part problem follow frame region progress used) (ProgressFrom P)
+        (H → FrameFrom P R frame) → (H → ProgressFrom P R progress) →
+        Gives U H used (body part problem follow frame region progress used) (ProgressFrom P R)
     body_gives part fills H problem frame region progress used from all =
-        used_then U (ProgressFrom P) (ProgressFrom P) H used
+        used_then U (ProgressFrom P R) (ProgressFrom P R) H used
         (body_by part.shape part.place problem follow frame region (with_chain Closed progress)
         used) _
         (body_by_gives part.shape fills.1 H part.place problem frame region
         (with_chain Closed progress) used fills.0 from all)
-        (λ after later. done_gives U (ProgressFrom P) (H × ProgressFrom P after) later
+        (λ after later. done_gives U (ProgressFrom P R) (H × ProgressFrom P R after) later
         (with_chain Closed after) (λ h. h.1))
 
     turns_give :
         (name : List ℕ) (part : Part) → PartFrom part → (items : List MarkedNode) (H : Type 0)
         (frame : Frame) (region : Region) (progress : Progress) (used : List FileKey) →
-        (H → Each (NodeFrom P) items) → (H → FrameFrom P R frame) →
-        (H → ProgressFrom P progress) →
-        Gives U H used (turns name part items follow frame region progress used) (ProgressFrom P)
+        (H → Each (SeenFrom P R) items) → (H → FrameFrom P R frame) →
+        (H → ProgressFrom P R progress) →
+        Gives U H used (turns name part items follow frame region progress used) (ProgressFrom P R)
     turns_give name part fills [] H frame region progress used each from all =
-        done_gives U (ProgressFrom P) H used progress all
+        done_gives U (ProgressFrom P R) H used progress all
     turns_give name part fills (item ∷ items) H frame region progress used each from all =
-        used_then U (ProgressFrom P) (ProgressFrom P) H used
+        used_then U (ProgressFrom P R) (ProgressFrom P R) H used
         (body part WrongKind follow (within frame name item) region progress used)
         (turns name part items follow frame region)
         (body_gives part fills H WrongKind (within frame name item) region progress used
         (λ h. turn_from P R frame (from h) name item (each h).0) all)
-        (λ after later. turns_give name part fills items (H × ProgressFrom P after) frame region
+        (λ after later. turns_give name part fills items (H × ProgressFrom P R after) frame region
         after later (λ h. (each h.0).1) (λ h. from h.0) (λ h. h.1))
 
     -- ---- pairs of a mapping
@@ -243,9 +262,9 @@ module _ (P : Origin → Type 0) (R : Place → Type 0) (U : List FileKey → Ty
     value_under_gives :
         (path : Bool) (key : List ℕ) (part : Part) → PartFrom part → (H : Type 0) (frame : Frame)
         (region : Region) (count : ℕ) (used : List FileKey) → (H → FrameFrom P R frame) →
-        Gives U H used (value_under path key part follow frame region count used) (OneFrom P)
+        Gives U H used (value_under path key part follow frame region count used) (OneFrom P R)
     value_under_gives true key part fills H frame region count used from =
-        alone_gives U (OneFrom P) H used (path_by part.shape part.place frame count)
+        alone_gives U (OneFrom P R) H used (path_by part.shape part.place frame count)
         (λ h. path_from P R frame (from h) part.place fills.0 part.shape count)
     value_under_gives false key part fills H frame region count used from =
         value_gives part.shape fills.1 H part.place frame (under key region) count used fills.0 from
@@ -253,25 +272,26 @@ module _ (P : Origin → Type 0) (R : Place → Type 0) (U : List FileKey → Ty
     done_gives_all :
         (asked : Action) (part : Part) → PartFrom part → (H : Type 0) (frame : Frame)
         (region : Region) (progress : Progress) (used : List FileKey) →
-        (H → ActionFrom P asked) → (H → FrameFrom P R frame) → (H → ProgressFrom P progress) →
-        Gives U H used (done asked part follow frame region progress used) (ProgressFrom P)
+        (H → ActionFrom P R asked) → (H → FrameFrom P R frame) → (H → ProgressFrom P R progress) →
+        Gives U H used (done asked part follow frame region progress used) (ProgressFrom P R)
     done_gives_all (action.Put key origin) part fills H frame region progress used own from all =
-        used_then U (OneFrom P) (ProgressFrom P) H used
+        used_then U (OneFrom P R) (ProgressFrom P R) H used
         (value_under (is_path region progress.content key) key part follow frame region
         progress.count used) _
         (value_under_gives (is_path region progress.content key) key part fills H frame region
         progress.count used from)
-        (λ one later. alone_gives U (ProgressFrom P) (H × OneFrom P one) later _
-        (λ h. put_pair_from P (record { key = key; key_origin = origin; item = one.node })
-        one.count progress (pair_from P key origin one.node (own h.0) h.1) (all h.0)))
+        (λ one later. alone_gives U (ProgressFrom P R) (H × OneFrom P R one) later _
+        (λ h. put_pair_from P R (record { key = key; key_origin = origin; item = one.node })
+        one.count progress (pair_from P P key origin one.node (own h.0).0 h.1.0) h.1.1.0
+        (all h.0)))
     done_gives_all (action.Run chain) part fills H frame region progress used own from all =
-        used_then U (ProgressFrom P) (ProgressFrom P) H used
+        used_then U (ProgressFrom P R) (ProgressFrom P R) H used
         (body part WrongKind follow frame region progress used) _
         (body_gives part fills H WrongKind frame region progress used from all)
-        (λ after later. done_gives U (ProgressFrom P) (H × ProgressFrom P after) later
+        (λ after later. done_gives U (ProgressFrom P R) (H × ProgressFrom P R after) later
         (with_chain chain after) (λ h. h.1))
     done_gives_all (action.Pass chain) part fills H frame region progress used own from all =
-        done_gives U (ProgressFrom P) H used (with_chain chain progress) all
+        done_gives U (ProgressFrom P R) H used (with_chain chain progress) all
     done_gives_all (action.Repeat loop count) part fills H frame region progress used own from
         all =
         turns_give loop.name part fills loop.items H frame region
@@ -282,29 +302,29 @@ module _ (P : Origin → Type 0) (R : Place → Type 0) (U : List FileKey → Ty
     pub pair_gives :
         (entry : Entry) → EntryFrom entry → (H : Type 0) (frame : Frame) (region : Region)
         (progress : Progress) (used : List FileKey) → (H → FrameFrom P R frame) →
-        (H → ProgressFrom P progress) →
-        Gives U H used (pair_behind entry follow frame region progress used) (ProgressFrom P)
+        (H → ProgressFrom P R progress) →
+        Gives U H used (pair_behind entry follow frame region progress used) (ProgressFrom P R)
     pair_gives entry fills H frame region progress used from all =
-        first_then U (ActionFrom P) (ProgressFrom P) H used
+        first_then U (ActionFrom P R) (ProgressFrom P R) H used
         (key_asks entry.key frame entry.key_place progress.chain progress.count) _
         (λ h. key_asks_from P R frame (from h) entry.key_place fills.0 entry.key progress.chain
         progress.count)
-        (λ asked. done_gives_all asked entry.part fills.1 (H × ActionFrom P asked) frame region
+        (λ asked. done_gives_all asked entry.part fills.1 (H × ActionFrom P R asked) frame region
         progress used (λ h. h.1) (λ h. from h.0) (λ h. all h.0))
 
     pairs_give :
         (entries : List Entry) → Each EntryFrom entries → (H : Type 0) (frame : Frame)
         (region : Region) (progress : Progress) (used : List FileKey) →
-        (H → FrameFrom P R frame) → (H → ProgressFrom P progress) →
-        Gives U H used (pairs_behind entries follow frame region progress used) (ProgressFrom P)
+        (H → FrameFrom P R frame) → (H → ProgressFrom P R progress) →
+        Gives U H used (pairs_behind entries follow frame region progress used) (ProgressFrom P R)
     pairs_give [] fills H frame region progress used from all =
-        done_gives U (ProgressFrom P) H used progress all
+        done_gives U (ProgressFrom P R) H used progress all
     pairs_give (entry ∷ entries) fills H frame region progress used from all =
-        used_then U (ProgressFrom P) (ProgressFrom P) H used
+        used_then U (ProgressFrom P R) (ProgressFrom P R) H used
         (pair_behind entry follow frame region progress used)
         (pairs_behind entries follow frame region)
         (pair_gives entry fills.0 H frame region progress used from all)
-        (λ after later. pairs_give entries fills.1 (H × ProgressFrom P after) frame region after
+        (λ after later. pairs_give entries fills.1 (H × ProgressFrom P R after) frame region after
         later (λ h. from h.0) (λ h. h.1))
 
     -- ---- items of a sequence
@@ -313,79 +333,81 @@ module _ (P : Origin → Type 0) (R : Place → Type 0) (U : List FileKey → Ty
         (manner : Manner) (fill : Filling) → FillingFrom fill → (H : Type 0) (place : Place)
         (frame : Frame) (region : Region) (count : ℕ) (progress : Progress)
         (used : List FileKey) → R place → (H → FrameFrom P R frame) →
-        (H → ProgressFrom P progress) →
+        (H → ProgressFrom P R progress) →
         Gives U H used
         (mapping_behind manner fill place follow frame region count progress used)
-        (ProgressFrom P)
+        (ProgressFrom P R)
     mapping_gives Empty fill fills H place frame region count progress used stands from all =
-        first_then U (OneFrom P) (ProgressFrom P) H used
+        first_then U (OneFrom P R) (ProgressFrom P R) H used
         (finished (literal_at frame place) (begun kind.Pairs Closed count)) _
-        (λ h. finished_from P (literal_at frame place) (begun kind.Pairs Closed count)
-        ((from h).literal place stands) tt)
-        (λ one. add_item_gives P U follow follows frame region (H × OneFrom P one) one.node
-        (with_chain Closed (with_count one.count progress)) used (λ h. h.1) (λ h. all h.0))
+        (λ h. finished_from P R (literal_at frame place)
+        (literal_seen P R frame (from h) place stands) stands (begun kind.Pairs Closed count)
+        (tt, tt))
+        (λ one. add_item_gives P R U follow follows frame region (H × OneFrom P R one) one.node
+        (with_chain Closed (with_count one.count progress)) used (λ h. h.1.0) (λ h. all h.0))
     mapping_gives Stays fill fills H place frame region count progress used stands from all =
-        used_then U (ProgressFrom P) (ProgressFrom P) H used
+        used_then U (ProgressFrom P R) (ProgressFrom P R) H used
         (fill follow frame (of_item region) (begun kind.Pairs progress.chain count) used) _
         (filled fill fills H frame (of_item region) (begun kind.Pairs progress.chain count) used
-        from (λ h. tt))
-        (λ inner later. first_then U (OneFrom P) (ProgressFrom P) (H × ProgressFrom P inner) later
+        from (λ h. (tt, tt)))
+        (λ inner later. first_then U (OneFrom P R) (ProgressFrom P R) (H × ProgressFrom P R inner) later
         (finished (literal_at frame place) inner) _
-        (λ h. finished_from P (literal_at frame place) inner ((from h.0).literal place stands) h.1)
-        (λ one. add_item_gives P U follow follows frame region
-        ((H × ProgressFrom P inner) × OneFrom P one) one.node
-        (with_chain inner.chain (with_count inner.count progress)) later (λ h. h.1)
+        (λ h. finished_from P R (literal_at frame place)
+        (literal_seen P R frame (from h.0) place stands) stands inner h.1)
+        (λ one. add_item_gives P R U follow follows frame region
+        ((H × ProgressFrom P R inner) × OneFrom P R one) one.node
+        (with_chain inner.chain (with_count inner.count progress)) later (λ h. h.1.0)
         (λ h. all h.0.0)))
     mapping_gives (Splices of) fill fills H place frame region count progress used stands from
         all =
-        used_then U (ProgressFrom P) (ProgressFrom P) H used
+        used_then U (ProgressFrom P R) (ProgressFrom P R) H used
         (fill follow frame (of_item region) (begun of progress.chain count) used) _
         (filled fill fills H frame (of_item region) (begun of progress.chain count) used from
-        (λ h. nothing_from P of))
-        (λ inner later. splice_gives P U follow follows frame region (H × ProgressFrom P inner)
+        (λ h. nothing_from P R of))
+        (λ inner later. splice_gives P R U follow follows frame region (H × ProgressFrom P R inner)
         (literal_at frame place) inner.content
-        (with_chain inner.chain (with_count inner.count progress)) later
-        (λ h. (from h.0).literal place stands) (λ h. h.1) (λ h. all h.0))
+        (with_chain inner.chain (with_count inner.count progress)) later stands
+        (λ h. literal_seen P R frame (from h.0) place stands) (λ h. h.1) (λ h. all h.0))
     mapping_gives (Mixed other) fill fills H place frame region count progress used stands from
         all = tt
 
     item_by_gives :
         (shape : Shape) → ShapeFrom shape → (H : Type 0) (place : Place) (frame : Frame)
         (region : Region) (progress : Progress) (used : List FileKey) → R place →
-        (H → FrameFrom P R frame) → (H → ProgressFrom P progress) →
-        Gives U H used (item_by shape place follow frame region progress used) (ProgressFrom P)
+        (H → FrameFrom P R frame) → (H → ProgressFrom P R progress) →
+        Gives U H used (item_by shape place follow frame region progress used) (ProgressFrom P R)
     item_by_gives (scalar text) fills H place frame region progress used stands from all =
-        used_then U (OneFrom P) (ProgressFrom P) H used
+        used_then U (OneFrom P R) (ProgressFrom P R) H used
         (scalar_at text follow frame region place progress.count used) _
         (scalar_gives text H frame region place progress.count used stands from)
-        (λ one later. spread_gives P U follow follows frame region (H × OneFrom P one) one.node
-        (with_chain Closed (with_count one.count progress)) later (λ h. h.1) (λ h. all h.0))
+        (λ one later. spread_gives P R U follow follows frame region (H × OneFrom P R one) one.node
+        (with_chain Closed (with_count one.count progress)) later (λ h. h.1.0) (λ h. all h.0))
     item_by_gives (sequence fill) fills H place frame region progress used stands from all =
-        used_then U (OneFrom P) (ProgressFrom P) H used
+        used_then U (OneFrom P R) (ProgressFrom P R) H used
         (collected kind.Items fill place follow frame (inside region) progress.count used) _
         (collected_gives kind.Items fill fills H place frame (inside region) progress.count used
         stands from)
-        (λ one later. add_item_gives P U follow follows frame region (H × OneFrom P one) one.node
-        (with_chain Closed (with_count one.count progress)) later (λ h. h.1) (λ h. all h.0))
+        (λ one later. add_item_gives P R U follow follows frame region (H × OneFrom P R one) one.node
+        (with_chain Closed (with_count one.count progress)) later (λ h. h.1.0) (λ h. all h.0))
     item_by_gives (mapping manner fill) fills H place frame region progress used stands from all =
-        plain_then U (ProgressFrom P) H used (entered place progress.count) _
+        plain_then U (ProgressFrom P R) H used (entered place progress.count) _
         (λ count. mapping_gives manner fill fills H place frame region count progress used stands
         from all)
 
     items_give :
         (parts : List Part) → Each PartFrom parts → (H : Type 0) (frame : Frame)
         (region : Region) (progress : Progress) (used : List FileKey) →
-        (H → FrameFrom P R frame) → (H → ProgressFrom P progress) →
-        Gives U H used (items_behind parts follow frame region progress used) (ProgressFrom P)
+        (H → FrameFrom P R frame) → (H → ProgressFrom P R progress) →
+        Gives U H used (items_behind parts follow frame region progress used) (ProgressFrom P R)
     items_give [] fills H frame region progress used from all =
-        done_gives U (ProgressFrom P) H used progress all
+        done_gives U (ProgressFrom P R) H used progress all
     items_give (part ∷ parts) fills H frame region progress used from all =
-        used_then U (ProgressFrom P) (ProgressFrom P) H used
+        used_then U (ProgressFrom P R) (ProgressFrom P R) H used
         (item_behind part follow frame region progress used)
         (items_behind parts follow frame region)
         (item_by_gives part.shape fills.0.1 H part.place frame region progress used fills.0.0 from
         all)
-        (λ after later. items_give parts fills.1 (H × ProgressFrom P after) frame region after
+        (λ after later. items_give parts fills.1 (H × ProgressFrom P R after) frame region after
         later (λ h. from h.0) (λ h. h.1))
 
   -- ---- by induction over the node
@@ -424,7 +446,7 @@ module _ (P : Origin → Type 0) (R : Place → Type 0) (U : List FileKey → Ty
       subst ShapeFrom is
       (λ follow frame region progress used follows.
       items_give follow follows (map part_of items) parts
-      (FrameFrom P R frame × ProgressFrom P progress) frame region progress used (λ h. h.0)
+      (FrameFrom P R frame × ProgressFrom P R progress) frame region progress used (λ h. h.0)
       (λ h. h.1))
   layer_claim (Map pairs) claims within =
       let is :
@@ -436,7 +458,7 @@ module _ (P : Origin → Type 0) (R : Place → Type 0) (U : List FileKey → Ty
       subst ShapeFrom is
       (λ follow frame region progress used follows.
       pairs_give follow follows (map entry_of pairs) entries
-      (FrameFrom P R frame × ProgressFrom P progress) frame region progress used (λ h. h.0)
+      (FrameFrom P R frame × ProgressFrom P R progress) frame region progress used (λ h. h.0)
       (λ h. h.1))
 
   of_layer :
@@ -474,7 +496,7 @@ module _ (P : Origin → Type 0) (R : Place → Type 0) (U : List FileKey → Ty
       (node : Node) → NodeIn R node → (H : Type 0) (follow : Follow) (frame : Frame)
       (region : Region) (count : ℕ) (used : List FileKey) → FollowFrom P U follow →
       (H → FrameFrom P R frame) →
-      Gives U H used (expanded node follow frame region count used) (OneFrom P)
+      Gives U H used (expanded node follow frame region count used) (OneFrom P R)
   expanded_gives node within H follow frame region count used follows from =
       let part = part_from node within in
       value_gives follow follows (part_of node).shape part.1 H (part_of node).place frame region

@@ -11,12 +11,15 @@ use Rattle.pl_base.specs.Files.{text_cmp}
 use Rattle.pl_base.specs.Folding.{folded}
 use Rattle.pl_base.specs.declared.origin.Origin.{Origin}
 use Rattle.pl_base.specs.declared.place.Place.{Place}
+use Rattle.pl_base.specs.declared.value.Value.{Object}
 use Rattle.pl_base.specs.declared.value.MarkedNode.{MarkedNode}
+use Rattle.pl_base.specs.declared.value.MarkedPair.{MarkedPair}
 use Rattle.pl_expr.specs.declared.expr.Expr.{Expr}
 use Rattle.pl_expr.specs.declared.expr.Mode.TheVariants.{Compile}
 use Rattle.pl_expr.specs.Grammar.{Fault, parses}
 use Rattle.pl_expr.proofs.Sound.{parses_given}
 use Rattle.pl_eval.specs.Known.{root_of}
+use Rattle.pl_eval.specs.LookUps.{made}
 use Rattle.pl_eval.specs.Means.{Meaning, means}
 use Rattle.pl_frame.specs.declared.frame.Frame.{Frame}
 use Rattle.pl_frame.specs.declared.frame.Loop.{Loop}
@@ -28,22 +31,33 @@ use Rattle.pl_frame.specs.Names.{loop_entry, contexts_at, roots_at, known_at, wi
 use Rattle.pl_frame.specs.Origins.{literal_at, made_at}
 use Rattle.pl_directives.specs.Scalars.{told_at, value_at}
 use Rattle.pl_eval_laws.proofs.Lists.{Has, each_append, each_map, each_of, each_one}
-use Rattle.pl_eval_laws.proofs.Trees.{NodeFrom, ValueFrom, PairFrom, node_from, pair_from}
-use Rattle.pl_eval_laws.proofs.Trees.{object_from}
+use Rattle.pl_eval_laws.proofs.Leads.{head_in}
+use Rattle.pl_eval_laws.proofs.Trees.{NodeFrom, PairFrom, Any, pair_from, object_node, led_from}
+use Rattle.pl_eval_laws.proofs.Trees.{first_from}
 use Rattle.pl_eval_laws.proofs.Evaluated.{evaluated}
 use Rattle.pl_origins.proofs.Moved.{all_moved_from}
+
+-- What is seen in a frame has P itself, and so has a call that stands in the frame's file and whose
+-- path it is. R holds of the places of that file that are spoken of.
+abbrev pub Seen : (Origin → Type 0) → (Place → Type 0) → Origin → Type 0
+Seen P R origin =
+    P origin
+    × ((place : Place) → R place → P (record { source = place; crossings = origin.crossings }))
+
+-- a tree that is seen in a frame: calls in it have P
+abbrev pub SeenFrom : (Origin → Type 0) → (Place → Type 0) → MarkedNode → Type 0
+SeenFrom P R node = NodeFrom (Seen P R) P node
 
 -- a parameter: where it is declared, and what an expression takes of it
 abbrev pub ParameterFrom : (Origin → Type 0) → (Place → Type 0) → Parameter → Type 0
 ParameterFrom P R parameter =
-    R parameter.place × ((place : Place) → R place → NodeFrom P (taken place parameter))
+    R parameter.place × ((place : Place) → R place → SeenFrom P R (taken place parameter))
 
--- R holds of the places of the frame's file that are spoken of
 pub record FrameFrom (P : Origin → Type 0) (R : Place → Type 0) (frame : Frame) : Type 0 where
   pub literal : (place : Place) → R place → P (literal_at frame place)
   pub made : (place : Place) → R place → P (made_at frame place)
   pub parameters : Each (ParameterFrom P R) frame.parameters
-  pub loops : Each (λ (one : Loop). NodeFrom P one.item) frame.loops
+  pub loops : Each (λ (one : Loop). SeenFrom P R one.item) frame.loops
 
 each_reversed : {X : Type 0} (P : X → Type 0) (xs : List X) → Each P xs → Each P (reverse xs)
 each_reversed P [] all = tt
@@ -70,95 +84,106 @@ has_some :
     {X : Type 0} (P : X → Type 0) (found : Option X) (x : X) → Has P found → found ≡ Some x → P x
 has_some P found x has is = subst (Has P) is has
 
--- the origins of a tree that is made anew
-anything : Origin → Type 0
-anything origin = Unit {0}
-
-anything_below : (one : _) → ValueFrom anything one
-unfolding ValueFrom anything
-anything_below one = each_of anything (λ origin. tt) _
+-- of a tree that is made anew nothing is asked
+anything : (node : MarkedNode) → NodeFrom Any Any node
+unfolding NodeFrom
+anything node = (each_of Any (λ origin. tt) _, each_of Any (λ origin. tt) _)
 
 module _ (P : Origin → Type 0) (R : Place → Type 0) (frame : Frame) (from : FrameFrom P R frame)
   where
-    pub turn_from : (name : List ℕ) (item : MarkedNode) → NodeFrom P item →
+    pub turn_from : (name : List ℕ) (item : MarkedNode) → SeenFrom P R item →
         FrameFrom P R (within frame name item)
     turn_from name item from_item = record {
       literal = from.literal;
       made = from.made;
       parameters = from.parameters;
       loops =
-          each_append (λ (one : Loop). NodeFrom P one.item) frame.loops _ from.loops
-          (each_one (λ (one : Loop). NodeFrom P one.item) (record { name = name; item = item })
+          each_append (λ (one : Loop). SeenFrom P R one.item) frame.loops _ from.loops
+          (each_one (λ (one : Loop). SeenFrom P R one.item) (record { name = name; item = item })
           from_item);
     }
 
     module _ (place : Place) (stands : R place) where
+      pub literal_seen : Seen P R (literal_at frame place)
+      literal_seen = (from.literal place stands, from.literal)
+
+      pub made_seen : Seen P R (made_at frame place)
+      made_seen = (from.made place stands, from.made)
+
+      -- a mapping that is made there
+      pub made_object :
+          (pairs : List MarkedPair) → Each (PairFrom (Seen P R) P) pairs →
+          SeenFrom P R (made (made_at frame place) (Object pairs))
+      made_object pairs all =
+          object_node (Seen P R) P (made_at frame place) made_seen pairs all
+          (led_from (Seen P R) P (made_at frame place) (λ path seen. seen.1 place stands)
+          (head_in pairs) (first_from (Seen P R) P pairs all))
+
       parameter_from :
           (parameter : Parameter) → ParameterFrom P R parameter →
-          PairFrom P (parameter_pair frame place parameter)
+          PairFrom (Seen P R) P (parameter_pair frame place parameter)
       parameter_from parameter all =
-          pair_from P parameter.name (literal_at frame parameter.place) (taken place parameter)
-          (from.literal parameter.place all.0) (all.1 place stands)
+          pair_from (Seen P R) P parameter.name (literal_at frame parameter.place)
+          (taken place parameter) (from.literal parameter.place all.0, from.literal)
+          (all.1 place stands)
 
-      parameters_from : NodeFrom P (parameters_at frame place)
+      parameters_from : SeenFrom P R (parameters_at frame place)
       parameters_from =
-          node_from P (made_at frame place) _ (from.made place stands)
-          (object_from P _ (each_map (ParameterFrom P R) (PairFrom P) (parameter_pair frame place)
-          parameter_from frame.parameters from.parameters))
+          made_object _ (each_map (ParameterFrom P R) (PairFrom (Seen P R) P)
+          (parameter_pair frame place) parameter_from frame.parameters from.parameters)
 
-      variable_from : (one : Variable) → PairFrom P (variable_pair frame place one)
+      variable_from : (one : Variable) → PairFrom (Seen P R) P (variable_pair frame place one)
       variable_from one =
-          pair_from P one.name (made_at frame place) _ (from.made place stands)
-          (node_from P (made_at frame place) _ (from.made place stands)
-          (all_moved_from anything P (λ _. made_at frame place) (λ _ _. from.made place stands)
-          one.value (anything_below one.value)))
+          pair_from (Seen P R) P one.name (made_at frame place) _ made_seen
+          (all_moved_from Any (Seen P R) Any P (λ _. made_at frame place) (λ _ _. made_seen)
+          (λ _ _. made_seen.0) (λ _ _. refl) (made_at frame place) one.value
+          (anything (made (made_at frame place) one.value)))
 
       each_variable_from :
           (variables : List Variable) →
-          Each (PairFrom P) (map (variable_pair frame place) variables)
+          Each (PairFrom (Seen P R) P) (map (variable_pair frame place) variables)
       each_variable_from [] = tt
       each_variable_from (one ∷ variables) = (variable_from one, each_variable_from variables)
 
-      variables_from : NodeFrom P (variables_at frame place)
+      variables_from : SeenFrom P R (variables_at frame place)
       variables_from =
-          node_from P (made_at frame place) _ (from.made place stands)
-          (object_from P _ (each_variable_from frame.variables))
+          made_object _ (each_variable_from frame.variables)
 
       abbrev EntryFrom : Named → Type 0
-      EntryFrom entry = NodeFrom P entry.1
+      EntryFrom entry = SeenFrom P R entry.1
 
       roots_from : Each EntryFrom (roots_at frame place)
       roots_from =
           each_append EntryFrom (map loop_entry (reverse frame.loops)) (contexts_at frame place)
-          (each_map (λ (one : Loop). NodeFrom P one.item) EntryFrom loop_entry (λ one all. all)
+          (each_map (λ (one : Loop). SeenFrom P R one.item) EntryFrom loop_entry (λ one all. all)
           (reverse frame.loops)
-          (each_reversed (λ (one : Loop). NodeFrom P one.item) frame.loops from.loops))
+          (each_reversed (λ (one : Loop). SeenFrom P R one.item) frame.loops from.loops))
           (parameters_from, (variables_from, tt))
 
       known_from :
           (name : List ℕ) (root : MarkedNode) → root_of (known_at frame place) name ≡ Some root →
-          NodeFrom P root
+          SeenFrom P R root
       known_from name root is =
-          has_some (NodeFrom P) (finite.find text_cmp (folded name) (roots_at frame place)) root
-          (found_by (NodeFrom P) (folded name) (roots_at frame place) roots_from)
+          has_some (SeenFrom P R) (finite.find text_cmp (folded name) (roots_at frame place)) root
+          (found_by (SeenFrom P R) (folded name) (roots_at frame place) roots_from)
           (sym (finite.get-from_entries nat_list_cmp_total (roots_at frame place) (folded name))
           ∙ is)
 
       told_from :
-          (meaning : Meaning) → IfOk meaning (NodeFrom P) →
-          IfOk (told_at place (defined meaning)) (NodeFrom P)
+          (meaning : Meaning) → IfOk meaning (SeenFrom P R) →
+          IfOk (told_at place (defined meaning)) (SeenFrom P R)
       told_from (Ok node) all = all
       told_from (Err code) all = tt
 
       meant_from :
           (text : List ℕ) (read : Result Expr Fault) → parses Compile text ≡ read →
-          IfOk (told_at place (meant_by frame place read)) (NodeFrom P)
+          IfOk (told_at place (meant_by frame place read)) (SeenFrom P R)
       meant_from text (Ok expr) is =
           told_from (means (known_at frame place) (made_at frame place) expr)
-          (evaluated P (made_at frame place) (from.made place stands) (known_at frame place)
-          known_from Compile 50 expr (parses_given Compile text expr is))
+          (evaluated (Seen P R) P (made_at frame place) made_seen (known_at frame place) known_from
+          Compile 50 expr (parses_given Compile text expr is))
       meant_from text (Err fault) is = tt
 
       -- the value of an expression in the scalar or key there
-      pub value_from : (text : List ℕ) → IfOk (value_at frame place text) (NodeFrom P)
+      pub value_from : (text : List ℕ) → IfOk (value_at frame place text) (SeenFrom P R)
       value_from text = meant_from text (parses Compile text) refl

@@ -18,17 +18,19 @@ use Rattle.pl_calls.specs.Reaching.{Opens, node_in as file_node}
 use Rattle.pl_expanding.specs.Expanding.{expanded}
 use Rattle.pl_expanding.specs.Levels.{followed}
 use Rattle.pl_eval_laws.proofs.Lists.{each_implies}
-use Rattle.pl_eval_laws.proofs.Trees.{NodeFrom}
-use Rattle.pl_origins.specs.Behind.{KeepsWhatWasExtended}
+use Rattle.pl_eval_laws.specs.Trees.{origins_of}
+use Rattle.pl_eval_laws.proofs.Trees.{NodeFrom, node_implies}
+use Rattle.pl_origins.specs.Behind.{IsTreeThrough, KeepsWhatWasExtended}
 use Rattle.pl_origins.specs.Through.{extended_in, IsThrough}
 use Rattle.pl_origins.proofs.Called.{Borders, FileIn, OpensFrom, followed_gives}
 use Rattle.pl_origins.proofs.Expanded.{expanded_gives}
 use Rattle.pl_origins.proofs.Following.{FollowFrom}
-use Rattle.pl_origins.proofs.Frames.{FrameFrom, ParameterFrom}
+use Rattle.pl_origins.proofs.Frames.{Seen, SeenFrom, FrameFrom, ParameterFrom}
+use Rattle.pl_origins.proofs.Leading.{leads_follow}
 use Rattle.pl_origins.proofs.Moved.{moved_from}
 use Rattle.pl_origins.proofs.Nodes.{NodeIn, anywhere}
 use Rattle.pl_origins.proofs.Scalars.{OneFrom}
-use Rattle.pl_origins.proofs.Steps.{Used, Gives}
+use Rattle.pl_origins.proofs.Steps.{Used, Gives, implied}
 
 -- ---- where nothing is asked
 
@@ -99,51 +101,72 @@ module _ (files : List FileKey) where
   pub kept : Borders Extending NoPlace NoFile
   kept = record {
     literal =
-        λ key path item place known from_path from_item stands.
-        more path.crossings (Include key item.source) refl from_path;
+        λ key call place known from_call stands.
+        more call.crossings (Include key call.source) refl from_call;
     made =
-        λ key path item place known from_path from_item stands.
-        more (path.crossings ++ Include key item.source ∷ []) Made refl
-        (more path.crossings (Include key item.source) refl from_path);
+        λ key call place known from_call stands.
+        more (call.crossings ++ Include key call.source ∷ []) Made refl
+        (more call.crossings (Include key call.source) refl from_call);
     argument =
-        λ key item given name place known from_item from_given stands.
-        more (given.crossings ++ Include key item.source ∷ []) (Argument name place) refl
-        (more given.crossings (Include key item.source) refl from_given);
+        λ key call given name place known from_call from_given stands.
+        let is =
+        more (given.crossings ++ Include key call.source ∷ []) (Argument name place) refl
+        (more given.crossings (Include key call.source) refl from_given) in
+        (is, λ at stands. is);
   }
 
-  taken_kept :
-      (given : Bool) (name : List ℕ) (at place : Place) (one : MarkedNode) →
-      NodeFrom Extending one →
-      NodeFrom Extending (taken place (record {
-        name = name;
-        place = at;
-        value = one;
-        given = given;
-      }))
-  taken_kept true name at place one all =
-      moved_from Extending Extending (across (Argument name place)) (argument_kept name place) one
-      all
-  taken_kept false name at place one all = all
+  module _ (file : FileKey) where
+    -- no place is asked, so it holds of each call whose path it holds of
+    abbrev SeenThere : Origin → Type 0
+    SeenThere = Seen Extending (NoPlace file)
 
-  pub frame_kept :
-      (frame : Frame) → extended_in frame.crossings ≡ files →
-      Each (λ (one : Parameter). NodeFrom Extending one.value) frame.parameters →
-      Each (λ (one : Loop). NodeFrom Extending one.item) frame.loops →
-      (file : FileKey) → FrameFrom Extending (NoPlace file) frame
-  frame_kept frame crossed parameters loops file = record {
-    literal = λ place stands. crossed;
-    made = λ place stands. more frame.crossings Made refl crossed;
-    parameters =
-        each_implies (λ (one : Parameter). NodeFrom Extending one.value)
-        (ParameterFrom Extending (NoPlace file))
-        (λ one all. (
-          tt,
-          λ place stands. taken_kept one.given one.name one.place place one.value
-              all,
+    seen_kept : (node : MarkedNode) → Each Extending (origins_of node) →
+        SeenFrom Extending (NoPlace file) node
+    seen_kept node all =
+        node_implies Extending SeenThere Extending Extending
+        (λ origin is. (is, λ place stands. is)) (λ origin is. is) node
+        (leads_follow Extending Extending (λ item path is_item is_path. is_path) node all)
+
+    taken_kept :
+        (given : Bool) (name : List ℕ) (at place : Place) (one : MarkedNode) →
+        Each Extending (origins_of one) →
+        SeenFrom Extending (NoPlace file) (taken place (record {
+          name = name;
+          place = at;
+          value = one;
+          given = given;
+        }))
+    taken_kept true name at place one all =
+        moved_from SeenThere SeenThere Extending Extending (across (Argument name place))
+        (λ origin seen. (
+          argument_kept name place origin seen.0,
+          λ at stands. argument_kept name place origin seen.0,
         ))
-        frame.parameters parameters;
-    loops = loops;
-  }
+        (argument_kept name place) (λ item path. refl) one (seen_kept one all)
+    taken_kept false name at place one all = seen_kept one all
+
+    pub frame_kept :
+        (frame : Frame) → extended_in frame.crossings ≡ files →
+        Each (λ (one : Parameter). Each Extending (origins_of one.value)) frame.parameters →
+        Each (λ (one : Loop). Each Extending (origins_of one.item)) frame.loops →
+        FrameFrom Extending (NoPlace file) frame
+    frame_kept frame crossed parameters loops = record {
+      literal = λ place stands. crossed;
+      made = λ place stands. more frame.crossings Made refl crossed;
+      parameters =
+          each_implies (λ (one : Parameter). Each Extending (origins_of one.value))
+          (ParameterFrom Extending (NoPlace file))
+          (λ one all. (
+            tt,
+            λ place stands. taken_kept one.given one.name one.place place one.value
+                all,
+          ))
+          frame.parameters parameters;
+      loops =
+          each_implies (λ (one : Loop). Each Extending (origins_of one.item))
+          (λ (one : Loop). SeenFrom Extending (NoPlace file) one.item)
+          (λ one all. seen_kept one.item all) frame.loops loops;
+    }
 
   pub follow_kept :
       (levels : ℕ) (opens : Opens) → FollowFrom Extending NoFiles (followed levels opens)
@@ -155,9 +178,11 @@ module _ (files : List FileKey) where
 pub keeps : KeepsWhatWasExtended
 unfolding NodeFrom
 keeps file levels opens frame node region count used behind =
-    plainly (OneFrom (IsThrough file)) (Unit {0}) used
-    (expanded node (followed levels opens) frame region count used) tt
+    let step = expanded node (followed levels opens) frame region count used in
+    plainly (λ one. IsTreeThrough file one.node) (Unit {0}) used step tt
+    (implied NoFiles (OneFrom (IsThrough file) (NoPlace file))
+    (λ one. IsTreeThrough file one.node) (Unit {0}) used step (λ one h held. held.0.0)
     (expanded_gives (IsThrough file) (NoPlace file) NoFiles node
     (anywhere (NoPlace file) (λ place. tt) node) (Unit {0}) (followed levels opens) frame region
     count used (follow_kept (file ∷ []) levels opens)
-    (λ h. frame_kept (file ∷ []) frame behind.crossings behind.parameters behind.loops file))
+    (λ h. frame_kept (file ∷ []) file frame behind.crossings behind.parameters behind.loops)))

@@ -1,5 +1,6 @@
 pub mod Steps
 pub mod Induction
+pub mod Leading
 pub mod Moved
 pub mod Nodes
 pub mod Frames

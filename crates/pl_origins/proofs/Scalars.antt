@@ -8,6 +8,7 @@ use Rattle.pl_base.specs.declared.value.Value.{Str, out-Value}
 use Rattle.pl_base.specs.declared.value.Value.TheOpen as layer
 use Rattle.pl_base.specs.declared.value.MarkedNode.{MarkedNode}
 use Rattle.pl_base.specs.declared.value.MarkedPair.{MarkedPair}
+use Rattle.pl_eval.specs.LookUps.{made}
 use Rattle.pl_frame.specs.declared.frame.Frame.{Frame}
 use Rattle.pl_frame.specs.Names.{pair_object}
 use Rattle.pl_frame.specs.Origins.{literal_at, made_at}
@@ -30,52 +31,81 @@ use Rattle.pl_directives.specs.Counting.{counted}
 use Rattle.pl_directives.specs.Keys.{key_from, key_pieces_behind, key_by}
 use Rattle.pl_directives.specs.Scalars.{value_at, truth_at, one_more, counted_value_at}
 use Rattle.pl_directives.specs.Scalars.{pieces_behind, plain_scalar, joined_scalar}
-use Rattle.pl_eval_laws.proofs.Lists.{each_map}
-use Rattle.pl_eval_laws.proofs.Trees.{Opened, NodeFrom, PairFrom, OpenedFrom, node_from, pair_from}
-use Rattle.pl_eval_laws.proofs.Trees.{text_from, object_from, node_parts, pair_parts, value_parts}
-use Rattle.pl_origins.proofs.Frames.{FrameFrom, value_from}
+use Rattle.pl_eval_laws.proofs.Leads.{Opened, head_of}
+use Rattle.pl_eval_laws.proofs.Lists.{Has, each_map}
+use Rattle.pl_eval_laws.proofs.Trees.{NodeFrom, PairFrom, OpenedFrom, pair_from, text_node}
+use Rattle.pl_eval_laws.proofs.Trees.{node_parts, pair_parts, value_parts, head_from, node_implies}
+use Rattle.pl_origins.proofs.Frames.{Seen, SeenFrom, FrameFrom, literal_seen, made_seen}
+use Rattle.pl_origins.proofs.Frames.{made_object, value_from}
 use Rattle.pl_origins.proofs.Steps.{ok_then, any_then}
 
-abbrev pub OneFrom : (Origin → Type 0) → Counted → Type 0
-OneFrom P one = NodeFrom P one.node
+-- What stands in a frame's place: calls that it holds gave what isn't seen in the frame, but its own
+-- origin is, and the one of its first value.
+abbrev pub HeldFrom : (Origin → Type 0) → (Place → Type 0) → MarkedNode → Type 0
+HeldFrom P R node =
+    NodeFrom P P node × (Seen P R node.origin × Has (Seen P R) (head_of node.value))
 
-abbrev pub KeyFrom : (Origin → Type 0) → MadeKey → Type 0
-KeyFrom P made = P made.origin
+abbrev pub OneFrom : (Origin → Type 0) → (Place → Type 0) → Counted → Type 0
+OneFrom P R one = HeldFrom P R one.node
 
-abbrev pub ActionFrom : (Origin → Type 0) → Action → Type 0
-ActionFrom P (action.Put key origin) = P origin
-ActionFrom P (action.Run chain) = Unit {0}
-ActionFrom P (action.Pass chain) = Unit {0}
-ActionFrom P (action.Repeat loop count) = Each (NodeFrom P) loop.items
-ActionFrom P action.Insert = Unit {0}
+-- a value that an expression gave there
+abbrev pub SeenOne : (Origin → Type 0) → (Place → Type 0) → Counted → Type 0
+SeenOne P R one = SeenFrom P R one.node
+
+abbrev pub KeyFrom : (Origin → Type 0) → (Place → Type 0) → MadeKey → Type 0
+KeyFrom P R made = Seen P R made.origin
+
+abbrev pub ActionFrom : (Origin → Type 0) → (Place → Type 0) → Action → Type 0
+ActionFrom P R (action.Put key origin) = Seen P R origin
+ActionFrom P R (action.Run chain) = Unit {0}
+ActionFrom P R (action.Pass chain) = Unit {0}
+ActionFrom P R (action.Repeat loop count) = Each (SeenFrom P R) loop.items
+ActionFrom P R action.Insert = Unit {0}
+
+module _ (P : Origin → Type 0) (R : Place → Type 0) where
+  pub seen_tree : (node : MarkedNode) → SeenFrom P R node → NodeFrom P P node
+  seen_tree = node_implies (Seen P R) P P P (λ origin seen. seen.0) (λ origin is. is)
+
+  pub seen_held : (node : MarkedNode) → SeenFrom P R node → HeldFrom P R node
+  seen_held node all =
+      let parts = node_parts (Seen P R) P node all in
+      (seen_tree node all, (parts.0, head_from (Seen P R) P node.value parts.1))
+
+  text_seen :
+      (origin : Origin) (text : List ℕ) → Seen P R origin → SeenFrom P R (made origin (Str text))
+  text_seen origin text own = text_node (Seen P R) P origin own text
+
+  pub text_held :
+      (origin : Origin) (text : List ℕ) → Seen P R origin → HeldFrom P R (made origin (Str text))
+  text_held origin text own = seen_held (made origin (Str text)) (text_seen origin text own)
 
 module _ (P : Origin → Type 0) (R : Place → Type 0) (frame : Frame) (from : FrameFrom P R frame)
     (place : Place) (stands : R place) where
   -- ---- scalars
 
   pub counted_value_from :
-      (text : List ℕ) (count : ℕ) → IfOk (counted_value_at frame place text count) (OneFrom P)
+      (text : List ℕ) (count : ℕ) → IfOk (counted_value_at frame place text count) (SeenOne P R)
   counted_value_from text count =
-      ok_then (NodeFrom P) (OneFrom P) (value_at frame place text) (one_more place count)
+      ok_then (SeenFrom P R) (SeenOne P R) (value_at frame place text) (one_more place count)
       (value_from P R frame from place stands text)
-      (λ node all. any_then (OneFrom P) (counted place (nodes_in node) count) _ (λ count. all))
+      (λ node all. any_then (SeenOne P R) (counted place (nodes_in node) count) _ (λ count. all))
 
-  pub plain_from : (text : List ℕ) (count : ℕ) → OneFrom P (plain_scalar text frame place count)
+  pub plain_from : (text : List ℕ) (count : ℕ) → OneFrom P R (plain_scalar text frame place count)
   plain_from text count =
-      node_from P (literal_at frame place) (Str text) (from.literal place stands) (text_from P text)
+      text_held P R (literal_at frame place) text (literal_seen P R frame from place stands)
 
   pub joined_from :
       (pieces : List Piece) (count : ℕ) →
-      IfOk (joined_scalar pieces frame place count) (OneFrom P)
+      IfOk (joined_scalar pieces frame place count) (OneFrom P R)
   joined_from pieces count =
-      any_then (OneFrom P) (pieces_behind frame place pieces (record { text = []; count = count }))
-      _ (λ joined. node_from P (made_at frame place) (Str joined.text) (from.made place stands)
-      (text_from P joined.text))
+      any_then (OneFrom P R) (pieces_behind frame place pieces (record { text = []; count = count }))
+      _ (λ joined. text_held P R (made_at frame place) joined.text
+      (made_seen P R frame from place stands))
 
   -- ---- keys
 
-  atom_key : (opened : Opened) (node : MarkedNode) → P node.origin →
-      IfOk (key_from opened place node) (KeyFrom P)
+  atom_key : (opened : Opened) (node : MarkedNode) → Seen P R node.origin →
+      IfOk (key_from opened place node) (KeyFrom P R)
   atom_key (layer.Array items) node own = tt
   atom_key (layer.Object pairs) node own = tt
   atom_key layer.Null node own = own
@@ -84,56 +114,55 @@ module _ (P : Origin → Type 0) (R : Place → Type 0) (frame : Frame) (from : 
   atom_key (layer.Version segments) node own = own
   atom_key (layer.Str text) node own = own
 
-  pub key_by_from : (made : ScalarForm) → IfOk (key_by made frame place) (KeyFrom P)
+  pub key_by_from : (made : ScalarForm) → IfOk (key_by made frame place) (KeyFrom P R)
   key_by_from (Whole inside) =
-      ok_then (NodeFrom P) (KeyFrom P) (value_at frame place inside) _
+      ok_then (SeenFrom P R) (KeyFrom P R) (value_at frame place inside) _
       (value_from P R frame from place stands inside)
-      (λ node all. atom_key (out-Value node.value) node (node_parts P node all).0)
+      (λ node all. atom_key (out-Value node.value) node (node_parts (Seen P R) P node all).0)
   key_by_from (Joined pieces) =
-      any_then (KeyFrom P) (key_pieces_behind frame place pieces []) _
-      (λ text. from.made place stands)
+      any_then (KeyFrom P R) (key_pieces_behind frame place pieces []) _
+      (λ text. made_seen P R frame from place stands)
   key_by_from Plain = tt
   key_by_from Unclosed = tt
 
   -- ---- what a key asks for
 
-  branch_from : (truth : Bool) → ActionFrom P (branch truth)
+  branch_from : (truth : Bool) → ActionFrom P R (branch truth)
   branch_from true = tt
   branch_from false = tt
 
-  if_from : (text : List ℕ) → IfOk (if_asks frame place text) (ActionFrom P)
+  if_from : (text : List ℕ) → IfOk (if_asks frame place text) (ActionFrom P R)
   if_from text =
-      any_then (ActionFrom P) (truth_at frame place text) _ branch_from
+      any_then (ActionFrom P R) (truth_at frame place text) _ branch_from
 
   elseif_from :
-      (chain : Chain) (text : List ℕ) → IfOk (elseif_asks chain frame place text) (ActionFrom P)
+      (chain : Chain) (text : List ℕ) → IfOk (elseif_asks chain frame place text) (ActionFrom P R)
   elseif_from Closed text = tt
   elseif_from Waiting text = if_from text
   elseif_from Taken text = tt
 
-  else_from : (chain : Chain) → IfOk (else_asks chain place) (ActionFrom P)
+  else_from : (chain : Chain) → IfOk (else_asks chain place) (ActionFrom P R)
   else_from Closed = tt
   else_from Waiting = tt
   else_from Taken = tt
 
   turn_of_pair :
-      (pair : MarkedPair) → PairFrom P pair → NodeFrom P (pair_object frame place pair)
+      (pair : MarkedPair) → PairFrom (Seen P R) P pair → SeenFrom P R (pair_object frame place pair)
   turn_of_pair pair all =
-      let own : P (made_at frame place) = from.made place stands in
-      let parts = pair_parts P pair all in
-      node_from P (made_at frame place) _ own
-      (object_from P _ (
-        pair_from P _ (made_at frame place) _ own
-            (node_from P pair.key_origin (Str pair.key) parts.0 (text_from P pair.key)),
-        (pair_from P _ (made_at frame place) pair.item own parts.1, tt),
-      ))
+      let own : Seen P R (made_at frame place) = made_seen P R frame from place stands in
+      let parts = pair_parts (Seen P R) P pair all in
+      made_object P R frame from place stands _ (
+        pair_from (Seen P R) P _ (made_at frame place) _ own
+            (text_seen P R pair.key_origin pair.key parts.0),
+        (pair_from (Seen P R) P _ (made_at frame place) pair.item own parts.1, tt),
+      )
 
   items_from :
-      (opened : Opened) (name : List ℕ) (count : ℕ) → OpenedFrom P opened →
-      IfOk (items_for opened frame place name count) (ActionFrom P)
+      (opened : Opened) (name : List ℕ) (count : ℕ) → OpenedFrom (Seen P R) P opened →
+      IfOk (items_for opened frame place name count) (ActionFrom P R)
   items_from (layer.Array items) name count all = all
   items_from (layer.Object pairs) name count all =
-      each_map (PairFrom P) (NodeFrom P) (pair_object frame place) turn_of_pair pairs all
+      each_map (PairFrom (Seen P R) P) (SeenFrom P R) (pair_object frame place) turn_of_pair pairs all
   items_from layer.Null name count all = tt
   items_from (layer.Bool truth) name count all = tt
   items_from (layer.Number number) name count all = tt
@@ -142,22 +171,22 @@ module _ (P : Origin → Type 0) (R : Place → Type 0) (frame : Frame) (from : 
 
   each_from :
       (name text : List ℕ) (count : ℕ) →
-      IfOk (each_asks frame place name text count) (ActionFrom P)
+      IfOk (each_asks frame place name text count) (ActionFrom P R)
   each_from name text count =
-      ok_then (OneFrom P) (ActionFrom P) (counted_value_at frame place text count) _
+      ok_then (SeenOne P R) (ActionFrom P R) (counted_value_at frame place text count) _
       (counted_value_from text count)
       (λ one all. items_from (out-Value one.node.value) name one.count
-      (value_parts P one.node.value (node_parts P one.node all).1))
+      (value_parts (Seen P R) P one.node.value (node_parts (Seen P R) P one.node all).1))
 
-  computed_from : (made : ScalarForm) → IfOk (computed_asks made frame place) (ActionFrom P)
+  computed_from : (made : ScalarForm) → IfOk (computed_asks made frame place) (ActionFrom P R)
   computed_from made =
-      ok_then (KeyFrom P) (ActionFrom P) (key_by made frame place) _ (key_by_from made)
+      ok_then (KeyFrom P R) (ActionFrom P R) (key_by made frame place) _ (key_by_from made)
       (λ made own. own)
 
   asks_from :
       (asked : KeyForm) (key : List ℕ) (chain : Chain) (count : ℕ) →
-      IfOk (asks asked key frame place chain count) (ActionFrom P)
-  asks_from form.Plain key chain count = from.literal place stands
+      IfOk (asks asked key frame place chain count) (ActionFrom P R)
+  asks_from form.Plain key chain count = literal_seen P R frame from place stands
   asks_from (form.Computed made) key chain count = computed_from made
   asks_from (form.If text) key chain count = if_from text
   asks_from (form.ElseIf text) key chain count = elseif_from chain text
@@ -168,5 +197,5 @@ module _ (P : Origin → Type 0) (R : Place → Type 0) (frame : Frame) (from : 
 
   pub key_asks_from :
       (key : List ℕ) (chain : Chain) (count : ℕ) →
-      IfOk (key_asks key frame place chain count) (ActionFrom P)
+      IfOk (key_asks key frame place chain count) (ActionFrom P R)
   key_asks_from key chain count = asks_from (key_form_of key) key chain count

@@ -40,6 +40,13 @@ module _ (U : List FileKey → Type 0) where
   given Q G H used (Ok both) more gives = (gives.0, λ ends h. gives.1 ends (more h))
   given Q G H used (Err fault) more gives = tt
 
+  pub implied :
+      {X : Type 0} (Q S : X → Type 0) (H : Type 0) (used : List FileKey) (step : Used X) →
+      ((x : X) → H → Q x → S x) → Gives U H used step Q → Gives U H used step S
+  implied Q S H used (Ok both) implies gives =
+      (gives.0, λ ends h. implies both.0 h (gives.1 ends h))
+  implied Q S H used (Err fault) implies gives = tt
+
   pub done_gives :
       {X : Type 0} (Q : X → Type 0) (H : Type 0) (used : List FileKey) (x : X) → (H → Q x) →
       Gives U H used (Ok (x, used)) Q

@@ -44,7 +44,7 @@ use Rattle.pl_origins.proofs.Called.{template_inside, pairs_inside}
 use Rattle.pl_origins.proofs.Contents.{ContentFrom, ProgressFrom}
 use Rattle.pl_origins.proofs.Expanded.{path_from, part_from, entry_from, expanded_gives, pair_gives}
 use Rattle.pl_origins.proofs.Following.{FollowFrom}
-use Rattle.pl_origins.proofs.Frames.{FrameFrom}
+use Rattle.pl_origins.proofs.Frames.{Seen, FrameFrom}
 use Rattle.pl_origins.proofs.Nodes.{NodeIn, PairIn, BodyIn, node_in, pair_in, under_in}
 use Rattle.pl_origins.proofs.Scalars.{OneFrom}
 use Rattle.pl_origins.proofs.Steps.{Gives, ok_then, plain_then, static_then, first_then}
@@ -70,13 +70,14 @@ pub record ExtendsBorder (P : Origin → Type 0) (T : FileKey → Origin → Typ
       })
   pub argument :
       (key : FileKey) (one : Origin) (name : List ℕ) (place : Place) → K key → P one →
-      R key place → T key (across (Argument name place) (across (Extends key) one))
+      R key place → Seen (T key) (R key) (across (Argument name place) (across (Extends key) one))
 
 abbrev pub PairsFrom : (Origin → Type 0) → SettledPairs → Type 0
-PairsFrom P all = Each (PairFrom P) all.pairs
+PairsFrom P all = Each (PairFrom P P) all.pairs
 
 abbrev pub ExtensionFrom : (FileKey → Origin → Type 0) → Extension → Type 0
-ExtensionFrom T extension = Each (PairFrom (T extension.file)) extension.pairs
+ExtensionFrom T extension =
+    Each (PairFrom (T extension.file) (T extension.file)) extension.pairs
 
 -- ---- in the root's file
 
@@ -89,19 +90,19 @@ module _ (P : Origin → Type 0) (R : Place → Type 0) (U : List FileKey → Ty
   path_inside :
       (pairs : List NodePair) (place : Place) (frame : Frame) (count : ℕ) →
       Each (PairIn R) pairs → FrameFrom P R frame →
-      IfOk (path_in pairs place frame count) (OneFrom P)
+      IfOk (path_in pairs place frame count) (OneFrom P R)
   path_inside pairs place frame count within from =
-      ok_then (NodeIn R) (OneFrom P) (held place (under (codes "template") pairs)) _
+      ok_then (NodeIn R) (OneFrom P R) (held place (under (codes "template") pairs)) _
       (held_inside place (under (codes "template") pairs)
       (under_in R (codes "template") pairs within))
       (λ path stands. path_from P R frame from (part_of path).place
       (part_from P R U path stands).0 (part_of path).shape count)
 
-  mapping_inside : (one : Counted) → OneFrom P one → IfOk (mapping_from one) (PairsFrom P)
+  mapping_inside : (one : Counted) → OneFrom P R one → IfOk (mapping_from one) (PairsFrom P)
   mapping_inside one all =
-      ok_then (Each (PairFrom P)) (PairsFrom P) (pairs_from (out-Value one.node.value) one.node) _
+      ok_then (Each (PairFrom P P)) (PairsFrom P) (pairs_from (out-Value one.node.value) one.node) _
       (pairs_inside P (out-Value one.node.value) one.node
-      (value_parts P one.node.value (node_parts P one.node all).1))
+      (value_parts P P one.node.value (node_parts P P one.node all.0).1))
       (λ pairs are. are)
 
   module _ (follow : Follow) (follows : FollowFrom P U follow) (frame : Frame) where
@@ -110,9 +111,9 @@ module _ (P : Origin → Type 0) (R : Place → Type 0) (U : List FileKey → Ty
         (H → FrameFrom P R frame) →
         Gives U H used (value_from node follow frame count used) (PairsFrom P)
     value_gives H node count used within from =
-        used_then U (OneFrom P) (PairsFrom P) H used (expanded node follow frame Quiet count used) _
+        used_then U (OneFrom P R) (PairsFrom P) H used (expanded node follow frame Quiet count used) _
         (expanded_gives P R U node within H follow frame Quiet count used follows from)
-        (λ one later. alone_gives U (PairsFrom P) (H × OneFrom P one) later (mapping_from one)
+        (λ one later. alone_gives U (PairsFrom P) (H × OneFrom P R one) later (mapping_from one)
         (λ h. mapping_inside one h.1))
 
     argument_gives :
@@ -154,37 +155,37 @@ module _ (P : Origin → Type 0) (R : Place → Type 0) (U : List FileKey → Ty
     (follows : FollowFrom P U follow) (frame : Frame) (region : Region) where
   pair_put :
       (H : Type 0) (pair : NodePair) (progress : Progress) (used : List FileKey) →
-      PairIn R pair → (H → FrameFrom P R frame) → (H → ProgressFrom P progress) →
-      Gives U H used (body_pair pair follow frame region progress used) (ProgressFrom P)
+      PairIn R pair → (H → FrameFrom P R frame) → (H → ProgressFrom P R progress) →
+      Gives U H used (body_pair pair follow frame region progress used) (ProgressFrom P R)
   pair_put H pair progress used within from all = by (is pair.key (codes "parameters"))
     where
       by : (b : Bool) → Gives U H used
           (cond b (Ok (progress, used))
-          (pair_behind (entry_of pair) follow frame region progress used)) (ProgressFrom P)
-      by true = done_gives U (ProgressFrom P) H used progress all
+          (pair_behind (entry_of pair) follow frame region progress used)) (ProgressFrom P R)
+      by true = done_gives U (ProgressFrom P R) H used progress all
       by false =
           pair_gives P R U follow follows (entry_of pair) (entry_from P R U pair within) H frame
           region progress used from all
 
   pairs_put :
       (H : Type 0) (pairs : List NodePair) (progress : Progress) (used : List FileKey) →
-      Each (PairIn R) pairs → (H → FrameFrom P R frame) → (H → ProgressFrom P progress) →
-      Gives U H used (body_pairs pairs follow frame region progress used) (ProgressFrom P)
+      Each (PairIn R) pairs → (H → FrameFrom P R frame) → (H → ProgressFrom P R progress) →
+      Gives U H used (body_pairs pairs follow frame region progress used) (ProgressFrom P R)
   pairs_put H [] progress used within from all =
-      done_gives U (ProgressFrom P) H used progress all
+      done_gives U (ProgressFrom P R) H used progress all
   pairs_put H (pair ∷ pairs) progress used within from all =
-      used_then U (ProgressFrom P) (ProgressFrom P) H used
+      used_then U (ProgressFrom P R) (ProgressFrom P R) H used
       (body_pair pair follow frame region progress used) (body_pairs pairs follow frame region)
       (pair_put H pair progress used within.0 from all)
-      (λ after later. pairs_put (H × ProgressFrom P after) pairs after later within.1
+      (λ after later. pairs_put (H × ProgressFrom P R after) pairs after later within.1
       (λ h. from h.0) (λ h. h.1))
 
 there_from :
-    (P : Origin → Type 0) (content : Content) → ContentFrom P content →
-    Each (PairFrom P) (pairs_there content)
-there_from P Unknown all = tt
-there_from P (Items items) all = tt
-there_from P (Pairs pairs) all = all
+    (P : Origin → Type 0) (R : Place → Type 0) (content : Content) → ContentFrom P R content →
+    Each (PairFrom P P) (pairs_there content)
+there_from P R Unknown all = tt
+there_from P R (Items items) all = tt
+there_from P R (Pairs pairs) all = all.0
 
 unless_in :
     {X : Type 0} (F : X → Type 0) (place : Option Place) (x : X) → F x →
@@ -217,14 +218,14 @@ module _ (P : Origin → Type 0) (T : FileKey → Origin → Type 0) (R : FileKe
       (ExtensionFrom T)
   body_gives file place pairs levels H inner count used within from =
       plain_then U (ExtensionFrom T) H used (entered place count) _
-      (λ count. used_then U (ProgressFrom (T file)) (ExtensionFrom T) H used
+      (λ count. used_then U (ProgressFrom (T file) (R file)) (ExtensionFrom T) H used
       (body_pairs pairs (followed levels opens) inner Free (begun content.Pairs Closed count) used)
       _ (pairs_put (T file) (R file) U (followed levels opens)
       (followed_gives (T file) R K U (inside file) opens opening levels) inner Free H pairs
-      (begun content.Pairs Closed count) used within from (λ h. tt))
-      (λ after later. done_gives U (ExtensionFrom T) (H × ProgressFrom (T file) after) later
+      (begun content.Pairs Closed count) used within from (λ h. (tt, tt)))
+      (λ after later. done_gives U (ExtensionFrom T) (H × ProgressFrom (T file) (R file) after) later
       (record { file = file; pairs = pairs_there after.content; count = after.count })
-      (λ h. there_from (T file) after.content h.1)))
+      (λ h. there_from (T file) (R file) after.content h.1)))
 
   opened_gives :
       (opened : OpenedFile) (path : MarkedNode) (arguments : SettledPairs) (H : Type 0)
@@ -270,17 +271,17 @@ module _ (P : Origin → Type 0) (T : FileKey → Origin → Type 0) (R : FileKe
   mapping_gives root place pairs H frame count used within from =
       let S = ExtensionFrom T in
       plain_then U S H used (entered place count) _
-      (λ count. first_then U (OneFrom P) S H used (path_in pairs place frame count) _
+      (λ count. first_then U (OneFrom P (R root)) S H used (path_in pairs place frame count) _
       (λ h. path_inside P (R root) U pairs place frame count within (from h))
-      (λ path. used_then U (PairsFrom P) S (H × OneFrom P path) used
+      (λ path. used_then U (PairsFrom P) S (H × OneFrom P (R root) path) used
       (arguments_behind pairs (followed 100 opens) frame
       (record { pairs = []; count = path.count }) used) _
       (arguments_give P (R root) U (followed 100 opens) (levels_follow 100) frame
-      (H × OneFrom P path) pairs (record { pairs = []; count = path.count }) used within
+      (H × OneFrom P (R root) path) pairs (record { pairs = []; count = path.count }) used within
       (λ h. from h.0) (λ h. tt))
       (λ arguments later. reached_gives place path.node arguments
-      ((H × OneFrom P path) × PairsFrom P arguments) frame later
-      (λ h. (node_parts P path.node h.0.1).0) (λ h. h.1))))
+      ((H × OneFrom P (R root) path) × PairsFrom P arguments) frame later
+      (λ h. (node_parts P P path.node h.0.1.0).0) (λ h. h.1))))
 
   extended_by_gives :
       (root : FileKey) (body : Body) (place : Place) (H : Type 0) (frame : Frame) (count : ℕ)

@@ -90,7 +90,7 @@ module _ (joined : Option (List MarkedNode)) (more : List MarkedPair) where
 
 module _ (P : Origin → Type 0) where
   abbrev WhereForm : MarkedPair → Type 0
-  WhereForm pair = is_form pair.key ≡ true → PairFrom P pair
+  WhereForm pair = is_form pair.key ≡ true → PairFrom P P pair
 
   each_kept :
       (test : MarkedPair → Bool) (pairs : List MarkedPair) → Each WhereForm pairs →
@@ -105,13 +105,13 @@ module _ (P : Origin → Type 0) where
 
   forms_kept :
       (pairs : List MarkedPair) → Each WhereForm pairs →
-      Each (PairFrom P) (filter (λ pair. is_form pair.key) pairs)
+      Each (PairFrom P P) (filter (λ pair. is_form pair.key) pairs)
   forms_kept [] all = tt
   forms_kept (pair ∷ pairs) all = by (is_form pair.key) refl (forms_kept pairs all.1)
     where
       by : (b : Bool) → is_form pair.key ≡ b →
-          Each (PairFrom P) (filter (λ pair. is_form pair.key) pairs) →
-          Each (PairFrom P) (cond b (pair ∷ filter (λ pair. is_form pair.key) pairs)
+          Each (PairFrom P P) (filter (λ pair. is_form pair.key) pairs) →
+          Each (PairFrom P P) (cond b (pair ∷ filter (λ pair. is_form pair.key) pairs)
           (filter (λ pair. is_form pair.key) pairs))
       by true is later = (all.0 is, later)
       by false is later = later
@@ -121,17 +121,17 @@ module _ (P : Origin → Type 0) where
 
   joined_from :
       (pairs more : List MarkedPair) (joined : Option (List MarkedNode)) → NoForms pairs →
-      Each (PairFrom P) more → Each WhereForm (joined_pairs pairs more joined)
+      Each (PairFrom P P) more → Each WhereForm (joined_pairs pairs more joined)
   joined_from pairs more joined none all =
       each_append WhereForm (filter_map (root_side joined more) pairs)
       (filter (template_side pairs) more)
       (each_implies (λ (pair : MarkedPair). is_form pair.key ≡ false) WhereForm no_form
       (filter_map (root_side joined more) pairs) (sides_forms joined more pairs none))
       (each_kept (template_side pairs) more
-      (each_implies (PairFrom P) WhereForm (λ pair own is. own) more all))
+      (each_implies (PairFrom P P) WhereForm (λ pair own is. own) more all))
 
   merged_from :
-      (more pairs : List MarkedPair) → Each (PairFrom P) more →
+      (more pairs : List MarkedPair) → Each (PairFrom P P) more →
       IfOk (merged_with more pairs) (Each WhereForm)
   merged_from more pairs all =
       ok_then (λ none. NoForms pairs) (Each WhereForm) (unless_at _ (form_place pairs) tt) _
@@ -145,16 +145,16 @@ module _ (P : Origin → Type 0) where
   -- the jobs of the tree are those of the template
   pub tree_from :
       (extension : Extension) (origin : Origin) (content : Content) →
-      Each (PairFrom P) extension.pairs →
+      Each (PairFrom P P) extension.pairs →
       IfOk (root_object (Some extension) origin content)
-      (λ tree. Each (PairFrom P) (jobs_of tree))
+      (λ tree. Each (PairFrom P P) (jobs_of tree))
   tree_from extension origin (Pairs pairs) all =
-      ok_then (Each WhereForm) (λ tree. Each (PairFrom P) (jobs_of tree))
+      ok_then (Each WhereForm) (λ tree. Each (PairFrom P P) (jobs_of tree))
       (object_pairs (Some extension) pairs) _
       (any_then (Each WhereForm) (unless_at {X = Unit {0}} _ (first_double pairs) tt) _
       (λ none. merged_from extension.pairs (filter stands pairs) all))
       (λ pairs where_form.
-      subst (λ opened. Each (PairFrom P) (filter (λ pair. is_form pair.key) (pairs_of opened)))
+      subst (λ opened. Each (PairFrom P P) (filter (λ pair. is_form pair.key) (pairs_of opened)))
       (sym (opened_is pairs)) (forms_kept pairs where_form))
   tree_from extension origin Unknown all = tt
   tree_from extension origin (Items items) all = tt

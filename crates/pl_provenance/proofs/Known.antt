@@ -40,12 +40,12 @@ use Rattle.pl_expanding.specs.Levels.{followed}
 use Rattle.pl_eval_laws.proofs.Lists.{Has, each_append, each_front, each_back, each_implies}
 use Rattle.pl_eval_laws.proofs.Lists.{each_contained}
 use Rattle.pl_eval_laws.specs.Trees.{origins_of}
-use Rattle.pl_eval_laws.proofs.Trees.{NodeFrom}
+use Rattle.pl_eval_laws.proofs.Trees.{NodeFrom, Any, node_implies}
 use Rattle.pl_origins.specs.Places.{places_of}
 use Rattle.pl_origins.proofs.Called.{Borders, OpensFrom, followed_gives}
 use Rattle.pl_origins.proofs.Contents.{ProgressFrom}
 use Rattle.pl_origins.proofs.Expanded.{expanded_gives}
-use Rattle.pl_origins.proofs.Frames.{ParameterFrom}
+use Rattle.pl_origins.proofs.Frames.{Seen, ParameterFrom}
 use Rattle.pl_origins.proofs.Nodes.{NodeIn, PairIn, BodyIn, node_in, under_in}
 use Rattle.pl_origins.proofs.Scalars.{OneFrom}
 use Rattle.pl_origins.proofs.Steps.{Used, Gives, ok_then, plain_then, used_then}
@@ -68,7 +68,7 @@ use Rattle.pl_provenance.proofs.Merged.{object_from_root}
 use Rattle.pl_provenance.proofs.Rooted.{RootBorder, ArgumentIn, parameters_are, root_frame_from}
 use Rattle.pl_provenance.proofs.Rooted.{pairs_expanded_give}
 use Rattle.pl_provenance.proofs.Whole.{unless_kept}
-use Rattle.pl_provenance.proofs.Written.{IsIn, files_stand, root_stands}
+use Rattle.pl_provenance.proofs.Files.{IsIn, files_stand, root_stands}
 
 -- ---- what stands in a list
 
@@ -188,26 +188,31 @@ module _ (files : Set) (final : List FileKey) (arguments : List RunArgument) whe
       Border crossing → Each Border (crossings ++ crossing ∷ [])
   behind crossings crossing all one = each_append Border crossings (crossing ∷ []) all (one, tt)
 
+  -- what is seen in a frame keeps its borders wherever it stands in the frame's file
+  seen :
+      (key : FileKey) (origin : Origin) → Contains final key → Known origin →
+      Seen Known (IsIn files key) origin
+  seen key origin known own =
+      (own, λ at stands. (inl (in_file key at known stands), own.1))
+
   known_inside : Borders Known (IsIn files) (Contains final)
   known_inside = record {
     literal =
-        λ key path item place known from_path from_item here. (
+        λ key call place known own here. (
           inl (in_file key place known here),
-          behind path.crossings (Include key item.source) from_path.1 (known, from_item.0),
+          behind call.crossings (Include key call.source) own.1 (known, own.0),
         );
     made =
-        λ key path item place known from_path from_item here. (
+        λ key call place known own here. (
           inl (in_file key place known here),
-          behind (path.crossings ++ Include key item.source ∷ []) Made
-              (behind path.crossings (Include key item.source) from_path.1 (known, from_item.0))
-              tt,
+          behind (call.crossings ++ Include key call.source ∷ []) Made
+              (behind call.crossings (Include key call.source) own.1 (known, own.0)) tt,
         );
     argument =
-        λ key item given name place known from_item from_given here. (
+        λ key call given name place known own from_given here. seen key _ known (
           from_given.0,
-          behind (given.crossings ++ Include key item.source ∷ []) (Argument name place)
-              (behind given.crossings (Include key item.source) from_given.1
-              (known, from_item.0))
+          behind (given.crossings ++ Include key call.source ∷ []) (Argument name place)
+              (behind given.crossings (Include key call.source) from_given.1 (known, own.0))
               (in_file key place known here),
         );
   }
@@ -229,7 +234,7 @@ module _ (files : Set) (final : List FileKey) (arguments : List RunArgument) whe
               (behind path.crossings (Extends key) own.1 known) tt,
         );
     argument =
-        λ key one name place known own here. (
+        λ key one name place known own here. seen key _ known (
           own.0,
           behind (one.crossings ++ Extends key ∷ []) (Argument name place)
               (behind one.crossings (Extends key) own.1 known) (in_file key place known here),
@@ -246,6 +251,7 @@ module _ (files : Set) (final : List FileKey) (arguments : List RunArgument) whe
     made = λ place here. (inl (in_file root place known here), (tt, tt));
     argument =
         λ argument source stands parameter place here.
+        seen root (record { source = source; crossings = Argument parameter place ∷ [] }) known
         (inr stands, (in_file root place known here, tt));
   }
 
@@ -328,7 +334,7 @@ module _ (files : Set) (root : FileKey) (arguments : List RunArgument) where
 
   abbrev TreeKnown : RootTree → Type 0
   TreeKnown one =
-      NodeFrom (IsKnown files one.expanded.used arguments) one.expanded.tree
+      NodeFrom (IsKnown files one.expanded.used arguments) Any one.expanded.tree
 
   ends_then :
       {A : Type 0} (Q : List FileKey → A → Type 0) (step : Used A)
@@ -345,13 +351,13 @@ module _ (files : Set) (root : FileKey) (arguments : List RunArgument) where
 
   finishes :
       (ends : List FileKey) (origin : Origin) (filling : RootFilling) → In ends origin →
-      ProgressFrom (In ends) filling.progress
+      ProgressFrom (In ends) R filling.progress
       × Has (ExtensionFrom (λ file. In ends)) filling.extension →
-      IfOk (root_from origin filling) (λ one. NodeFrom (In ends) one.node)
+      IfOk (root_from origin filling) (λ one. NodeFrom (In ends) Any one.node)
   finishes ends origin filling own all =
-      ok_then (NodeFrom (In ends)) (λ (one : RootNode). NodeFrom (In ends) one.node)
+      ok_then (NodeFrom (In ends) Any) (λ (one : RootNode). NodeFrom (In ends) Any one.node)
       (root_object filling.extension origin filling.progress.content) _
-      (object_from_root (In ends) filling.extension origin filling.progress.content own all.1
+      (object_from_root (In ends) R filling.extension origin filling.progress.content own all.1
       all.0)
       (λ node is. is)
 
@@ -370,7 +376,7 @@ module _ (files : Set) (root : FileKey) (arguments : List RunArgument) where
       (begins files (used_files root ends) arguments root (root_used ends))
       (under (codes "parameters") pairs) arguments (arguments_known arguments)
       (under_in R (codes "parameters") pairs within)))
-      (λ parameters are. ends_then (λ ends one. NodeFrom (In ends) one.node)
+      (λ parameters are. ends_then (λ ends one. NodeFrom (In ends) Any one.node)
       (pairs_expanded root place pairs parameters (opens_of files (home_of root pairs))) _
       (λ ends. pairs_expanded_give (In ends) (λ file. In ends) (IsIn files)
       (Contains (used_files root ends)) (U ends)
@@ -381,7 +387,7 @@ module _ (files : Set) (root : FileKey) (arguments : List RunArgument) where
       (opens_known (used_files root ends) files (home_of root pairs)) root
       (OfArguments files (used_files root ends) arguments)
       (begins files (used_files root ends) arguments root (root_used ends))
-      (λ one. NodeFrom (In ends) one.node) (finishes ends) place pairs parameters here within
+      (λ one. NodeFrom (In ends) Any one.node) (finishes ends) place pairs parameters here within
       (are ends))
       (λ one ends is. is)))
 
@@ -390,7 +396,7 @@ module _ (files : Set) (root : FileKey) (arguments : List RunArgument) where
       ((ends : List FileKey) → Each (ParameterFrom (In ends) R) parameters) →
       IfOk (bare_expanded files root node (first_frame root parameters)) TreeKnown
   bare_known node parameters within are =
-      ends_then (λ ends. OneFrom (In ends))
+      ends_then (λ ends. OneFrom (In ends) R)
       (expanded node (followed 100 (opens_of files (bare_home root))) (first_frame root parameters)
       Free 0 []) _
       (λ ends. expanded_gives (In ends) R (U ends) node within (Unit {0})
@@ -401,7 +407,8 @@ module _ (files : Set) (root : FileKey) (arguments : List RunArgument) where
       (λ h. root_frame_from (In ends) R (OfArguments files (used_files root ends) arguments)
       (begins files (used_files root ends) arguments root (root_used ends)) root parameters _
       (are ends)))
-      (λ one ends is. is)
+      (λ one ends is. node_implies (In ends) (In ends) (In ends) Any (λ origin own. own)
+      (λ origin own. tt) one.node is.0)
 
   other_known : (node : Node) → NodeIn R node →
       IfOk (other_expanded files root node arguments) TreeKnown
@@ -434,4 +441,4 @@ known files root arguments =
     ok_then (TreeKnown files root arguments)
     (λ (one : Expanded). Each (IsKnown files one.used arguments) (origins_of one.tree))
     (tree_of files root arguments) _ (tree_known files root arguments)
-    (λ one is. is)
+    (λ one is. is.0)

@@ -1,4 +1,6 @@
+pub mod Closure
 pub mod Extended
+pub mod Files
 pub mod Given
 pub mod Joined
 pub mod Known

@@ -12,7 +12,6 @@ use Rattle.pl_base.specs.declared.place.FileKey.{FileKey}
 use Rattle.pl_base.specs.declared.place.Place.{Place}
 use Rattle.pl_base.specs.declared.node.Node.{Node}
 use Rattle.pl_base.specs.declared.node.NodePair.{NodePair}
-use Rattle.pl_base.specs.declared.value.Value.{Str}
 use Rattle.pl_base.specs.declared.value.MarkedNode.{MarkedNode}
 use Rattle.pl_frame.specs.declared.frame.Frame.{Frame}
 use Rattle.pl_frame.specs.declared.frame.Parameter.{Parameter}
@@ -36,18 +35,17 @@ use Rattle.pl_calls.specs.Parts.{under}
 use Rattle.pl_calls.specs.Reaching.{Opens}
 use Rattle.pl_expanding.specs.Expanding.{expanded, entry_of, pair_behind}
 use Rattle.pl_expanding.specs.Levels.{followed}
-use Rattle.pl_eval_laws.specs.Trees.{origins_of}
-use Rattle.pl_eval_laws.proofs.Lists.{Has, each_append, each_implies}
-use Rattle.pl_eval_laws.proofs.Trees.{NodeFrom, PairFrom, node_from, pair_from, text_from}
+use Rattle.pl_eval_laws.proofs.Lists.{Has, each_append}
+use Rattle.pl_eval_laws.proofs.Trees.{NodeFrom, PairFrom, pair_from, text_node, node_implies}
 use Rattle.pl_origins.proofs.Bound.{ParamIn, BoundFrom, Takeable, declared_in, bound_to_from}
 use Rattle.pl_origins.proofs.Bound.{parameters_from, literal_from, Stands}
 use Rattle.pl_origins.proofs.Called.{Borders, OpensFrom}
 use Rattle.pl_origins.proofs.Contents.{ProgressFrom, put_pair_from}
 use Rattle.pl_origins.proofs.Expanded.{entry_from, expanded_gives, pair_gives}
 use Rattle.pl_origins.proofs.Following.{FollowFrom}
-use Rattle.pl_origins.proofs.Frames.{FrameFrom, ParameterFrom}
+use Rattle.pl_origins.proofs.Frames.{Seen, FrameFrom, ParameterFrom}
 use Rattle.pl_origins.proofs.Nodes.{NodeIn, PairIn, pair_in, under_in}
-use Rattle.pl_origins.proofs.Scalars.{OneFrom}
+use Rattle.pl_origins.proofs.Scalars.{HeldFrom, OneFrom}
 use Rattle.pl_origins.proofs.Steps.{Gives, ok_then, any_then, plain_then}
 use Rattle.pl_origins.proofs.Steps.{used_then, alone_gives, done_gives}
 use Rattle.pl_expand.specs.declared.extending.Extension.{Extension}
@@ -82,7 +80,7 @@ pub record RootBorder (P : Origin → Type 0) (R : Place → Type 0)
   pub argument :
       (argument : RunArgument) (source : Place) → A argument source → (parameter : List ℕ)
       (place : Place) → R place →
-      P (record { source = source; crossings = Argument parameter place ∷ [] })
+      Seen P R (record { source = source; crossings = Argument parameter place ∷ [] })
 
 -- the places of a run argument: the whole text's, and those of what it spells
 abbrev pub ArgumentIn : (RunArgument → Place → Type 0) → RunArgument → Type 0
@@ -95,55 +93,59 @@ ArgumentIn A argument =
 module _ (P : Origin → Type 0) (R : Place → Type 0) (A : RunArgument → Place → Type 0)
     (border : RootBorder P R A) where
   abbrev G : Origin → Type 0
-  G = Takeable P R [] border.literal
+  G = Takeable (Seen P R) R
+
+  abbrev M : Origin → Type 0
+  M = Takeable P R
 
   takes_argument :
       (argument : RunArgument) (origin : Origin) → A argument origin.source →
       origin.crossings ≡ [] → G origin
   takes_argument argument origin stands none parameter place here =
-      subst (λ (crossings : List Crossing). P (record {
+      subst (λ (crossings : List Crossing). Seen P R (record {
         source = origin.source;
         crossings = crossings ++ Argument parameter place ∷ [];
       })) (sym none) (border.argument argument origin.source stands parameter place here)
 
-  whole_from : (argument : RunArgument) → ArgumentIn A argument → NodeFrom G (whole_text argument)
+  whole_from : (argument : RunArgument) → ArgumentIn A argument → NodeFrom G M (whole_text argument)
   whole_from argument within =
-      node_from G (origin_at [] (place_at (argument_file argument.name) 1 1)) (Str argument.text)
-      (takes_argument argument _ within.0 refl) (text_from G argument.text)
+      text_node G M (origin_at [] (place_at (argument_file argument.name) 1 1))
+      (takes_argument argument _ within.0 refl) argument.text
 
   written_from : (argument : RunArgument) (node : Node) → NodeIn (A argument) node →
-      NodeFrom G (literal [] node)
-  unfolding NodeFrom
+      NodeFrom G M (literal [] node)
   written_from argument node within =
-      each_implies (Stands (A argument) []) G
+      node_implies (Stands (A argument) []) G (Stands (A argument) []) M
       (λ origin stands. takes_argument argument origin stands.0 stands.1)
-      (origins_of (literal [] node)) (literal_from (A argument) [] node within)
+      (λ origin stands parameter place here.
+      (takes_argument argument origin stands.0 stands.1 parameter place here).0)
+      (literal [] node) (literal_from (A argument) [] node within)
 
   read_from :
       (argument : RunArgument) (told : Result Node (YamlCode × Place)) →
-      IfOk told (NodeIn (A argument)) → IfOk (read_told told) (NodeFrom G)
+      IfOk told (NodeIn (A argument)) → IfOk (read_told told) (NodeFrom G M)
   read_from argument (Ok node) within = written_from argument node within
   read_from argument (Err told) within = tt
 
   value_by : (argument : RunArgument) → ArgumentIn A argument → (b : Bool) →
       IfOk (cond b (Ok (whole_text argument))
-      (read_told (yaml.spells (argument_file argument.name) argument.text))) (NodeFrom G)
+      (read_told (yaml.spells (argument_file argument.name) argument.text))) (NodeFrom G M)
   value_by argument within true = whole_from argument within
   value_by argument within false =
       read_from argument (yaml.spells (argument_file argument.name) argument.text) within.1
 
   value_given : (of : Option ParamKind) (argument : RunArgument) → ArgumentIn A argument →
-      IfOk (argument_value of argument) (NodeFrom G)
+      IfOk (argument_value of argument) (NodeFrom G M)
   value_given None argument within = whole_from argument within
   value_given (Some of) argument within = value_by argument within (is_text of)
 
   abbrev GivenFrom : Given → Type 0
-  GivenFrom one = NodeFrom G one.value
+  GivenFrom one = NodeFrom G M one.value
 
   one_given : (declared : List Param) (argument : RunArgument) → ArgumentIn A argument →
       IfOk (argument_given declared argument) GivenFrom
   one_given declared argument within =
-      ok_then (NodeFrom G) GivenFrom
+      ok_then (NodeFrom G M) GivenFrom
       (argument_value (kind_for declared argument.name) argument) _
       (value_given (kind_for declared argument.name) argument within) (λ one all. all)
 
@@ -160,11 +162,11 @@ module _ (P : Origin → Type 0) (R : Place → Type 0) (A : RunArgument → Pla
 
   bound_from : (declared : List Param) (arguments : List RunArgument) →
       Each (ArgumentIn A) arguments → Each (ParamIn R) declared →
-      IfOk (bound_by declared arguments) (Each (BoundFrom G R))
+      IfOk (bound_by declared arguments) (Each (BoundFrom G M R))
   bound_from declared arguments given_in within =
-      ok_then (Each GivenFrom) (Each (BoundFrom G R)) (arguments_given declared arguments []) _
+      ok_then (Each GivenFrom) (Each (BoundFrom G M R)) (arguments_given declared arguments []) _
       (all_given declared arguments [] given_in tt)
-      (λ given all. bound_to_from G R declared given within all)
+      (λ given all. bound_to_from G M R declared given within all)
 
   pub parameters_are :
       (node : Option Node) (arguments : List RunArgument) → Each (ArgumentIn A) arguments →
@@ -172,7 +174,7 @@ module _ (P : Origin → Type 0) (R : Place → Type 0) (A : RunArgument → Pla
   parameters_are node arguments given_in within =
       ok_then (Each (ParamIn R)) (Each (ParameterFrom P R)) (declared_by node) _
       (declared_in R node within)
-      (λ declared stands. ok_then (Each (BoundFrom G R)) (Each (ParameterFrom P R))
+      (λ declared stands. ok_then (Each (BoundFrom G M R)) (Each (ParameterFrom P R))
       (bound_by declared arguments) _ (bound_from declared arguments given_in stands)
       (λ bound are. parameters_from P R [] border.literal declared bound stands are))
 
@@ -194,7 +196,7 @@ module _ (P : Origin → Type 0) (T : FileKey → Origin → Type 0) (R : FileKe
     (opening : OpensFrom R K U opens) (root : FileKey) where
   abbrev pub FillingFrom : RootFilling → Type 0
   FillingFrom filling =
-      ProgressFrom P filling.progress × Has (ExtensionFrom T) filling.extension
+      ProgressFrom P (R root) filling.progress × Has (ExtensionFrom T) filling.extension
 
   follows : (levels : ℕ) → FollowFrom P U (followed levels opens)
   follows levels = levels_follow P T R K U border inside outside opens opening levels
@@ -205,12 +207,12 @@ module _ (P : Origin → Type 0) (T : FileKey → Origin → Type 0) (R : FileKe
       (H → FillingFrom filling) →
       Gives U H used (ordinary_pair pair opens frame filling used) FillingFrom
   ordinary_gives pair H frame filling used within from all =
-      used_then U (ProgressFrom P) FillingFrom H used
+      used_then U (ProgressFrom P (R root)) FillingFrom H used
       (pair_behind (entry_of pair) (followed 100 opens) frame Free filling.progress used) _
       (pair_gives P (R root) U (followed 100 opens) (follows 100) (entry_of pair)
       (entry_from P (R root) U pair within) H frame Free filling.progress used from
       (λ h. (all h).0))
-      (λ after later. done_gives U FillingFrom (H × ProgressFrom P after) later
+      (λ after later. done_gives U FillingFrom (H × ProgressFrom P (R root) after) later
       (filled_with filling.extension after) (λ h. (h.1, (all h.0).1)))
 
   extends_gives :
@@ -230,19 +232,20 @@ module _ (P : Origin → Type 0) (T : FileKey → Origin → Type 0) (R : FileKe
 
   variables_give :
       (node : MarkedNode) (pair : NodePair) (frame : Frame) (filling : RootFilling) →
-      PairIn (R root) pair → FrameFrom P (R root) frame → NodeFrom P node → FillingFrom filling →
+      PairIn (R root) pair → FrameFrom P (R root) frame → HeldFrom P (R root) node →
+      FillingFrom filling →
       IfOk (variables_pair node pair frame filling) FillingFrom
   variables_give node pair frame filling within from own all =
-      ok_then (ProgressFrom P) FillingFrom (put_variables node pair frame filling.progress) _
-      (put_pair_from P _ filling.progress.count filling.progress
-      (pair_from P pair.key (literal_at frame pair.key_place) node
-      (from.literal pair.key_place (pair_in (R root) pair within).0) own) all.0)
+      ok_then (ProgressFrom P (R root)) FillingFrom (put_variables node pair frame filling.progress) _
+      (put_pair_from P (R root) _ filling.progress.count filling.progress
+      (pair_from P P pair.key (literal_at frame pair.key_place) node
+      (from.literal pair.key_place (pair_in (R root) pair within).0) own.0) own.1.0 all.0)
       (λ after is. (is, all.1))
 
   pair_gives_root :
       (of : RootKey) (early : Option MarkedNode) (pair : NodePair) (H : Type 0) (frame : Frame)
       (filling : RootFilling) (used : List FileKey) → PairIn (R root) pair →
-      (H → FrameFrom P (R root) frame) → (H → Has (NodeFrom P) early) →
+      (H → FrameFrom P (R root) frame) → (H → Has (HeldFrom P (R root)) early) →
       (H → FillingFrom filling) →
       Gives U H used (root_pair of early pair opens frame filling used) FillingFrom
   pair_gives_root key.Parameters early pair H frame filling used within from known all =
@@ -259,16 +262,16 @@ module _ (P : Origin → Type 0) (T : FileKey → Origin → Type 0) (R : FileKe
   pair_gives_root key.Other early pair H frame filling used within from known all =
       ordinary_gives pair H frame filling used within from all
 
-  to_pair : (of : RootKey) (early : Option MarkedNode) → Has (NodeFrom P) early →
-      Has (NodeFrom P) (given_to of early)
+  to_pair : (of : RootKey) (early : Option MarkedNode) → Has (HeldFrom P (R root)) early →
+      Has (HeldFrom P (R root)) (given_to of early)
   to_pair key.Parameters early known = tt
   to_pair key.Resources early known = tt
   to_pair key.Extends early known = tt
   to_pair key.Variables early known = known
   to_pair key.Other early known = tt
 
-  to_rest : (of : RootKey) (early : Option MarkedNode) → Has (NodeFrom P) early →
-      Has (NodeFrom P) (early_behind of early)
+  to_rest : (of : RootKey) (early : Option MarkedNode) → Has (HeldFrom P (R root)) early →
+      Has (HeldFrom P (R root)) (early_behind of early)
   to_rest key.Parameters early known = known
   to_rest key.Resources early known = known
   to_rest key.Extends early known = known
@@ -278,7 +281,7 @@ module _ (P : Origin → Type 0) (T : FileKey → Origin → Type 0) (R : FileKe
   pairs_give_root :
       (early : Option MarkedNode) (pairs : List NodePair) (H : Type 0) (frame : Frame)
       (filling : RootFilling) (used : List FileKey) → Each (PairIn (R root)) pairs →
-      (H → FrameFrom P (R root) frame) → (H → Has (NodeFrom P) early) →
+      (H → FrameFrom P (R root) frame) → (H → Has (HeldFrom P (R root)) early) →
       (H → FillingFrom filling) →
       Gives U H used (root_pairs early pairs opens frame filling used) FillingFrom
   pairs_give_root early [] H frame filling used within from known all =
@@ -297,17 +300,17 @@ module _ (P : Origin → Type 0) (T : FileKey → Origin → Type 0) (R : FileKe
 
   abbrev pub RootNodeFrom : RootNode → Type 0
   RootNodeFrom one =
-      (file : FileKey) → one.extends ≡ Some file → Each (PairFrom (T file)) (jobs_of one.node)
+      (file : FileKey) → one.extends ≡ Some file → Each (PairFrom (T file) (T file)) (jobs_of one.node)
 
   same_file :
       (tree : MarkedNode) (extended file : FileKey) → Some extended ≡ Some file →
-      Each (PairFrom (T extended)) (jobs_of tree) → Each (PairFrom (T file)) (jobs_of tree)
+      Each (PairFrom (T extended) (T extended)) (jobs_of tree) → Each (PairFrom (T file) (T file)) (jobs_of tree)
   same_file tree extended file same all =
       let is : extended ≡ file = cc in
-      subst (λ (one : FileKey). Each (PairFrom (T one)) (jobs_of tree)) is all
+      subst (λ (one : FileKey). Each (PairFrom (T one) (T one)) (jobs_of tree)) is all
 
   no_file : (tree : MarkedNode) (file : FileKey) → ◌≡◌ {A = Option FileKey} None (Some file) →
-      Each (PairFrom (T file)) (jobs_of tree)
+      Each (PairFrom (T file) (T file)) (jobs_of tree)
   no_file tree file none = absurd (cc)
 
   pub root_by :
@@ -318,13 +321,13 @@ module _ (P : Origin → Type 0) (T : FileKey → Origin → Type 0) (R : FileKe
       any_then RootNodeFrom (root_object None origin progress.content) _
       (λ tree file is. no_file tree file is)
   root_by origin progress (Some extension) all =
-      ok_then (λ tree. Each (PairFrom (T extension.file)) (jobs_of tree)) RootNodeFrom
+      ok_then (λ tree. Each (PairFrom (T extension.file) (T extension.file)) (jobs_of tree)) RootNodeFrom
       (root_object (Some extension) origin progress.content) _
       (tree_from (T extension.file) extension origin progress.content all)
       (λ tree are file is. same_file tree extension.file file is are)
 
   abbrev EarlyFrom : Early → Type 0
-  EarlyFrom early = Has (NodeFrom P) early.node
+  EarlyFrom early = Has (HeldFrom P (R root)) early.node
 
   early_gives :
       (node : Option Node) (H : Type 0) (frame : Frame) (count : ℕ) (used : List FileKey) →
@@ -333,11 +336,11 @@ module _ (P : Origin → Type 0) (T : FileKey → Origin → Type 0) (R : FileKe
   early_gives None H frame count used within from =
       done_gives U EarlyFrom H used (record { node = None; count = count }) (λ h. tt)
   early_gives (Some node) H frame count used within from =
-      used_then U (OneFrom P) EarlyFrom H used
+      used_then U (OneFrom P (R root)) EarlyFrom H used
       (expanded node (followed 100 opens) frame (Calls InVariables) count used) _
       (expanded_gives P (R root) U node within H (followed 100 opens) frame (Calls InVariables)
       count used (follows 100) from)
-      (λ one later. done_gives U EarlyFrom (H × OneFrom P one) later
+      (λ one later. done_gives U EarlyFrom (H × OneFrom P (R root) one) later
       (record { node = Some one.node; count = one.count }) (λ h. h.1))
 
   module _ (A : RunArgument → Place → Type 0) (own : RootBorder P (R root) A)
@@ -355,7 +358,7 @@ module _ (P : Origin → Type 0) (T : FileKey → Origin → Type 0) (R : FileKe
         used_then U FillingFrom N H used
         (root_pairs early.node pairs opens frame start used) _
         (pairs_give_root early.node pairs H frame start used within
-        (λ h. root_frame_from P (R root) A own root parameters _ are) known (λ h. (tt, tt)))
+        (λ h. root_frame_from P (R root) A own root parameters _ are) known (λ h. ((tt, tt), tt)))
         (λ filling later. alone_gives U N (H × FillingFrom filling) later
         (root_from (literal_at frame place) filling)
         (λ h. finishes (literal_at frame place) filling (own.literal place here) h.1))

@@ -11,7 +11,7 @@ use Rattle.pl_base.specs.declared.place.FileKey.{FileKey}
 use Rattle.pl_base.specs.declared.place.Place.{Place}
 use Rattle.pl_yaml.specs.Spells as yaml
 use Rattle.pl_calls.specs.Reaching.{opens as opens_of}
-use Rattle.pl_eval_laws.proofs.Lists.{each_of}
+use Rattle.pl_eval_laws.proofs.Lists.{each_of, each_implies}
 use Rattle.pl_eval_laws.proofs.Trees.{PairFrom}
 use Rattle.pl_origins.specs.Through.{extended_in}
 use Rattle.pl_origins.proofs.Kept.{any_ok, NoPlace, NoFile, opens_anything, extended_last}
@@ -50,8 +50,10 @@ crosses R = record {
       ∙ extends_one path.crossings key own;
   argument =
       λ key one name place known own here.
+      let is =
       extended_last (one.crossings ++ Extends key ∷ []) (Argument name place) refl
-      ∙ extends_one one.crossings key own;
+      ∙ extends_one one.crossings key own in
+      (is, λ at stands. is);
 }
 
 abbrev pub AnyArgument : RunArgument → Place → Type 0
@@ -72,7 +74,7 @@ pub begins : (R : Place → Type 0) → RootBorder Before R AnyArgument
 begins R = record {
   literal = λ place here. refl;
   made = λ place here. refl;
-  argument = λ argument source stands parameter place here. refl;
+  argument = λ argument source stands parameter place here. (refl, λ at stands. refl);
 }
 
 pub steps_through : StepsComeThrough
@@ -88,4 +90,5 @@ steps_through files root arguments file =
     arguments (any_arguments arguments)
     (any_ok (NodeIn (NoPlace root)) (anywhere (NoPlace root) (λ place. tt))
     (root_node root (finite.get files root))))
-    (λ one through extends. through file extends)
+    (λ one through extends. each_implies (PairFrom (Behind file) (Behind file))
+    (IsPairThrough file) (λ pair all. all.0) (jobs_of one.expanded.tree) (through file extends))

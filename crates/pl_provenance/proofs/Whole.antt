@@ -65,16 +65,16 @@ module _ (P : Origin → Type 0) (T : FileKey → Origin → Type 0) (R : FileKe
     (A : RunArgument → Place → Type 0) (own : RootBorder P (R root) A) where
   abbrev NodeFrom : RootNode → Type 0
   NodeFrom one =
-      (file : FileKey) → one.extends ≡ Some file → Each (PairFrom (T file)) (jobs_of one.node)
+      (file : FileKey) → one.extends ≡ Some file → Each (PairFrom (T file) (T file)) (jobs_of one.node)
 
   abbrev pub TreeFrom : RootTree → Type 0
   TreeFrom one =
       (file : FileKey) → one.expanded.extends ≡ Some file →
-      Each (PairFrom (T file)) (jobs_of one.expanded.tree)
+      Each (PairFrom (T file) (T file)) (jobs_of one.expanded.tree)
 
   finishes :
       (opens : Opens) → OpensFrom R K NoFiles opens → (origin : Origin) (filling : RootFilling) →
-      P origin → ProgressFrom P filling.progress × Has (ExtensionFrom T) filling.extension →
+      P origin → ProgressFrom P (R root) filling.progress × Has (ExtensionFrom T) filling.extension →
       IfOk (root_from origin filling) NodeFrom
   finishes opens opening origin filling is all =
       root_by P T R K NoFiles border inside outside opens opening root origin filling.progress

@@ -1,3 +1,4 @@
+pub mod Closure
 pub mod Known
 pub mod Roots
 pub mod Written

@@ -4,6 +4,7 @@ ghost use Rattle.pl_base.specs.declared.place.FileKey.{FileKey as Key};
 ghost use Rattle.pl_directives.specs.Gives.{Gives};
 ghost use Rattle.pl_eval_laws.specs.Trees.{origins_of};
 ghost use Rattle.pl_expand.specs.Tree.{expansion};
+ghost use Rattle.pl_provenance.specs.Closure.{ArePairsFromClosure};
 ghost use Rattle.pl_provenance.specs.Known.{IsKnown};
 ghost use Rattle.pl_provenance.specs.Roots.{IsPairThrough, jobs_of};
 ghost use Rattle.pl_provenance.specs.Written.{ArePairsWhereTold};
@@ -19,9 +20,10 @@ use std::alloc::Global;
 /// Where the root extends a template, each key `stages`, `jobs` and `steps` of the tree and each
 /// node and key under it crossed the border `extends` just once, and into that template; and what
 /// of these no argument and no expression gave is written in the file of the last border that its
-/// origin tells. Each origin in the whole tree tells places of used files or of run arguments
-/// (Microsoft Learn, Azure Pipelines, "Security through templates"). The files stay as they are,
-/// and a fault is the one that `pl_expand::expand` gives.
+/// origin tells, which is the template or a file that it calls, itself or by files that it calls.
+/// Each origin in the whole tree tells places of used files or of run arguments (Microsoft Learn,
+/// Azure Pipelines, "Security through templates"). The files stay as they are, and a fault is the
+/// one that `pl_expand::expand` gives.
 pub fn expand<F: Files>(
     alloc: Global,
     files: &mut F,
@@ -34,6 +36,8 @@ pub fn expand<F: Files>(
         AllByRecursion (IsPairThrough file) (jobs_of whole.tree)) }
     ensures written { (file : Key) → IfOk result (λ whole. whole.extends ≡ Some file →
         ArePairsWhereTold (F.files files.old) (jobs_of whole.tree)) }
+    ensures closure { (file : Key) → IfOk result (λ whole. whole.extends ≡ Some file →
+        ArePairsFromClosure (F.files files.old) whole.tree file) }
     ensures known { IfOk result (λ whole.
         AllByRecursion (IsKnown (F.files files.old) whole.used arguments.now)
         (origins_of whole.tree)) }

@@ -1,3 +1,4 @@
+ghost use Rattle.pl_provenance.specs.Closure.{WrittenInClosure};
 ghost use Rattle.pl_provenance.specs.Known.{OriginsAreKnown};
 ghost use Rattle.pl_provenance.specs.Roots.{StepsComeThrough};
 ghost use Rattle.pl_provenance.specs.Written.{WrittenWhereTold};
@@ -19,6 +20,19 @@ pub fn steps_come_through_the_template()
 /// "Security through templates").
 pub fn what_no_argument_gave_is_written_where_it_is_told()
     ensures { WrittenWhereTold }
+{}
+
+/// Where the root file extends a template, each node and key of the jobs that no argument and no
+/// expression gave is written in the template, or in a file that it calls, itself or by files that
+/// it calls (Microsoft Learn, Azure Pipelines, "Security through templates").
+///
+/// These files are the least set that holds the template and each file that an item calls which
+/// stands in a file of the set and whose own path no argument and no expression gave behind the
+/// border into the template. And they are told: in the origin of such a node the item of the first
+/// call stands in the template, that of each other call in the file of the call before it, and the
+/// node's source in the file of the last.
+pub fn written_jobs_come_from_the_template_and_its_calls()
+    ensures { WrittenInClosure }
 {}
 
 /// Each origin in an expanded tree tells places that exist: its source is that of a node or a key

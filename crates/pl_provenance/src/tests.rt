@@ -1,6 +1,7 @@
 use crate::{
     expand, origins_tell_used_files, steps_come_through_the_template,
     what_no_argument_gave_is_written_where_it_is_told,
+    written_jobs_come_from_the_template_and_its_calls,
 };
 use pl_base::{FileKey, List, Memory, Text};
 use pl_eval_laws::values_are_handed_on;
@@ -16,6 +17,7 @@ fn laws_are_called(_rt: HostRuntime) -> Result<(), Fail> {
     calls_keep_what_was_extended();
     steps_come_through_the_template();
     what_no_argument_gave_is_written_where_it_is_told();
+    written_jobs_come_from_the_template_and_its_calls();
     origins_tell_used_files();
     Ok(())
 }

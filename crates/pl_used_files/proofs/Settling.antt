@@ -28,7 +28,7 @@ use Rattle.pl_expanding.specs.Settling.{items_with, item_settled, item_behind, i
 use Rattle.pl_expanding.specs.Settling.{pairs_and, pair_behind, pairs_behind, array_settled}
 use Rattle.pl_expanding.specs.Settling.{object_settled, node_settled, value_seen, node_seen}
 use Rattle.pl_expanding.specs.Settling.{atom_settled, pair_seen, node_settling}
-use Rattle.pl_eval_laws.proofs.Trees.{Opened}
+use Rattle.pl_eval_laws.proofs.Leads.{Opened}
 use Rattle.pl_origins.proofs.Induction.{Parts, node_induction}
 use Rattle.pl_used_files.proofs.Agreeing.{Agree, done, both_alone, same_then, both_then}
 

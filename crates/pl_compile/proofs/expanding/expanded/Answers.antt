@@ -2,6 +2,7 @@ use Rattle.std.proofs.Common.{◌≡◌, Some, subst}
 use Rattle.std.specs.List.{AllByRecursion}
 use Rattle.std.specs.Prelude.{IfOk}
 use Rattle.pl_eval_laws.specs.Trees.{origins_of}
+use Rattle.pl_provenance.specs.Closure.{ArePairsFromClosure}
 use Rattle.pl_provenance.specs.Known.{IsKnown}
 use Rattle.pl_provenance.specs.Roots.{jobs_of}
 use Rattle.pl_provenance.specs.Written.{ArePairsWhereTold}
@@ -18,6 +19,16 @@ returns-clause-written c file =
     (subst (λ texts. IfOk c.expand-expanded.result (λ whole. whole.extends ≡ Some file →
     ArePairsWhereTold (read_all texts) (jobs_of whole.tree)))
     c.new-read.ensures (c.expand-expanded.ensures.written file))
+
+pub returns-clause-closure : goal.returns-clause-closure
+returns-clause-closure c file =
+    handed c.expand-expanded.result c.told.result
+    (λ whole. whole.extends ≡ Some file →
+    ArePairsFromClosure (read_all c.args.files.now) whole.tree file)
+    c.told.ensures.same
+    (subst (λ texts. IfOk c.expand-expanded.result (λ whole. whole.extends ≡ Some file →
+    ArePairsFromClosure (read_all texts) whole.tree file))
+    c.new-read.ensures (c.expand-expanded.ensures.closure file))
 
 pub returns-clause-known : goal.returns-clause-known
 returns-clause-known c =

@@ -2,9 +2,11 @@ use Rattle.std.proofs.Common.{◌≡◌, Some}
 use Rattle.std.specs.List.{AllByRecursion}
 use Rattle.pl_base.specs.declared.expanded.Expanded.{Expanded}
 use Rattle.pl_eval_laws.specs.Trees.{origins_of}
+use Rattle.pl_provenance.specs.Closure.{ArePairsFromClosure}
 use Rattle.pl_provenance.specs.Known.{IsKnown}
 use Rattle.pl_provenance.specs.Roots.{IsPairThrough, jobs_of}
 use Rattle.pl_provenance.specs.Written.{ArePairsWhereTold}
+use Rattle.pl_provenance.proofs.Closure.{closure}
 use Rattle.pl_provenance.proofs.Given.{given_so}
 use Rattle.pl_provenance.proofs.Known.{known}
 use Rattle.pl_provenance.proofs.Through.{steps_through}
@@ -27,6 +29,15 @@ returns-clause-written g c = λ file.
     → ArePairsWhereTold (g.F.Files.files c.args.files.now) (jobs_of whole.tree))
     c.expand.result _ c.expand.ensures.tree
     (written (g.F.Files.files c.args.files.now) c.args.root.now c.args.arguments.now file)
+
+pub returns-clause-closure : goal.returns-clause-closure
+returns-clause-closure g c = λ file.
+    given_so
+    (λ (whole : Expanded).
+    whole.extends ≡ Some file
+    → ArePairsFromClosure (g.F.Files.files c.args.files.now) whole.tree file)
+    c.expand.result _ c.expand.ensures.tree
+    (closure (g.F.Files.files c.args.files.now) c.args.root.now c.args.arguments.now file)
 
 pub returns-clause-known : goal.returns-clause-known
 returns-clause-known g c =

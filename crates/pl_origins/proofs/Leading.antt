@@ -1,0 +1,69 @@
+-- The calls that the mappings of a tree would be, where a predicate of its origins tells of them.
+use Rattle.std.proofs.Common.{ℕ, List, [], ◌∷◌, subst}
+use Rattle.std.specs.List.{AllByRecursion as Each}
+use Rattle.pl_base.specs.declared.origin.Origin.{Origin}
+use Rattle.pl_base.specs.declared.value.Value.{Value, roll-Value}
+use Rattle.pl_base.specs.declared.value.Value.TheOpen.{Array, Object}
+use Rattle.pl_base.specs.declared.value.MarkedNode.{MarkedNode}
+use Rattle.pl_base.specs.declared.value.MarkedPair.{MarkedPair}
+use Rattle.pl_eval_laws.specs.Trees.{origins_of}
+use Rattle.pl_eval_laws.proofs.Leads.{Opened, lead, head_of, leads_of, opened_is}
+use Rattle.pl_eval_laws.proofs.Lists.{each_of}
+use Rattle.pl_eval_laws.proofs.Trees.{NodeFrom, ValueFrom, PairFrom, OpenedFrom, Any, node_from}
+use Rattle.pl_eval_laws.proofs.Trees.{pair_from, layer_from, node_parts, pair_parts, value_parts}
+use Rattle.pl_eval_laws.proofs.Trees.{head_from, led_from}
+use Rattle.pl_origins.proofs.Induction.{Parts, node_induction}
+
+module _ (P M : Origin → Type 0)
+    (leads : (item path : Origin) → P item → P path → M (lead item path)) where
+  abbrev ValueClaim : Value → Type 0
+  ValueClaim one = ValueFrom P Any one → ValueFrom P M one
+
+  abbrev NodeClaim : MarkedNode → Type 0
+  NodeClaim node = NodeFrom P Any node → NodeFrom P M node
+
+  abbrev PairClaim : MarkedPair → Type 0
+  PairClaim pair = PairFrom P Any pair → PairFrom P M pair
+
+  each_goes :
+      {X : Type 0} (A B : X → Type 0) (xs : List X) → Each (λ x. A x → B x) xs → Each A xs →
+      Each B xs
+  each_goes A B [] goes all = tt
+  each_goes A B (x ∷ xs) goes all = (goes.0 all.0, each_goes A B xs goes.1 all.1)
+
+  by_layer :
+      (layer : Opened) → Parts NodeClaim PairClaim layer → OpenedFrom P Any layer →
+      OpenedFrom P M layer
+  by_layer (Array items) claims all = each_goes (NodeFrom P Any) (NodeFrom P M) items claims all
+  by_layer (Object pairs) claims all = each_goes (PairFrom P Any) (PairFrom P M) pairs claims all
+  by_layer atom claims all = tt
+
+  of_layer : (layer : Opened) → Parts NodeClaim PairClaim layer → ValueClaim (roll-Value layer)
+  of_layer layer claims all =
+      layer_from P M layer
+      (by_layer layer claims
+      (subst (OpenedFrom P Any) (opened_is layer) (value_parts P Any (roll-Value layer) all)))
+
+  of_node :
+      (origin : Origin) (one : Value) → ValueClaim one →
+      NodeClaim (record { origin = origin; value = one })
+  of_node origin one claim all =
+      let parts = node_parts P Any (record { origin = origin; value = one }) all in
+      let below = claim parts.1 in
+      node_from P M origin one parts.0 below
+      (led_from P M origin (λ path is. leads origin path parts.0 is) (head_of one)
+      (head_from P M one below))
+
+  of_pair :
+      (key : List ℕ) (key_origin : Origin) (item : MarkedNode) → NodeClaim item →
+      PairClaim (record { key = key; key_origin = key_origin; item = item })
+  of_pair key key_origin item claim all =
+      let pair : MarkedPair = record { key = key; key_origin = key_origin; item = item } in
+      let parts = pair_parts P Any pair all in
+      pair_from P M key key_origin item parts.0 (claim parts.1)
+
+  pub leads_follow : (node : MarkedNode) → Each P (origins_of node) → NodeFrom P M node
+  unfolding NodeFrom
+  leads_follow node all =
+      node_induction ValueClaim NodeClaim PairClaim of_layer of_node of_pair node
+      (all, each_of Any (λ origin. tt) (leads_of node))
