@@ -7,7 +7,7 @@ use Rattle.pl_base.specs.declared.expanded.Expanded.{Expanded}
 use Rattle.pl_base.specs.declared.place.FileKey.{FileKey}
 use Rattle.pl_calls.specs.declared.files.Parsed.{Parsed}
 use Rattle.pl_directives.specs.declared.fault.ExpandFault.{ExpandFault}
-use Rattle.pl_expand.specs.Reading.{parsed}
+use Rattle.pl_root.specs.Reading.{parsed}
 use Rattle.pl_expand.specs.Tree.{expansion}
 use Rattle.std.specs.Prelude.{Result}
 

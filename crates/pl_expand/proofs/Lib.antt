@@ -1,4 +1,2 @@
 pub mod Alone
-pub mod Entries
-pub mod Finding
 pub mod Sides

@@ -1,13 +1,12 @@
 -- `extends` of the root file (Microsoft Learn, Azure Pipelines, "YAML schema reference", extends,
 -- and "Templates": extend from a template).
 use Rattle.std.specs.Prelude.{ℕ, Bool, not, ◌&&◌, List, [], ◌∷◌, ◌++◌, map, filter, find, codes}
-use Rattle.std.specs.Prelude.{Option, Some, None, is_some, Result, Ok, if◌then◌else◌}
+use Rattle.std.specs.Prelude.{Option, Some, None, Result, Ok, if◌then◌else◌}
 use Rattle.std.specs.Option.{option_map}
 use Rattle.std.specs.List.{filter_map, list_any}
 use Rattle.pl_base.specs.declared.node.Node.{Node}
 use Rattle.pl_base.specs.declared.node.NodeBody.TheOpen.{Map}
 use Rattle.pl_base.specs.declared.node.NodePair.{NodePair}
-use Rattle.pl_base.specs.declared.origin.Crossing.{Crossing}
 use Rattle.pl_base.specs.declared.origin.Crossing.TheVariants.{Extends}
 use Rattle.pl_base.specs.declared.place.FileKey.{FileKey}
 use Rattle.pl_base.specs.declared.place.Place.{Place}
@@ -27,7 +26,6 @@ use Rattle.pl_directives.specs.declared.progress.Chain.TheVariants.{Closed}
 use Rattle.pl_directives.specs.declared.progress.Content.{Content}
 use Rattle.pl_directives.specs.declared.progress.Content.TheVariants.{Pairs}
 use Rattle.pl_directives.specs.declared.progress.Counted.{Counted}
-use Rattle.pl_directives.specs.declared.progress.Progress.{Progress}
 use Rattle.pl_directives.specs.declared.region.Region.TheVariants.{Free, Quiet}
 use Rattle.pl_directives.specs.Complaints.{refused}
 use Rattle.pl_directives.specs.Contents.{begun}

@@ -1,4 +1,2 @@
 pub mod Extending
-pub mod Reading
-pub mod Resources
 pub mod Tree

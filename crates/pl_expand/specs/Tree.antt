@@ -1,55 +1,41 @@
 -- The expansion of a root file with its run arguments (Microsoft Learn, Azure Pipelines, "YAML
 -- schema reference", pipeline, and "Templates").
-use Rattle.std.specs.Prelude.{ℕ, Bool, true, false, not, List, [], ◌∷◌, ◌++◌, map, flat_map, filter}
-use Rattle.std.specs.Prelude.{find, codes}
-use Rattle.std.specs.Prelude.{Option, Some, None, Result, Ok, Err, if◌then◌else◌}
-use Rattle.std.specs.Option.{option_map, option_map_or}
+use Rattle.std.specs.Prelude.{ℕ, Bool, not, List, [], ◌∷◌, filter}
+use Rattle.std.specs.Prelude.{codes}
+use Rattle.std.specs.Prelude.{Option, Some, None, Result, Ok, Err}
+use Rattle.std.specs.Option.{option_map}
 use Rattle.std.specs.FinMap as finite
-use Rattle.std.specs.List.{filter_map, list_any}
+use Rattle.std.specs.List.{list_any}
 use Rattle.pl_base.specs.Files.{file_cmp}
 use Rattle.pl_base.specs.Places.{place_at}
 use Rattle.pl_base.specs.declared.expanded.Argument.{Argument}
 use Rattle.pl_base.specs.declared.expanded.Expanded.{Expanded}
-use Rattle.pl_base.specs.declared.expanded.Repository.{Repository}
 use Rattle.pl_base.specs.declared.node.Node.{Node}
-use Rattle.pl_base.specs.declared.node.NodeBody.TheOpen.{Scalar, Seq, Map}
+use Rattle.pl_base.specs.declared.node.NodeBody.TheOpen.{Map}
 use Rattle.pl_base.specs.declared.node.NodePair.{NodePair}
 use Rattle.pl_base.specs.declared.origin.Origin.{Origin}
 use Rattle.pl_base.specs.declared.place.FileKey.{FileKey}
 use Rattle.pl_base.specs.declared.place.Place.{Place}
-use Rattle.pl_base.specs.declared.value.Value.{Value, Null, Str, Object}
+use Rattle.pl_base.specs.declared.value.Value.{Object}
 use Rattle.pl_base.specs.declared.value.MarkedNode.{MarkedNode}
 use Rattle.pl_base.specs.declared.value.MarkedPair.{MarkedPair}
 use Rattle.pl_eval.specs.LookUps.{made}
-use Rattle.pl_frame.specs.Bindings.{parameters_of}
 use Rattle.pl_frame.specs.Doubles.{first_double}
 use Rattle.pl_frame.specs.Origins.{literal_at}
-use Rattle.pl_frame.specs.Variables.{variables_of}
 use Rattle.pl_frame.specs.declared.frame.Frame.{Frame}
 use Rattle.pl_frame.specs.declared.frame.Parameter.{Parameter}
-use Rattle.pl_frame.specs.declared.frame.Variable.{Variable}
-use Rattle.pl_line.specs.declared.code.YamlCode.{YamlCode}
-use Rattle.pl_literal.specs.Booleans.{spells}
 use Rattle.pl_literal.specs.Items.{is}
-use Rattle.pl_literal.specs.Literal.{literal, origin_at}
-use Rattle.pl_params.specs.declared.given.Bound.{Bound}
-use Rattle.pl_params.specs.declared.given.Given.{Given}
-use Rattle.pl_params.specs.declared.kind.ParamKind.{ParamKind}
-use Rattle.pl_params.specs.declared.kind.ParamKind.TheVariants as kind
-use Rattle.pl_params.specs.declared.param.Param.{Param}
-use Rattle.pl_yaml.specs.Spells as yaml
 use Rattle.pl_directives.specs.declared.fault.Complaint.{Complaint}
 use Rattle.pl_directives.specs.declared.fault.ExpandFault.{ExpandFault}
 use Rattle.pl_directives.specs.declared.fault.ExpandFault.TheVariants.{Refused}
 use Rattle.pl_directives.specs.declared.fault.ExpandProblem.TheVariants.{FileMissing, WrongKind}
-use Rattle.pl_directives.specs.declared.fault.ExpandProblem.TheVariants.{BadFile, KeyTwice}
+use Rattle.pl_directives.specs.declared.fault.ExpandProblem.TheVariants.{KeyTwice}
 use Rattle.pl_calls.specs.declared.files.Parsed.{Parsed}
 use Rattle.pl_calls.specs.declared.reaching.Home.{Home}
 use Rattle.pl_directives.specs.declared.manner.Kind.TheVariants as content
 use Rattle.pl_directives.specs.declared.progress.Chain.TheVariants.{Closed}
 use Rattle.pl_directives.specs.declared.progress.Content.{Content}
 use Rattle.pl_directives.specs.declared.progress.Content.TheVariants.{Pairs}
-use Rattle.pl_directives.specs.declared.progress.Counted.{Counted}
 use Rattle.pl_directives.specs.declared.progress.Progress.{Progress}
 use Rattle.pl_directives.specs.declared.region.Form.TheVariants.{Variables as InVariables}
 use Rattle.pl_directives.specs.declared.region.Region.TheVariants.{Free, Calls}
@@ -58,24 +44,25 @@ use Rattle.pl_expand.specs.declared.root.RootNode.{RootNode}
 use Rattle.pl_expand.specs.declared.extending.Extension.{Extension}
 use Rattle.pl_expand.specs.declared.filling.RootFilling.{RootFilling}
 use Rattle.pl_expand.specs.declared.filling.Early.{Early}
-use Rattle.pl_expand.specs.declared.root_key.RootKey.{RootKey}
-use Rattle.pl_expand.specs.declared.root_key.RootKey.TheVariants.{Parameters, Resources, Extends}
-use Rattle.pl_expand.specs.declared.root_key.RootKey.TheVariants.{Variables, Other}
-use Rattle.pl_directives.specs.Complaints.{complaint, refused}
+use Rattle.pl_root.specs.declared.root_key.RootKey.{RootKey}
+use Rattle.pl_root.specs.declared.root_key.RootKey.TheVariants.{Parameters, Resources, Extends}
+use Rattle.pl_root.specs.declared.root_key.RootKey.TheVariants.{Variables, Other}
+use Rattle.pl_directives.specs.Complaints.{refused}
 use Rattle.pl_directives.specs.Contents.{begun, with_chain, with_count, put_pair}
 use Rattle.pl_directives.specs.Counting.{entered}
 use Rattle.pl_calls.specs.Judging.{unless_at}
 use Rattle.pl_calls.specs.Meant.{◌>>>◌, alone}
-use Rattle.pl_calls.specs.Parameters.{declared_by, bound_to}
-use Rattle.pl_calls.specs.Parts.{Body, body_of, under, key_place_of}
+use Rattle.pl_calls.specs.Parts.{Body, body_of, under}
 use Rattle.pl_calls.specs.Reaching.{Opens, node_in, opens, same_file}
 use Rattle.pl_expanding.specs.Expanding.{expanded, entry_of, pair_behind}
 use Rattle.pl_expanding.specs.Following.{Follow}
 use Rattle.pl_expanding.specs.Levels.{followed}
 use Rattle.pl_expand.specs.Extending.{extended, merged}
-use Rattle.pl_expand.specs.Resources.{is_before, earliest}
-use Rattle.pl_expand.specs.Resources.{resources_complaints, repositories_in}
+use Rattle.pl_root.specs.Resources.{earliest}
 use Rattle.pl_directives.specs.Steps.{◌>>=◌}
+use Rattle.pl_root.specs.Keys.{repositories_of, root_complaints, root_key}
+use Rattle.pl_root.specs.Arguments.{parameters_by}
+use Rattle.pl_root.specs.Frames.{first_frame, second_frame}
 
 -- ---- the root file
 
@@ -83,113 +70,9 @@ abbrev pub root_node : FileKey → Option Parsed → Result Node ExpandFault
 root_node root None = refused FileMissing (place_at root 1 1)
 root_node root (Some file) = node_in file
 
--- ---- what its literal keys say before anything is expanded
-
-abbrev pub later : Place → Place → Place
-later left right = if is_before left right then right else left
-
--- `extends` beside a key of the root's own jobs, at the later of the two
-abbrev pub beside : Option Place → Option Place → List Complaint
-beside (Some extends) (Some form) = complaint WrongKind (later extends form) ∷ []
-beside extends form = []
-
-abbrev pub form_beside : List ℕ → List NodePair → List Complaint
-form_beside form pairs = beside (key_place_of (codes "extends") pairs) (key_place_of form pairs)
-
-abbrev pub resources_wrong : Option Node → List Complaint
-resources_wrong resources = option_map_or resources_complaints resources []
-
-abbrev pub root_complaints : List NodePair → List Complaint
-root_complaints pairs =
-    resources_wrong (under (codes "resources") pairs)
-    ++ form_beside (codes "stages") pairs
-    ++ form_beside (codes "jobs") pairs
-    ++ form_beside (codes "steps") pairs
-
 abbrev pub unless : {X : Type 0} → Option Complaint → X → Result X ExpandFault
 unless None value = Ok value
 unless (Some first) value = Err (Refused first)
-
-abbrev pub repositories_of : Option Node → List Repository
-repositories_of resources = option_map_or repositories_in resources []
-
--- ---- its parameters
-
--- the file in which a run argument stands
-abbrev pub argument_file : List ℕ → FileKey
-argument_file name = record { repo = []; git_ref = []; path = codes "/arguments/" ++ name }
-
-abbrev pub given_as : Argument → MarkedNode → Given
-given_as argument value =
-    record {
-      name = argument.name;
-      place = place_at (argument_file argument.name) 1 1;
-      value = value;
-    }
-
--- the whole text
-abbrev pub whole_text : Argument → MarkedNode
-whole_text argument =
-    made (origin_at [] (place_at (argument_file argument.name) 1 1)) (Str argument.text)
-
-abbrev pub read_told : Result Node (YamlCode × Place) → Result MarkedNode ExpandFault
-read_told (Ok node) = Ok (literal [] node)
-read_told (Err told) = refused (BadFile told.0) told.1
-
--- A string takes the whole text, any other type reads it as YAML. What no parameter is declared for
--- isn't read.
-abbrev pub is_text : ParamKind → Bool
-is_text kind.String = true
-is_text other = false
-
-abbrev pub argument_value : Option ParamKind → Argument → Result MarkedNode ExpandFault
-argument_value None argument = Ok (whole_text argument)
-argument_value (Some kind) argument =
-    if is_text kind then Ok (whole_text argument)
-    else read_told (yaml.spells (argument_file argument.name) argument.text)
-
-abbrev pub kind_for : List Param → List ℕ → Option ParamKind
-kind_for declared name =
-    option_map (λ param. param.kind) (find (λ param. spells name param.name) declared)
-
-abbrev pub argument_given : List Param → Argument → Result Given ExpandFault
-argument_given declared argument =
-    argument_value (kind_for declared argument.name) argument >>= λ value.
-    Ok (given_as argument value)
-
--- in the order of the arguments
-abbrev pub arguments_given :
-    List Param → List Argument → List Given → Result (List Given) ExpandFault
-arguments_given declared [] given = Ok given
-arguments_given declared (argument ∷ arguments) given =
-    argument_given declared argument >>= λ one.
-    arguments_given declared arguments (given ++ one ∷ [])
-
-abbrev pub bound_by : List Param → List Argument → Result (List Bound) ExpandFault
-bound_by declared arguments =
-    arguments_given declared arguments [] >>= bound_to declared
-
-abbrev pub parameters_by : Option Node → List Argument → Result (List Parameter) ExpandFault
-parameters_by node arguments =
-    declared_by node >>= λ declared.
-    bound_by declared arguments >>= λ bound.
-    Ok (parameters_of [] declared bound)
-
--- ---- its frame
-
-abbrev pub root_frame : FileKey → List Parameter → List Variable → Frame
-root_frame root parameters variables = record {
-  file = root;
-  level = 0;
-  parameters = parameters;
-  variables = variables;
-  loops = [];
-  crossings = [];
-}
-
--- before its variables are expanded only those of the run are there
-abbrev pub first_frame : FileKey → List Parameter → Frame
-first_frame root parameters = root_frame root parameters (variables_of root.git_ref Null)
 
 -- ---- its variables, which are expanded before all else
 
@@ -200,20 +83,7 @@ early_by (Some node) follow frame count used =
     expanded node follow frame (Calls InVariables) count used >>> λ one used.
     Ok (record { node = Some one.node; count = one.count }, used)
 
--- what templates see of it
-abbrev pub early_value : Option MarkedNode → Value
-early_value None = Null
-early_value (Some node) = node.value
-
 -- ---- its pairs
-
-abbrev pub root_key : List ℕ → RootKey
-root_key key =
-    if is key (codes "parameters") then Parameters
-    else if is key (codes "resources") then Resources
-    else if is key (codes "extends") then Extends
-    else if is key (codes "variables") then Variables
-    else Other
 
 -- its variables under their key
 abbrev pub put_variables :
@@ -320,10 +190,6 @@ whole home one used = record {
   };
   count = one.count;
 }
-
-abbrev pub second_frame : FileKey → List Parameter → Option MarkedNode → Frame
-second_frame root parameters early =
-    root_frame root parameters (variables_of root.git_ref (early_value early))
 
 -- the pairs of the root's mapping, once its variables were expanded
 abbrev pub root_from : Origin → RootFilling → Result RootNode ExpandFault

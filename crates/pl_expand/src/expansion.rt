@@ -11,11 +11,7 @@ ghost use Rattle.pl_expand.specs.Tree.{mapping_expanded, other_expanded, tree_of
 ghost use Rattle.pl_expand.specs.Tree.{bare_expanded};
 ghost use Rattle.pl_expand.specs.Tree.{expansion};
 
-use crate::arguments::parameters_by;
-use crate::complaints::first_complaint;
 use crate::filling::{ROOT, early_by, fill_root};
-use crate::frames::first_frame;
-use crate::repositories::repositories_of;
 use crate::root::{RootNode, RootTree};
 use pl_base::{
     Argument, ExactCopy, Expanded, FileKey, List, Memory, Node, NodeBody, NodePair, Place, Shared,
@@ -24,6 +20,7 @@ use pl_calls::{Files, Home, Reach, node_in, same_file, under};
 use pl_directives::{Counted, ExpandFault, ExpandProblem, complain, enter};
 use pl_expanding::expand_node;
 use pl_frame::{Frame, Parameter};
+use pl_root::{first_complaint, first_frame, parameters_by, repositories_of};
 use std::alloc::Global;
 
 /// The files that are used: the root, and then those that are called.

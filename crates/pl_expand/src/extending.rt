@@ -169,7 +169,7 @@ fn may_extend(key: &Text) -> bool
 }
 
 /// The first key that may not stand there.
-#[tactic(auto, using(crate::proofs::Finding::find_drop_yes, crate::proofs::Finding::find_drop_no))]
+#[tactic(auto, using(pl_root::proofs::Finding::find_drop_yes, pl_root::proofs::Finding::find_drop_no))]
 fn stray(pairs: &List<NodePair>) -> Option<&Place>
     ensures { option_copied result ≡ stray may_extend pairs.now }
 {

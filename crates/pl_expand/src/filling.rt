@@ -14,10 +14,8 @@ ghost use Rattle.pl_expand.specs.Tree.{extends_pair, variables_pair, object_pair
 ghost use Rattle.pl_frame.specs.Doubles.{first_double};
 
 use crate::extending::{Extension, extend};
-use crate::frames::second_frame;
 use crate::merging::merge;
 use crate::root::RootNode;
-use crate::root_key::RootKey;
 use pl_base::{
     DEEPEST, ExactCopy, FileKey, List, MarkedNode, MarkedPair, Memory, Node, NodePair, Origin,
     Place, Shared, Value,
@@ -29,6 +27,7 @@ use pl_directives::{
 };
 use pl_expanding::{MOST_LEVELS, expand_node, fill_pair};
 use pl_frame::{Frame, Parameter, first_double, literal_at};
+use pl_root::{RootKey, second_frame};
 use std::alloc::Global;
 
 /// The root's variables, which are expanded before all else, and the count behind them.

@@ -17,7 +17,7 @@ use pl_expanding::variable_items;
 use std::alloc::Global;
 
 /// The value under a key.
-#[tactic(auto, using(crate::proofs::Finding::find_drop_yes, crate::proofs::Finding::find_drop_no))]
+#[tactic(auto, using(pl_root::proofs::Finding::find_drop_yes, pl_root::proofs::Finding::find_drop_no))]
 fn item_under<'p>(key: &str, pairs: &'p List<MarkedPair>) -> Option<&'p MarkedNode>
     ensures { option_copied result ≡ item_under key.now pairs.now }
 {
@@ -214,7 +214,7 @@ fn is_form(key: &Text) -> bool
 }
 
 /// Where the first key of the root's own jobs comes from.
-#[tactic(auto, using(crate::proofs::Finding::find_drop_yes, crate::proofs::Finding::find_drop_no))]
+#[tactic(auto, using(pl_root::proofs::Finding::find_drop_yes, pl_root::proofs::Finding::find_drop_no))]
 fn form_place(pairs: &List<MarkedPair>) -> Option<&Place>
     ensures { option_copied result ≡ form_place pairs.now }
 {

@@ -14,8 +14,6 @@ mod limits;
 mod order;
 mod parts;
 mod records;
-#[cfg(test)]
-mod tests;
 
 pub use decoding::decode;
 pub use encoding::encode;

@@ -53,9 +53,12 @@ use Rattle.pl_origins.proofs.Steps.{done_gives}
 use Rattle.pl_expand.specs.declared.filling.RootFilling.{RootFilling}
 use Rattle.pl_expand.specs.declared.root.RootNode.{RootNode}
 use Rattle.pl_expand.specs.declared.root.RootTree.{RootTree}
-use Rattle.pl_expand.specs.Resources.{earliest}
-use Rattle.pl_expand.specs.Tree.{Set, argument_file, root_complaints, unless, parameters_by}
-use Rattle.pl_expand.specs.Tree.{first_frame, root_from, root_object, pairs_expanded, home_of}
+use Rattle.pl_root.specs.Resources.{earliest}
+use Rattle.pl_expand.specs.Tree.{Set, unless}
+use Rattle.pl_root.specs.Arguments.{argument_file, parameters_by}
+use Rattle.pl_root.specs.Keys.{root_complaints}
+use Rattle.pl_root.specs.Frames.{first_frame}
+use Rattle.pl_expand.specs.Tree.{root_from, root_object, pairs_expanded, home_of}
 use Rattle.pl_expand.specs.Tree.{bare_home, used_files, mapping_expanded, bare_expanded}
 use Rattle.pl_expand.specs.Tree.{other_expanded, body_expanded_by, root_node, tree_of}
 use Rattle.pl_provenance.specs.Known.{IsUsed, IsGiven, IsBorder}

@@ -52,16 +52,20 @@ use Rattle.pl_expand.specs.declared.extending.Extension.{Extension}
 use Rattle.pl_expand.specs.declared.filling.Early.{Early}
 use Rattle.pl_expand.specs.declared.filling.RootFilling.{RootFilling}
 use Rattle.pl_expand.specs.declared.root.RootNode.{RootNode}
-use Rattle.pl_expand.specs.declared.root_key.RootKey.{RootKey}
-use Rattle.pl_expand.specs.declared.root_key.RootKey.TheVariants as key
+use Rattle.pl_root.specs.declared.root_key.RootKey.{RootKey}
+use Rattle.pl_root.specs.declared.root_key.RootKey.TheVariants as key
 use Rattle.pl_expand.specs.Extending.{extended}
-use Rattle.pl_expand.specs.Tree.{argument_file, whole_text, read_told, is_text}
-use Rattle.pl_expand.specs.Tree.{argument_value, kind_for, argument_given, arguments_given}
-use Rattle.pl_expand.specs.Tree.{bound_by}
-use Rattle.pl_expand.specs.Tree.{parameters_by, root_frame, first_frame, early_by, root_key}
+use Rattle.pl_root.specs.Arguments.{argument_file, whole_text, read_told, is_text}
+use Rattle.pl_root.specs.Arguments.{argument_value, kind_for, argument_given, arguments_given}
+use Rattle.pl_root.specs.Arguments.{bound_by}
+use Rattle.pl_root.specs.Arguments.{parameters_by}
+use Rattle.pl_root.specs.Frames.{root_frame, first_frame}
+use Rattle.pl_expand.specs.Tree.{early_by}
+use Rattle.pl_root.specs.Keys.{root_key}
 use Rattle.pl_expand.specs.Tree.{put_variables, filled_with, ordinary_pair, extends_pair}
 use Rattle.pl_expand.specs.Tree.{passed_over, variables_pair, root_pair, given_to, early_behind}
-use Rattle.pl_expand.specs.Tree.{root_pairs, root_object, second_frame, root_from}
+use Rattle.pl_expand.specs.Tree.{root_pairs, root_object, root_from}
+use Rattle.pl_root.specs.Frames.{second_frame}
 use Rattle.pl_expand.specs.Tree.{filled_root, pairs_expanded}
 use Rattle.pl_provenance.specs.Roots.{jobs_of}
 use Rattle.pl_provenance.proofs.Extended.{ExtendsBorder, ExtensionFrom, extended_gives}

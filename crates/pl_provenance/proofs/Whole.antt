@@ -31,8 +31,11 @@ use Rattle.pl_origins.proofs.Steps.{Used, ok_then, any_then}
 use Rattle.pl_expand.specs.declared.filling.RootFilling.{RootFilling}
 use Rattle.pl_expand.specs.declared.root.RootNode.{RootNode}
 use Rattle.pl_expand.specs.declared.root.RootTree.{RootTree}
-use Rattle.pl_expand.specs.Resources.{earliest}
-use Rattle.pl_expand.specs.Tree.{Set, root_complaints, unless, parameters_by, first_frame}
+use Rattle.pl_root.specs.Resources.{earliest}
+use Rattle.pl_expand.specs.Tree.{Set, unless}
+use Rattle.pl_root.specs.Keys.{root_complaints}
+use Rattle.pl_root.specs.Arguments.{parameters_by}
+use Rattle.pl_root.specs.Frames.{first_frame}
 use Rattle.pl_expand.specs.Tree.{root_from}
 use Rattle.pl_expand.specs.Tree.{pairs_expanded, home_of, bare_home, mapping_expanded}
 use Rattle.pl_expand.specs.Tree.{bare_expanded, other_expanded, body_expanded_by, root_node}

@@ -13,7 +13,8 @@ use Rattle.pl_base.specs.declared.place.Place.{Place}
 use Rattle.pl_yaml.specs.Spells as yaml
 use Rattle.pl_eval_laws.specs.Trees.{origins_of}
 use Rattle.pl_origins.specs.Places.{places_of}
-use Rattle.pl_expand.specs.Tree.{Set, argument_file, expansion}
+use Rattle.pl_expand.specs.Tree.{Set, expansion}
+use Rattle.pl_root.specs.Arguments.{argument_file}
 use Rattle.pl_provenance.specs.Written.{StandsInFile}
 
 -- a node or a key of a used file stands there

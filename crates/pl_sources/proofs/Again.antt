@@ -10,7 +10,7 @@ use Rattle.pl_compile.specs.Compiling.{IsCompiledOf, sources_of}
 use Rattle.pl_compile.specs.Reading.{Read, Texts, read_all}
 use Rattle.pl_directives.specs.Steps.{◌>>=◌}
 use Rattle.pl_directives.specs.declared.fault.ExpandFault.{ExpandFault}
-use Rattle.pl_expand.specs.Reading.{parsed}
+use Rattle.pl_root.specs.Reading.{parsed}
 use Rattle.pl_expand.specs.Tree.{expansion, tree_of as rooted}
 use Rattle.pl_expand.specs.declared.root.RootTree.{RootTree}
 use Rattle.pl_plan.specs.declared.plan.Compiled.{Compiled}

@@ -35,14 +35,19 @@ use Rattle.pl_origins.proofs.Steps.{Used, Gives}
 use Rattle.pl_expand.specs.declared.filling.Early.{Early}
 use Rattle.pl_expand.specs.declared.filling.RootFilling.{RootFilling}
 use Rattle.pl_expand.specs.declared.root.RootTree.{RootTree}
-use Rattle.pl_expand.specs.declared.root_key.RootKey.{RootKey}
-use Rattle.pl_expand.specs.declared.root_key.RootKey.TheVariants as key
+use Rattle.pl_root.specs.declared.root_key.RootKey.{RootKey}
+use Rattle.pl_root.specs.declared.root_key.RootKey.TheVariants as key
 use Rattle.pl_expand.specs.Extending.{extended}
-use Rattle.pl_expand.specs.Resources.{earliest}
-use Rattle.pl_expand.specs.Tree.{Set, root_complaints, unless, parameters_by, first_frame, early_by}
-use Rattle.pl_expand.specs.Tree.{root_key, filled_with, ordinary_pair, extends_pair, passed_over}
+use Rattle.pl_root.specs.Resources.{earliest}
+use Rattle.pl_expand.specs.Tree.{Set, unless, early_by}
+use Rattle.pl_root.specs.Keys.{root_complaints}
+use Rattle.pl_root.specs.Arguments.{parameters_by}
+use Rattle.pl_root.specs.Frames.{first_frame}
+use Rattle.pl_root.specs.Keys.{root_key}
+use Rattle.pl_expand.specs.Tree.{filled_with, ordinary_pair, extends_pair, passed_over}
 use Rattle.pl_expand.specs.Tree.{variables_pair, root_pair, given_to, early_behind, root_pairs}
-use Rattle.pl_expand.specs.Tree.{root_from, second_frame, filled_root, pairs_expanded, home_of}
+use Rattle.pl_expand.specs.Tree.{root_from, filled_root, pairs_expanded, home_of}
+use Rattle.pl_root.specs.Frames.{second_frame}
 use Rattle.pl_expand.specs.Tree.{bare_home, used_files, whole, mapping_expanded, bare_expanded}
 use Rattle.pl_expand.specs.Tree.{other_expanded, body_expanded_by, body_expanded, root_node}
 use Rattle.pl_expand.specs.Tree.{tree_of}

@@ -1,8 +1,0 @@
-mod cuts;
-mod hostile;
-mod keepers;
-mod rows;
-mod runs;
-mod samples;
-mod settings;
-mod trips;

@@ -1,0 +1,6 @@
+mod cuts;
+mod hostile;
+mod keepers;
+mod records;
+mod rows;
+mod trips;

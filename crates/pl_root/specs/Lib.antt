@@ -1,0 +1,5 @@
+pub mod Arguments
+pub mod Frames
+pub mod Keys
+pub mod Reading
+pub mod Resources
