@@ -16,17 +16,17 @@ echo "conditions: pl_base pl_literal pl_schema pl_plan pl_yaml pl_results pl_con
 cp "$here/conditions.rt.in" "$work/crates/conditions/src/main.rt"
 cp "$top/HANDLES" "$work/"
 python3 "$here/text.py" even >"$work/text"
-(cd "$work/crates/conditions" && rt run -- 1 stage <"$work/text" >"$work/log" 2>&1) || { cat "$work/log" >&2; exit 1; }
+(cd "$work/crates/conditions" && rt run -- 1.stage <"$work/text" >"$work/log" 2>&1) || { cat "$work/log" >&2; exit 1; }
 count() {
-    valgrind --tool=callgrind --callgrind-out-file=/dev/null "$work/crates/conditions/out/conditions" "$@" \
-        <"$work/text" 2>&1 | sed -n 's/.*Collected : \([0-9]*\).*/\1/p'
+    valgrind --tool=callgrind --callgrind-out-file=/dev/null --toggle-collect=pl_cond::conditions::holds \
+        "$work/crates/conditions/out/conditions" "$1" <"$work/text" 2>&1 | sed -n 's/.*Collected : \([0-9]*\).*/\1/p'
 }
 for name in even wide job whole; do
     python3 "$here/text.py" "$name" >"$work/text"
     what=stage
     if [ "$name" = job ]; then what=job; fi
-    one=$(($(count 1 $what) - $(count 1 view)))
-    many=$(($(count 100 $what) - $(count 100 view)))
+    one=$(count 1.$what)
+    many=$(count 100.$what)
     echo "$name: $one instructions with one output a job, $many with 100"
     python3 -c "print(f'ratio {$many / $one:.2f}')"
 done
