@@ -11,11 +11,12 @@ returns-in-Ok-write_all g c = (
   c.in-Ok-Plan.text,
   plan_held c.args.arguments.now c.in-Ok.bytes c.as_slice.result.now
       (inflow g.S.Source c.args.source.now) (inflow g.S.Source c.read_to_end.new.source)
-      c.as_slice.ensures c.in-Ok.ensures c.in-Ok-Plan.text (subst (IsOutput (bundle_of c.as_slice.result.now) c.args.arguments.now)
+      c.as_slice.ensures c.in-Ok.ensures c.in-Ok-Plan.text
+      (subst (IsOutput (bundle_of c.as_slice.result.now) c.args.arguments.now)
       c.in-Ok-Plan.field-0-is c.in-Ok-Plan.ensures),
   subst (λ text. IsSent text (outflow g.K.Sink c.args.sink.now)
       (outflow g.K.Sink c.write_all.new.sink))
-      c.as_slice-in-Ok-Plan.ensures c.in-Ok-write_all.ensures,
+      (c.as_bytes.ensures.value ∙ c.as_str.ensures) c.in-Ok-write_all.ensures,
 )
 
 pub returns-in-Ok-Plan : goal.returns-in-Ok-Plan
@@ -25,11 +26,12 @@ returns-in-Ok-Plan g c = (
       (inflow g.S.Source c.read_to_end.new.source)
       (plan_held c.args.arguments.now c.in-Ok.bytes c.as_slice.result.now
       (inflow g.S.Source c.args.source.now) (inflow g.S.Source c.read_to_end.new.source)
-      c.as_slice.ensures c.in-Ok.ensures c.in-Ok-Plan.text (subst (IsOutput (bundle_of c.as_slice.result.now) c.args.arguments.now)
+      c.as_slice.ensures c.in-Ok.ensures c.in-Ok-Plan.text
+      (subst (IsOutput (bundle_of c.as_slice.result.now) c.args.arguments.now)
       c.in-Ok-Plan.field-0-is c.in-Ok-Plan.ensures)),
   subst (λ text. IsBegun text (outflow g.K.Sink c.args.sink.now)
       (outflow g.K.Sink c.write_all.new.sink))
-      c.as_slice-in-Ok-Plan.ensures c.in-Err-write_all.ensures,
+      (c.as_bytes.ensures.value ∙ c.as_str.ensures) c.in-Err-write_all.ensures,
 )
 
 pub returns-in-Ok-write_all-2 : goal.returns-in-Ok-write_all-2
@@ -37,11 +39,12 @@ returns-in-Ok-write_all-2 g c = (
   c.in-Ok-Line.line,
   line_held c.args.arguments.now c.in-Ok.bytes c.as_slice.result.now
       (inflow g.S.Source c.args.source.now) (inflow g.S.Source c.read_to_end.new.source)
-      c.as_slice.ensures c.in-Ok.ensures c.in-Ok-Line.line (subst (IsOutput (bundle_of c.as_slice.result.now) c.args.arguments.now)
+      c.as_slice.ensures c.in-Ok.ensures c.in-Ok-Line.line
+      (subst (IsOutput (bundle_of c.as_slice.result.now) c.args.arguments.now)
       c.in-Ok-Line.field-0-is c.in-Ok-Line.ensures),
   subst (λ text. IsSent text (outflow g.K.Sink c.args.sink.now)
       (outflow g.K.Sink c.write_all-in-Ok-Line.new.sink))
-      (c.as_bytes.ensures.value ∙ c.as_str.ensures) c.in-Ok-write_all-2.ensures,
+      (c.as_bytes-in-Ok-Line.ensures.value ∙ c.as_str-in-Ok-Line.ensures) c.in-Ok-write_all-2.ensures,
 )
 
 pub returns-in-Ok-Line : goal.returns-in-Ok-Line
@@ -51,9 +54,10 @@ returns-in-Ok-Line g c = (
       (inflow g.S.Source c.read_to_end.new.source)
       (line_held c.args.arguments.now c.in-Ok.bytes c.as_slice.result.now
       (inflow g.S.Source c.args.source.now) (inflow g.S.Source c.read_to_end.new.source)
-      c.as_slice.ensures c.in-Ok.ensures c.in-Ok-Line.line (subst (IsOutput (bundle_of c.as_slice.result.now) c.args.arguments.now)
+      c.as_slice.ensures c.in-Ok.ensures c.in-Ok-Line.line
+      (subst (IsOutput (bundle_of c.as_slice.result.now) c.args.arguments.now)
       c.in-Ok-Line.field-0-is c.in-Ok-Line.ensures)),
   subst (λ text. IsBegun text (outflow g.K.Sink c.args.sink.now)
       (outflow g.K.Sink c.write_all-in-Ok-Line.new.sink))
-      (c.as_bytes.ensures.value ∙ c.as_str.ensures) c.in-Err-write_all-2.ensures,
+      (c.as_bytes-in-Ok-Line.ensures.value ∙ c.as_str-in-Ok-Line.ensures) c.in-Err-write_all-2.ensures,
 )
