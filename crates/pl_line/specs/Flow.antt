@@ -10,10 +10,12 @@ use Rattle.pl_line.specs.declared.code.YamlCode.TheVariants as codes_of
 use Rattle.pl_line.specs.declared.line_fault.Fault.{Fault}
 use Rattle.pl_line.specs.declared.flow_head.FlowHead.{FlowHead}
 use Rattle.pl_line.specs.declared.flow_head.FlowHead.TheVariants as heads
-use Rattle.pl_line.specs.Rows.{Row, is_blank}
-use Rattle.pl_line.specs.Reading.{◌>>=◌, fault_at}
+use Rattle.pl_line.specs.Rows.{Row}
+use Rattle.pl_reading.specs.Bytes.{is_blank, begins_with}
+use Rattle.pl_line.specs.Reading.{fault_at}
+use Rattle.pl_reading.specs.Steps.{◌>>=◌}
 use Rattle.pl_line.specs.Left.{behind, end_code}
-use Rattle.pl_line.specs.Scanning.{begins_with, ends_word}
+use Rattle.pl_line.specs.Scanning.{ends_word}
 use Rattle.pl_line.specs.Quoted.{quoted}
 use Rattle.pl_line.specs.Trees.{node_at, plain, is_doubled, pair_of}
 

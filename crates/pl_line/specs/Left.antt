@@ -4,9 +4,9 @@ use Rattle.std.specs.List.{position_or_len}
 use Rattle.pl_line.specs.declared.code.YamlCode.{YamlCode}
 use Rattle.pl_line.specs.declared.code.YamlCode.TheVariants as codes_of
 use Rattle.pl_line.specs.declared.line_fault.Fault.{Fault}
-use Rattle.pl_line.specs.Rows.{Row, is_blank}
+use Rattle.pl_line.specs.Rows.{Row}
+use Rattle.pl_reading.specs.Bytes.{is_blank, begins_with}
 use Rattle.pl_line.specs.Reading.{fault_behind}
-use Rattle.pl_line.specs.Scanning.{begins_with}
 
 -- the row behind so many characters and the blanks after them
 unfoldable pub behind : ℕ → Row → Row

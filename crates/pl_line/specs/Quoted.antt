@@ -10,7 +10,7 @@ use Rattle.pl_line.specs.declared.piece.Style.TheVariants as styles
 use Rattle.pl_line.specs.Rows.{Row}
 use Rattle.pl_line.specs.Reading.{fault_at, fault_behind}
 use Rattle.pl_line.specs.Left.{end_code}
-use Rattle.pl_line.specs.Scanning.{begins_with}
+use Rattle.pl_reading.specs.Bytes.{begins_with}
 
 -- the character that a backslash before this one spells
 unfoldable pub named : ℕ → Option ℕ

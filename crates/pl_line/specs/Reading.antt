@@ -6,11 +6,6 @@ use Rattle.pl_line.specs.declared.line_fault.ReadFault.{ReadFault}
 use Rattle.pl_line.specs.declared.line_fault.ReadFault.TheVariants as faults
 use Rattle.pl_line.specs.Rows.{Row}
 
-infixl 10 ◌>>=◌
-abbrev pub ◌>>=◌ : {A B : Type 0} → Result A Fault → (A → Result B Fault) → Result B Fault
-(Ok x) >>= f = f x
-(Err fault) >>= f = Err fault
-
 -- what a function answered, seen by a view, is what reading gives, unless memory ran out
 abbrev pub Fails : {Y : Type 0} → ReadFault → Result Y Fault → Type 0
 Fails faults.Memory read = Unit {0}

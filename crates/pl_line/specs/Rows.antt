@@ -18,10 +18,6 @@ pub record Row : Type 0 where
 abbrev pub row : Line → Row
 row line = record { number = line.number; column = line.column; text = all_of line.text; whole = line.whole }
 
--- space and tab
-abbrev pub is_blank : ℕ → Bool
-is_blank c = c == 32 || c == 9
-
 -- a character below U+0020 other than tab, which no text may have
 abbrev pub is_control : ℕ → Bool
 is_control c = nat_lt c 32 && not (c == 9)

@@ -1,10 +1,6 @@
 -- Characters at the front and at the end of a text (YAML 1.2.2, sections 5.3, 6.6 and 7.3.3).
 use Rattle.std.specs.Prelude.{ℕ, ◌+◌, Bool, false, ◌==◌, ◌&&◌, ◌||◌, List, [], ◌∷◌, Option, Some, None, if◌then◌else◌}
-use Rattle.pl_line.specs.Rows.{is_blank}
-
-abbrev pub begins_with : ℕ → List ℕ → Bool
-begins_with c [] = false
-begins_with c (first ∷ rest) = first == c
+use Rattle.pl_reading.specs.Bytes.{is_blank}
 
 -- an indicator is one before a blank or the line's end
 abbrev pub ends_word : Bool → List ℕ → Bool

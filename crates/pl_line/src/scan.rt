@@ -1,6 +1,7 @@
 ghost use Rattle.std.specs.Prelude.{◌≡◌, ◌≤◌, ◌==◌, false, not, length, take, drop, None, encode_utf8_all};
 ghost use Rattle.std.specs.List.{position_or_len, last_or};
 ghost use Rattle.pl_line.specs.Characters.{all_of};
+ghost use Rattle.pl_reading.specs.Bytes as bytes;
 ghost use Rattle.pl_line.specs.Rows as rows;
 ghost use Rattle.pl_line.specs.Scanning as spec;
 
@@ -8,7 +9,7 @@ use crate::characters::Characters;
 
 /// Whether a character is a space or a tab.
 pub fn is_blank(character: char) -> bool
-    ensures { result ≡ rows.is_blank character }
+    ensures { result ≡ bytes.is_blank character }
 {
     character == ' ' || character == '\t'
 }
@@ -35,7 +36,7 @@ pub fn spaces_len(text: Characters) -> usize
 
 /// How many blanks a text begins with.
 pub fn blanks_len(text: Characters) -> usize
-    ensures value { result ≡ position_or_len (λ c. not (rows.is_blank c)) (all_of text.entry) }
+    ensures value { result ≡ position_or_len (λ c. not (bytes.is_blank c)) (all_of text.entry) }
     ensures within { result ≤ length (all_of text.entry) }
 {
     let mut rest = text;
@@ -51,7 +52,7 @@ pub fn blanks_len(text: Characters) -> usize
 
 /// Whether a text begins with this character.
 pub fn begins_with(character: char, text: Characters) -> bool
-    ensures { result ≡ spec.begins_with character (all_of text.entry) }
+    ensures { result ≡ bytes.begins_with character (all_of text.entry) }
 {
     match text.first() {
         Some(first) => first == character,
@@ -62,7 +63,7 @@ pub fn begins_with(character: char, text: Characters) -> bool
 /// Whether this character stands behind so many of a text.
 pub fn stands_at(character: char, len: usize, text: Characters) -> bool
     requires { len ≤ length (all_of text) }
-    ensures { result ≡ spec.begins_with character (drop len (all_of text.entry)) }
+    ensures { result ≡ bytes.begins_with character (drop len (all_of text.entry)) }
 {
     len < text.len() && begins_with(character, text.behind(len))
 }

@@ -13,7 +13,7 @@ use Rattle.pl_base.specs.declared.node.NodeBody.TheVariants.{Map}
 use Rattle.pl_base.specs.declared.node.NodePair.{NodePair}
 use Rattle.pl_line.specs.Rows.{Row, size}
 use Rattle.pl_line.specs.Left.{behind}
-use Rattle.pl_line.specs.Reading.{◌>>=◌}
+use Rattle.pl_reading.specs.Steps.{◌>>=◌}
 use Rattle.pl_line.specs.Scanning.{ends_word}
 use Rattle.pl_line.specs.Trees.{node_at, pair_of, is_doubled}
 use Rattle.pl_line.specs.Quoted as reading

@@ -4,7 +4,8 @@ use Rattle.std.specs.List.{position_or_len}
 use Rattle.std.proofs.lemmas.Bool.{ne_eqb, and_right}
 use Rattle.pl_base.specs.declared.place.FileKey.{FileKey}
 use Rattle.pl_base.specs.declared.node.NodeBody.TheVariants.{Seq, Map}
-use Rattle.pl_line.specs.Rows.{Row, row_at, is_blank, size}
+use Rattle.pl_line.specs.Rows.{Row, row_at, size}
+use Rattle.pl_reading.specs.Bytes.{is_blank}
 use Rattle.pl_line.specs.Left.{behind, is_done, spaces_only}
 use Rattle.pl_line.specs.Trees.{node_at}
 use Rattle.pl_line.specs.Flow as flows

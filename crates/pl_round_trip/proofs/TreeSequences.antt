@@ -10,7 +10,7 @@ use Rattle.pl_base.specs.declared.node.Node.{Node}
 use Rattle.pl_base.specs.declared.node.NodeBody.TheVariants.{Seq}
 use Rattle.pl_line.specs.Rows.{Row, size}
 use Rattle.pl_line.specs.Left.{behind}
-use Rattle.pl_line.specs.Reading.{◌>>=◌}
+use Rattle.pl_reading.specs.Steps.{◌>>=◌}
 use Rattle.pl_line.specs.Trees.{node_at}
 use Rattle.pl_yaml.specs.Heads.{head_at}
 use Rattle.pl_yaml.specs.Content.{content, lead}

@@ -4,9 +4,7 @@ use Rattle.std.specs.Prelude.{◌&&◌, ◌||◌}
 use Rattle.std.specs.List.{prefix_len, list_all}
 use Rattle.std.specs.Char.{is_ascii_alphabetic, is_ascii_alphanumeric}
 use Rattle.std.specs.Cmp.Lexicographic.{pointwise}
-
-abbrev pub is_blank : ℕ → Bool
-is_blank byte = (byte == 32) || (byte == 9)
+use Rattle.pl_reading.specs.Bytes.{is_blank}
 
 abbrev pub is_in_word : ℕ → Bool
 is_in_word byte = not (is_blank byte)

@@ -1,6 +1,7 @@
 ghost use Rattle.std.specs.Prelude.{◌≡◌, ◌≤◌, length, take, drop};
 ghost use Rattle.std.specs.List.{prefix_len, list_all};
-ghost use Rattle.pl_template.specs.Words.{is_blank, is_in_word, unblanked, first_word, behind_word};
+ghost use Rattle.pl_template.specs.Words.{is_in_word, unblanked, first_word, behind_word};
+ghost use Rattle.pl_reading.specs.Bytes.{is_blank};
 ghost use Rattle.pl_template.specs.Words.{is_name, begins_name, goes_on_name};
 
 /// Whether a byte is a space or a tab.

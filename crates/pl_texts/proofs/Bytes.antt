@@ -5,7 +5,8 @@ use Rattle.std.specs.Char.{is_ascii_digit}
 use Rattle.std.proofs.lemmas.List.Sums.{prefix_len_passes, prefix_len_stops, prefix_len-le-length}
 use Rattle.std.proofs.lemmas.Bool.{false≢true, cases_lt}
 use Rattle.std.proofs.lemmas.Bool.Decides.{nat_tests}
-use Rattle.pl_texts.specs.Formatting.{begins_with, is_plain}
+use Rattle.pl_texts.specs.Formatting.{is_plain}
+use Rattle.pl_reading.specs.Bytes.{begins_with}
 use Rattle.std.proofs.lemmas.Str.{IsCharBoundary-end, IsCharBoundary-before_ascii, IsCharBoundary-start, IsCharBoundary-after_ascii}
 
 pub boundary_behind_ascii : (bytes : List ℕ) (count : ℕ) → IsUtf8 bytes → count ≤ length bytes → (0 < count → get_or bytes (count - 1) 0 < 128) → IsCharBoundary bytes count

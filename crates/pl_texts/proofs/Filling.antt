@@ -6,7 +6,8 @@ use Rattle.std.specs.Char.{is_ascii_digit}
 use Rattle.std.proofs.lemmas.List.{drop-drop}
 use Rattle.std.proofs.lemmas.List.Folds.{length-prefix_len}
 use Rattle.pl_texts.specs.Bound.{bounded}
-use Rattle.pl_texts.specs.Formatting.{begins_with, is_brace, is_plain, braced, hole, prefixed, followed, filled_behind, filled, cut_off, continued, answered, digits_of, argument_of}
+use Rattle.pl_texts.specs.Formatting.{is_brace, is_plain, braced, hole, prefixed, followed, filled_behind, filled, cut_off, continued, answered, argument_of}
+use Rattle.pl_reading.specs.Bytes.{begins_with, digits_of}
 use Rattle.pl_texts.proofs.Bytes.{begins_with_is}
 use Rattle.pl_texts.proofs.Bounds.{within_bound}
 

@@ -5,6 +5,7 @@ use Rattle.std.specs.Char.{is_ascii_digit}
 use Rattle.pl_texts.specs.declared.fault.TextFault.{TextFault}
 use Rattle.pl_texts.specs.declared.fault.TextFault.TheVariants.{Index}
 use Rattle.pl_texts.specs.Bound.{bounded}
+use Rattle.pl_reading.specs.Bytes.{begins_with, digits_of, number_of}
 
 -- the digits of a number without a leading zero
 abbrev pub is_plain_number : List ℕ → Bool
@@ -12,21 +13,9 @@ is_plain_number [] = false
 is_plain_number (digit ∷ []) = true
 is_plain_number (digit ∷ next ∷ digits) = not (digit == 48)
 
--- the number that decimal digits write
-abbrev pub number_of : List ℕ → ℕ
-number_of digits = fold (λ number digit. number * 10 + (digit - 48)) 0 digits
-
 -- the argument of that number, counted from 0
 abbrev pub argument_of : List (List ℕ) → List ℕ → Option (List ℕ)
 argument_of arguments digits = if is_plain_number digits then slice_get arguments (number_of digits) else None
-
-abbrev pub begins_with : ℕ → List ℕ → Bool
-begins_with byte [] = false
-begins_with byte (first ∷ bytes) = first == byte
-
--- the digits that the bytes begin with
-abbrev pub digits_of : List ℕ → List ℕ
-digits_of bytes = take_while is_ascii_digit bytes
 
 -- `{` is 123 and `}` is 125
 abbrev pub is_brace : ℕ → Bool

@@ -1,7 +1,8 @@
 ghost use Rattle.std.specs.Prelude.{◌≡◌, ◌<◌, [], length, IsSome, IfSome, is_some};
 ghost use Rattle.std.specs.Option.{option_copied, option_map};
 ghost use Rattle.pl_texts.specs.Bound.{Gives};
-ghost use Rattle.pl_texts.specs.Formatting.{formatted, filled, continued, cut_off, braced, hole, argument_of, digits_of, begins_with};
+ghost use Rattle.pl_texts.specs.Formatting.{formatted, filled, continued, cut_off, braced, hole, argument_of};
+ghost use Rattle.pl_reading.specs.Bytes.{digits_of, begins_with};
 
 use crate::bound::push_bounded;
 use crate::fault::TextFault;

@@ -1,7 +1,8 @@
 ghost use Rattle.std.specs.Prelude.{◌≡◌, ◌+◌, ◌-◌, ◌*◌, ◌^◌, ◌<◌, ◌≤◌, true, min, length, take, drop, slice_index};
 ghost use Rattle.std.specs.List.{prefix_len};
 ghost use Rattle.std.specs.Char.{is_ascii_digit};
-ghost use Rattle.pl_texts.specs.Formatting.{begins_with, digits_of, number_of, is_plain_number, is_plain};
+ghost use Rattle.pl_texts.specs.Formatting.{is_plain_number, is_plain};
+ghost use Rattle.pl_reading.specs.Bytes.{begins_with, digits_of, number_of};
 
 /// The text itself.
 pub fn whole(text: &str) -> &str

@@ -6,10 +6,11 @@ use Rattle.pl_base.specs.declared.node.NodeBody.TheVariants.{Scalar}
 use Rattle.pl_line.specs.declared.code.YamlCode.TheVariants as codes_of
 use Rattle.pl_line.specs.declared.line_fault.Fault.{Fault}
 use Rattle.pl_line.specs.Characters.{all_of}
-use Rattle.pl_line.specs.Rows.{Row, is_blank}
-use Rattle.pl_line.specs.Reading.{◌>>=◌, fault_at}
+use Rattle.pl_line.specs.Rows.{Row}
+use Rattle.pl_reading.specs.Bytes.{is_blank, begins_with}
+use Rattle.pl_line.specs.Reading.{fault_at}
+use Rattle.pl_reading.specs.Steps.{◌>>=◌}
 use Rattle.pl_line.specs.Left.{line_end, is_bare}
-use Rattle.pl_line.specs.Scanning.{begins_with}
 use Rattle.pl_line.specs.Trees.{node_at}
 use Rattle.pl_yaml.specs.declared.header.Header.{Header}
 use Rattle.pl_yaml.specs.declared.header.Chomping.{Chomping}

@@ -3,9 +3,11 @@ use Rattle.std.specs.Prelude.{ℕ, Bool, false, List, [], ◌∷◌, length, dro
 use Rattle.pl_line.specs.declared.code.YamlCode.TheVariants as codes_of
 use Rattle.pl_line.specs.declared.line_fault.Fault.{Fault}
 use Rattle.pl_line.specs.Rows.{Row}
-use Rattle.pl_line.specs.Reading.{◌>>=◌, fault_at}
+use Rattle.pl_line.specs.Reading.{fault_at}
+use Rattle.pl_reading.specs.Steps.{◌>>=◌}
 use Rattle.pl_line.specs.Left.{behind, line_end, is_empty}
-use Rattle.pl_line.specs.Scanning.{begins_with, ends_word}
+use Rattle.pl_line.specs.Scanning.{ends_word}
+use Rattle.pl_reading.specs.Bytes.{begins_with}
 use Rattle.pl_yaml.specs.Heads.{is_marker, is_start}
 
 -- A line with content that is read next has no tab before its content, and is no marker of a document.

@@ -4,7 +4,8 @@ use Rattle.std.specs.List.{starts_with}
 use Rattle.pl_line.specs.declared.code.YamlCode.{YamlCode}
 use Rattle.pl_line.specs.declared.code.YamlCode.TheVariants as codes_of
 use Rattle.pl_line.specs.Rows.{Row}
-use Rattle.pl_line.specs.Scanning.{begins_with, ends_word, plain_len, is_stray}
+use Rattle.pl_line.specs.Scanning.{ends_word, plain_len, is_stray}
+use Rattle.pl_reading.specs.Bytes.{begins_with}
 use Rattle.pl_line.specs.Left.{behind, is_empty}
 use Rattle.pl_yaml.specs.declared.head.Head.{Head}
 use Rattle.pl_yaml.specs.declared.head.Head.TheVariants as heads

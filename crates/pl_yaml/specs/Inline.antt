@@ -6,7 +6,8 @@ use Rattle.pl_base.specs.declared.node.NodeBody.TheVariants.{Scalar}
 use Rattle.pl_line.specs.declared.code.YamlCode.TheVariants as codes_of
 use Rattle.pl_line.specs.declared.line_fault.Fault.{Fault}
 use Rattle.pl_line.specs.Rows.{Row}
-use Rattle.pl_line.specs.Reading.{◌>>=◌, fault_at, fault_behind}
+use Rattle.pl_line.specs.Reading.{fault_at, fault_behind}
+use Rattle.pl_reading.specs.Steps.{◌>>=◌}
 use Rattle.pl_line.specs.Trees.{node_at}
 use Rattle.pl_line.specs.Quoted.{quoted}
 use Rattle.pl_line.specs.Flow.{flow}

@@ -4,9 +4,11 @@ use Rattle.pl_base.specs.declared.place.FileKey.{FileKey}
 use Rattle.pl_line.specs.declared.code.YamlCode.TheVariants as codes_of
 use Rattle.pl_line.specs.declared.line_fault.Fault.{Fault}
 use Rattle.pl_line.specs.Rows.{Row, row}
-use Rattle.pl_line.specs.Reading.{◌>>=◌, fault_at, fault_behind}
+use Rattle.pl_line.specs.Reading.{fault_at, fault_behind}
+use Rattle.pl_reading.specs.Steps.{◌>>=◌}
 use Rattle.pl_line.specs.Left.{behind}
-use Rattle.pl_line.specs.Scanning.{begins_with, ends_word}
+use Rattle.pl_line.specs.Scanning.{ends_word}
+use Rattle.pl_reading.specs.Bytes.{begins_with}
 use Rattle.pl_line.specs.Trees.{plain}
 use Rattle.pl_line.specs.Quoted.{quoted}
 use Rattle.pl_line.specs.Flow.{flow}

@@ -8,9 +8,10 @@ use Rattle.pl_base.specs.Places.{place_at}
 use Rattle.pl_line.specs.declared.code.YamlCode.TheVariants as codes_of
 use Rattle.pl_line.specs.declared.line_fault.Fault.{Fault}
 use Rattle.pl_line.specs.Rows.{Row, size}
-use Rattle.pl_line.specs.Reading.{◌>>=◌, fault_at}
+use Rattle.pl_line.specs.Reading.{fault_at}
+use Rattle.pl_reading.specs.Steps.{◌>>=◌}
 use Rattle.pl_line.specs.Left.{behind, spaces_only, is_done, line_end}
-use Rattle.pl_line.specs.Scanning.{begins_with}
+use Rattle.pl_reading.specs.Bytes.{begins_with}
 use Rattle.pl_line.specs.Trees.{node_at, is_doubled, pair_of}
 use Rattle.pl_line.specs.Quoted.{quoted}
 use Rattle.pl_line.specs.Flow.{flow}

@@ -6,9 +6,11 @@ use Rattle.pl_base.specs.declared.node.NodeBody.TheVariants.{Scalar}
 use Rattle.pl_line.specs.declared.code.YamlCode.TheVariants as codes_of
 use Rattle.pl_line.specs.declared.line_fault.Fault.{Fault}
 use Rattle.pl_line.specs.Rows.{Row}
-use Rattle.pl_line.specs.Reading.{◌>>=◌, fault_behind}
+use Rattle.pl_line.specs.Reading.{fault_behind}
+use Rattle.pl_reading.specs.Steps.{◌>>=◌}
 use Rattle.pl_line.specs.Left.{line_end, is_bare, is_comment}
-use Rattle.pl_line.specs.Scanning.{content_len, begins_with, plain_len}
+use Rattle.pl_line.specs.Scanning.{content_len, plain_len}
+use Rattle.pl_reading.specs.Bytes.{begins_with}
 use Rattle.pl_line.specs.Trees.{node_at}
 use Rattle.pl_yaml.specs.Reading.{Read}
 use Rattle.pl_yaml.specs.Content.{stands}

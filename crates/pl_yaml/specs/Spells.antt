@@ -12,7 +12,8 @@ use Rattle.pl_yaml.specs.declared.fault.YamlFault.TheVariants as faults
 use Rattle.pl_line.specs.declared.line_fault.Fault.{Fault}
 use Rattle.pl_yaml.specs.declared.slot.Slot.{Slot}
 use Rattle.pl_line.specs.Rows.{Row, rows_of}
-use Rattle.pl_line.specs.Reading.{◌>>=◌, fault_at}
+use Rattle.pl_line.specs.Reading.{fault_at}
+use Rattle.pl_reading.specs.Steps.{◌>>=◌}
 use Rattle.pl_yaml.specs.Content.{content, lead}
 use Rattle.pl_yaml.specs.Nodes.{node}
 

@@ -7,7 +7,7 @@ use Rattle.std.proofs.lemmas.Bool.{cases_Bool}
 use Rattle.std.proofs.lemmas.Bool.Decides.{nat_tests}
 use Rattle.std.proofs.lemmas.Str.{encode_ascii}
 use Rattle.std.proofs.lemmas.List.{take_all, take-take, length-take}
-use Rattle.pl_line.specs.Rows.{is_blank}
+use Rattle.pl_reading.specs.Bytes.{is_blank}
 use Rattle.pl_line.specs.Scanning.{content_len, ends_with_blank}
 
 -- the last item stands at the last place

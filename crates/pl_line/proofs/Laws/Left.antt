@@ -2,8 +2,8 @@
 use Rattle.std.proofs.Common.{◌≡◌, ℕ, ◌+◌, false, ◌==◌, ◌&&◌, ◌||◌, not, cond, [], ◌∷◌, length, drop, sym, ap, ◌∙◌, arith}
 use Rattle.std.specs.List.{position_or_len}
 use Rattle.std.proofs.lemmas.Bool.Decides.{nat_tests}
-use Rattle.pl_line.specs.Rows.{Row, is_blank}
-use Rattle.pl_line.specs.Scanning.{begins_with}
+use Rattle.pl_line.specs.Rows.{Row}
+use Rattle.pl_reading.specs.Bytes.{is_blank, begins_with}
 use Rattle.pl_line.specs.Left.{behind, is_bare, is_comment, is_empty}
 
 module _ (row : Row) (c : ℕ) (first : row.text ≡ c ∷ drop 1 row.text) (other : is_blank c ≡ false) where

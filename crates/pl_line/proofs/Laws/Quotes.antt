@@ -9,7 +9,7 @@ use Rattle.std.specs.Char.{digit_value}
 use Rattle.std.proofs.lemmas.Bool.Decides.{nat_tests}
 use Rattle.pl_line.specs.declared.piece.Piece.TheVariants as pieces
 use Rattle.pl_line.specs.declared.piece.Style.TheVariants as styles
-use Rattle.pl_line.specs.Scanning.{begins_with}
+use Rattle.pl_reading.specs.Bytes.{begins_with}
 use Rattle.pl_line.specs.Quoted.{is_special, single, double, escape, piece, next_piece, pieces_of, hex_value}
 
 not_quote : (c : ℕ) → is_special c ≡ false → (c == 39) ≡ false

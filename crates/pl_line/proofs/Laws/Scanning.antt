@@ -3,7 +3,7 @@ use Rattle.std.proofs.Common.{◌≡◌, ℕ, zero, suc, ◌+◌, ◌≤◌, Boo
 use Rattle.std.specs.Prelude.{◌==◌}
 use Rattle.std.specs.List.{position_or_len}
 use Rattle.std.proofs.lemmas.Bool.Decides.{nat_tests}
-use Rattle.pl_line.specs.Rows.{is_blank}
+use Rattle.pl_reading.specs.Bytes.{is_blank}
 use Rattle.pl_line.specs.Scanning.{content_len}
 
 pub position_or_len_le : {X : Type 0} (p : X → Bool) (xs : List X) → position_or_len p xs ≤ length xs

@@ -7,7 +7,7 @@ use Rattle.pl_base.specs.declared.place.FileKey.{FileKey}
 use Rattle.pl_base.specs.declared.node.Node.{Node}
 use Rattle.pl_base.specs.declared.node.NodeBody.TheVariants.{Scalar}
 use Rattle.pl_line.specs.Rows.{Row}
-use Rattle.pl_line.specs.Reading.{◌>>=◌}
+use Rattle.pl_reading.specs.Steps.{◌>>=◌}
 use Rattle.pl_line.specs.Left.{is_bare, is_comment, line_end}
 use Rattle.pl_line.specs.Trees.{node_at}
 use Rattle.pl_yaml.specs.Reading.{Read}

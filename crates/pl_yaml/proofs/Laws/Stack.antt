@@ -8,7 +8,8 @@ use Rattle.pl_line.specs.declared.line_fault.Fault.{Fault}
 use Rattle.pl_line.specs.declared.line_fault.ReadFault.{ReadFault}
 use Rattle.pl_line.specs.declared.line_fault.ReadFault.TheVariants as faults
 use Rattle.pl_line.specs.Rows.{Row, size}
-use Rattle.pl_line.specs.Reading.{◌>>=◌, Fails}
+use Rattle.pl_line.specs.Reading.{Fails}
+use Rattle.pl_reading.specs.Steps.{◌>>=◌}
 use Rattle.pl_yaml.specs.declared.stack.Open.{Open}
 use Rattle.pl_yaml.specs.Reading.{Read}
 use Rattle.pl_yaml.specs.Stack.{Resumes, in_open, into}

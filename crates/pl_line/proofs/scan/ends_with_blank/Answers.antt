@@ -1,6 +1,6 @@
 use Rattle.std.proofs.Common.{None, ap, sym, ◌∙◌}
 use Rattle.std.specs.List.{last_or}
-use Rattle.pl_line.specs.Rows.{is_blank}
+use Rattle.pl_reading.specs.Bytes.{is_blank}
 use Rattle.pl_line.specs.Scanning.{ends_with_blank}
 use Rattle.pl_line.proofs.Laws.Ends.{last_or-slice_get}
 use Rattle.pl_line.proofs.scan.ends_with_blank.Goals as goal

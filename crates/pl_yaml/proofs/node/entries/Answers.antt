@@ -2,7 +2,7 @@ use Rattle.std.proofs.Common.{◌≡◌, ◌+◌, ◌-◌, ◌<◌, ◌≤◌, O
 use Rattle.std.specs.Prelude.{reverse}
 use Rattle.std.proofs.lemmas.Result.{err_from_is_err_and}
 use Rattle.pl_line.specs.Rows.{size}
-use Rattle.pl_line.specs.Reading.{◌>>=◌}
+use Rattle.pl_reading.specs.Steps.{◌>>=◌}
 use Rattle.pl_yaml.specs.Nodes.{node}
 use Rattle.pl_yaml.specs.Stack.{in_open, into, made}
 use Rattle.pl_yaml.proofs.Laws.Stack.{resumes_alone, resumes_fails, entry_fails, ends, goes_on, enters, leaves}
