@@ -1,5 +1,5 @@
 -- What is read is spelled so by the rules of the grammar.
-use Rattle.std.proofs.Common.{◌≡◌, ◌≢◌, ℕ, zero, suc, ◌+◌, ◌<◌, ◌≤◌, ◌⊎◌, inl, inr, Bool, true, false, codes, cond, nat_eq, nat_le, nat_lt, ◌&&◌, ◌||◌, ◌==◌, Option, Some, None, Result, Ok, List, [], ◌∷◌, ◌++◌, length, drop, take, map, ℤ, refl, ap, sym, subst, ◌∙◌, append_assoc, rules, arith}
+use Rattle.std.proofs.Common.{◌≡◌, ◌≢◌, ℕ, zero, suc, ◌+◌, ◌<◌, ◌≤◌, ◌⊎◌, inl, inr, Bool, true, false, codes, cond, nat_eq, nat_le, nat_lt, ◌&&◌, ◌||◌, ◌==◌, Option, Some, None, Result, Ok, Err, List, [], ◌∷◌, ◌++◌, length, drop, take, map, ℤ, refl, ap, sym, subst, ◌∙◌, append_assoc, rules, arith}
 use Rattle.std.specs.List.{prefix_len, join_with_byte, concat}
 use Rattle.std.specs.Char.{is_ascii_digit}
 use Rattle.std.specs.Cmp.Lexicographic.{pointwise}
@@ -13,13 +13,13 @@ use Rattle.pl_expr.specs.declared.expr.Expr.{Expr, the_lemmas}
 use Rattle.pl_expr.specs.declared.expr.Expr.TheVariants.{Lit, Root, Index, Project, Call}
 use Rattle.pl_expr.specs.declared.expr.Function.{Function}
 use Rattle.pl_expr.specs.declared.expr.Mode.{Mode}
-use Rattle.pl_expr.specs.declared.fault.ExprCode.TheVariants.{Fraction, BadChar, BadCount, TooDeep, Trailing}
+use Rattle.pl_expr.specs.declared.fault.ExprCode.TheVariants.{Fraction, BadChar, BadCount, Trailing}
 use Rattle.pl_expr.specs.declared.scan.Front.{Front}
 use Rattle.pl_expr.specs.declared.scan.Front.TheVariants as front
 use Rattle.pl_expr.specs.Numerals.{is_blank, skip, digits_of, number_of, signed, goes_on, more_runs, behind_more, runs_of, behind_runs, segments_of}
 use Rattle.pl_expr.specs.Trees.{depth_of, is_projection, quoted, dotted}
 use Rattle.pl_expr.specs.Functions.{most_of, takes, may_follow, named}
-use Rattle.pl_expr.specs.Grammar.{Fault, Read, ◌>>=◌, stop, begins_with, begins_name, is_name_byte, is_word, word_of, behind_word, unquoted, with_byte, string_read, number_read, version_read, unsigned_at, signed_at, number_at, word_tree, behind_argument, arguments_at, call_at, called, word_at, front_of, primary_by, primary_at, names_at, index_at, member_at, tail_at, begins_tail, tails_at, expression_at, text_at, text_whole, parses}
+use Rattle.pl_expr.specs.Grammar.{Fault, Read, ◌>>=◌, stop, begins_with, begins_name, is_name_byte, is_word, word_of, behind_word, unquoted, with_byte, string_read, number_read, version_read, unsigned_at, signed_at, number_at, word_tree, behind_argument, arguments_at, call_at, called, word_at, front_of, primary_by, primary_at, names_at, index_at, member_at, tail_at, begins_tail, deep_fault, tails_at, expression_at, text_at, text_whole, parses}
 use Rattle.pl_expr.specs.Given.{IsName, AreNames}
 use Rattle.pl_expr.specs.Spelling.{AreBlanks, AreDigits, AreRuns, IsApart, IsLiteralText, IsText, IsExpression, IsPrimary, AreArguments}
 use Rattle.pl_expr.specs.Spelling as rule
@@ -77,7 +77,7 @@ doubled byte bytes text rest others quote e =
     let parts = with_byte_some 39 (unquoted bytes) text rest (sym (unquoted_double (39 ∷ bytes) refl) ∙ (ap (λ b. unquoted (b ∷ 39 ∷ bytes)) (sym (is_39 byte quote)) ∙ e)) in
     ap (λ b. b ∷ 39 ∷ bytes) (is_39 byte quote) ∙ (ap (λ xs. 39 ∷ 39 ∷ xs) (others parts.0 parts.1.0) ∙ sym (ap (λ xs. quoted xs ++ 39 ∷ rest) parts.1.1))
 
-quoted_text : (bytes text rest : List ℕ) → unquoted bytes ≡ Some (text, rest) → bytes ≡ quoted text ++ 39 ∷ rest
+pub quoted_text : (bytes text rest : List ℕ) → unquoted bytes ≡ Some (text, rest) → bytes ≡ quoted text ++ 39 ∷ rest
 unfolding unquoted
 quoted_text [] text rest e = absurd (cc (e))
 quoted_text (byte ∷ []) text rest e = by (byte == 39) refl e
@@ -203,7 +203,7 @@ unfolding blanks_of
 blanks_cut bytes = (digits_cut is_blank bytes, all_front is_blank bytes)
 
 -- what the names of a projection are, and what they take
-pub NamesTook : List (List ℕ) → List ℕ → List (List ℕ) × List ℕ → Type 0
+unfoldable pub NamesTook : List (List ℕ) → List ℕ → List (List ℕ) × List ℕ → Type 0
 NamesTook read bytes found = (members : List (List ℕ)) × ((found.0 ≡ read ++ members) × (AreNames members × (bytes ≡ dotted members ++ found.1)))
 
 pub names_took : (turns : ℕ) (read : List (List ℕ)) (bytes : List ℕ) → NamesTook read bytes (names_at turns read bytes)
@@ -237,7 +237,7 @@ names_ended (suc turns) read (byte ∷ bytes) room = by (names_ended turns (read
 
 -- ---- arguments
 
-behind_cut : (function : Function) (count : ℕ) (bytes : List ℕ) (more : Bool) (rest : List ℕ) → behind_argument function count bytes ≡ Ok (more, rest) → ((more ≡ true) × (bytes ≡ 44 ∷ rest)) ⊎ ((more ≡ false) × ((bytes ≡ 41 ∷ rest) × (takes function count ≡ true)))
+pub behind_cut : (function : Function) (count : ℕ) (bytes : List ℕ) (more : Bool) (rest : List ℕ) → behind_argument function count bytes ≡ Ok (more, rest) → ((more ≡ true) × (bytes ≡ 44 ∷ rest)) ⊎ ((more ≡ false) × ((bytes ≡ 41 ∷ rest) × (takes function count ≡ true)))
 unfolding behind_argument
 behind_cut function count bytes more rest e = by (chosen (begins_with 44 bytes) _ _ _ e)
   where
@@ -520,12 +520,12 @@ tails_took : (mode : Mode) (inner : List ℕ → Read Expr) → Spells mode inne
 unfolding tails_at TailTook TailsTook
 tails_took mode inner spells depth zero spelling tree bytes read is ended e = by (chosen (begins_tail (skip is_blank bytes)) _ _ _ e)
   where
-    by : (begins_tail (skip is_blank bytes) ≡ true) × (stop {A = Expr × List ℕ} TooDeep (skip is_blank bytes) ≡ Ok read) ⊎ (begins_tail (skip is_blank bytes) ≡ false) × (done tree (skip is_blank bytes) ≡ Ok read) → TailsTook mode spelling bytes read
+    by : (begins_tail (skip is_blank bytes) ≡ true) × (Err (deep_fault tree bytes) ≡ Ok read) ⊎ (begins_tail (skip is_blank bytes) ≡ false) × (done tree (skip is_blank bytes) ≡ Ok read) → TailsTook mode spelling bytes read
     by (inl parts) = absurd (cc (parts.1))
     by (inr parts) = tails_ended mode spelling bytes tree read is parts.1
 tails_took mode inner spells depth (suc turns) spelling tree bytes read is ended e = by (λ spelling next given ends more. tails_took mode inner spells depth turns spelling next.0 next.1 read given ends more) (chosen (begins_tail (skip is_blank bytes)) _ _ _ e)
   where
-    deeper : ((spelling : List ℕ) (next : Expr × List ℕ) → IsExpression mode spelling next.0 → Ended next.0 next.1 → tails_at inner depth turns next.0 next.1 ≡ Ok read → TailsTook mode spelling next.1 read) → begins_tail (skip is_blank bytes) ≡ true → (nat_le depth (depth_of tree) ≡ true) × (stop {A = Expr × List ℕ} TooDeep (skip is_blank bytes) ≡ Ok read) ⊎ (nat_le depth (depth_of tree) ≡ false) × ((tail_at inner tree (skip is_blank bytes) >>= λ next. tails_at inner depth turns next.0 next.1) ≡ Ok read) → TailsTook mode spelling bytes read
+    deeper : ((spelling : List ℕ) (next : Expr × List ℕ) → IsExpression mode spelling next.0 → Ended next.0 next.1 → tails_at inner depth turns next.0 next.1 ≡ Ok read → TailsTook mode spelling next.1 read) → begins_tail (skip is_blank bytes) ≡ true → (nat_le depth (depth_of tree) ≡ true) × (Err (deep_fault tree bytes) ≡ Ok read) ⊎ (nat_le depth (depth_of tree) ≡ false) × ((tail_at inner tree (skip is_blank bytes) >>= λ next. tails_at inner depth turns next.0 next.1) ≡ Ok read) → TailsTook mode spelling bytes read
     deeper others begins (inl parts) = absurd (cc (parts.1))
     deeper others begins (inr parts) =
         let one = bind_ok (tail_at inner tree (skip is_blank bytes)) _ read parts.1 in
@@ -537,7 +537,7 @@ tails_took mode inner spells depth (suc turns) spelling tree bytes read is ended
         let P : List ℕ → Type 0 = λ xs. IsExpression mode xs read.0 in
         (front ++ found.0, (found.1.0, (cut, (found.1.1.1.0, subst P (append_assoc spelling front found.0) found.1.1.1.1))))
 
-    by : ((spelling : List ℕ) (next : Expr × List ℕ) → IsExpression mode spelling next.0 → Ended next.0 next.1 → tails_at inner depth turns next.0 next.1 ≡ Ok read → TailsTook mode spelling next.1 read) → (begins_tail (skip is_blank bytes) ≡ true) × (cond (nat_le depth (depth_of tree)) (stop {A = Expr × List ℕ} TooDeep (skip is_blank bytes)) (tail_at inner tree (skip is_blank bytes) >>= λ next. tails_at inner depth turns next.0 next.1) ≡ Ok read) ⊎ (begins_tail (skip is_blank bytes) ≡ false) × (done tree (skip is_blank bytes) ≡ Ok read) → TailsTook mode spelling bytes read
+    by : ((spelling : List ℕ) (next : Expr × List ℕ) → IsExpression mode spelling next.0 → Ended next.0 next.1 → tails_at inner depth turns next.0 next.1 ≡ Ok read → TailsTook mode spelling next.1 read) → (begins_tail (skip is_blank bytes) ≡ true) × (cond (nat_le depth (depth_of tree)) (Err (deep_fault tree bytes)) (tail_at inner tree (skip is_blank bytes) >>= λ next. tails_at inner depth turns next.0 next.1) ≡ Ok read) ⊎ (begins_tail (skip is_blank bytes) ≡ false) × (done tree (skip is_blank bytes) ≡ Ok read) → TailsTook mode spelling bytes read
     by others (inl parts) = deeper others parts.0 (chosen (nat_le depth (depth_of tree)) _ _ _ parts.1)
     by others (inr parts) = tails_ended mode spelling bytes tree read is parts.1
 
