@@ -1,5 +1,5 @@
 -- What is printed of a tree that the grammar gives is read as that tree.
-use Rattle.std.proofs.Common.{◌≡◌, ℕ, zero, suc, ◌+◌, ◌^◌, ◌<◌, ◌≤◌, max, Bool, true, false, ◌||◌, ◌==◌, nat_lt, nat_le, Option, Some, None, Ok, List, [], ◌∷◌, ◌++◌, length, drop, map, codes, decimal, pos, negsuc, refl, ap, sym, subst, ◌∙◌, append_assoc, rules, arith}
+use Rattle.std.proofs.Common.{◌≡◌, ℕ, zero, suc, ◌+◌, ◌^◌, ◌<◌, ◌≤◌, max, Bool, true, false, ◌||◌, ◌==◌, nat_lt, nat_le, ◌&&◌, Option, Some, None, Ok, List, [], ◌∷◌, ◌++◌, length, drop, map, codes, decimal, pos, negsuc, refl, ap, sym, subst, ◌∙◌, append_assoc, rules, arith}
 use Rattle.std.specs.List.{prefix_len, list_all, join_with_byte}
 use Rattle.std.specs.Char.{is_ascii_digit}
 use Rattle.std.proofs.lemmas.List.{append-nil, length-append}
@@ -22,7 +22,7 @@ use Rattle.pl_expr.specs.Trees.{depth_of, deepest, printed, literal, listed, dot
 use Rattle.pl_expr.specs.Functions.{name_of, least_of, most_of, stands_in, may_follow, at_most, takes, named, names}
 use Rattle.pl_expr.specs.Grammar.{Read, ◌>>=◌, begins_with, begins_name, is_name_byte, is_word, call_at, arguments_at, behind_argument, word_at, primary_by, primary_at, names_at, index_at, member_at, tail_at, begins_tail, tails_at, text_at, expression_at, inner_of, text_whole, parses}
 use Rattle.pl_expr.specs.Given.{IsName, AreNames, IsLiteral, AreGiven, IsGivenBy, IsGiven}
-use Rattle.pl_expr.proofs.Leaves.{Closed, at_end, at_index, at_bracket, at_paren, at_comma, at_star, closed_name, closed_word, take_front, skip_front, front_word, root_read, literal_read, decimal_digits}
+use Rattle.pl_expr.proofs.Leaves.{Closed, at_end, at_index, at_bracket, at_paren, at_comma, at_star, closed_name, closed_behind, take_front, skip_front, front_word, root_read, literal_read, decimal_digits}
 use Rattle.pl_expr.proofs.Reading.{Continues, continues_end, continues_step, names_stop, text_is}
 
 -- ---- a tree by its layer
@@ -196,11 +196,11 @@ named_name Condition functions.SucceededOrFailed stands = refl
 
 -- ---- the first byte of a printed tree
 
-pub starts : List ℕ → Bool
+unfoldable pub starts : List ℕ → Bool
 starts [] = false
 starts (byte ∷ bytes) = begins_name byte || (is_ascii_digit byte || ((byte == 45) || (byte == 39)))
 
-starts_append : (xs ys : List ℕ) → starts xs ≡ true → starts (xs ++ ys) ≡ true
+pub starts_append : (xs ys : List ℕ) → starts xs ≡ true → starts (xs ++ ys) ≡ true
 unfolding starts
 starts_append [] ys begins = absurd (false≢true begins)
 starts_append (x ∷ xs) ys begins = begins
@@ -209,7 +209,7 @@ not_blank : (byte : ℕ) → starts (byte ∷ []) ≡ true → is_blank byte ≡
 unfolding starts
 not_blank byte begins = grind (arith, nat_tests)
 
-starts_skip : (xs : List ℕ) → starts xs ≡ true → skip is_blank xs ≡ xs
+pub starts_skip : (xs : List ℕ) → starts xs ≡ true → skip is_blank xs ≡ xs
 unfolding starts
 starts_skip [] begins = refl
 starts_skip (x ∷ xs) begins = rw (not_blank x begins) refl
@@ -218,22 +218,22 @@ not_paren : (byte : ℕ) → starts (byte ∷ []) ≡ true → (byte == 41) ≡ 
 unfolding starts
 not_paren byte begins = grind (arith, nat_tests)
 
-starts_paren : (xs : List ℕ) → starts xs ≡ true → begins_with 41 xs ≡ false
+pub starts_paren : (xs : List ℕ) → starts xs ≡ true → begins_with 41 xs ≡ false
 unfolding starts
 starts_paren [] begins = refl
 starts_paren (x ∷ xs) begins = not_paren x begins
 
-starts_some : (xs : List ℕ) → starts xs ≡ true → 0 < length xs
+pub starts_some : (xs : List ℕ) → starts xs ≡ true → 0 < length xs
 unfolding starts
 starts_some [] begins = absurd (false≢true begins)
 starts_some (x ∷ xs) begins = omega arith
 
-starts_word : (name : List ℕ) → is_word name ≡ true → starts name ≡ true
+pub starts_word : (name : List ℕ) → is_word name ≡ true → starts name ≡ true
 unfolding starts
 starts_word [] named = absurd (false≢true named)
 starts_word (byte ∷ name) named = rw named refl
 
-starts_digits : (digits : List ℕ) → 0 < length digits → list_all is_ascii_digit digits ≡ true → starts digits ≡ true
+pub starts_digits : (digits : List ℕ) → 0 < length digits → list_all is_ascii_digit digits ≡ true → starts digits ≡ true
 unfolding starts
 starts_digits [] some all = absurd (omega arith)
 starts_digits (byte ∷ digits) some all =
@@ -294,14 +294,14 @@ depth_given mode (suc depth) tree given =
 
 -- ---- reading behind a printed tree
 
-front_read : Mode → ℕ → List ℕ → Read Expr
+unfoldable pub front_read : Mode → ℕ → List ℕ → Read Expr
 front_read mode depth bytes = primary_at mode (nat_lt 0 depth) (inner_of mode depth) bytes >>= λ first. tails_at (inner_of mode depth) depth depth first.0 first.1
 
 -- the printed tree is read, and its tails are read on from there
 Reads : Mode → ℕ → Expr → Type 0
 Reads mode depth tree = (rest : List ℕ) → Closed rest → Continues (inner_of mode depth) depth tree rest (front_read mode depth (printed tree ++ rest))
 
-room_test : (depth : ℕ) → 0 < depth → nat_lt 0 depth ≡ true
+pub room_test : (depth : ℕ) → 0 < depth → nat_lt 0 depth ≡ true
 room_test depth room = grind (arith, nat_tests)
 
 leaf_reads : (mode : Mode) (depth : ℕ) (tree : Expr) (text : List ℕ) → printed tree ≡ text → 0 < depth → ((rest : List ℕ) → Closed rest → primary_at mode true (inner_of mode depth) (text ++ rest) ≡ Ok (tree, rest)) → Reads mode depth tree
@@ -335,26 +335,26 @@ index_reads mode depth of at reads_of reads_at begins room rest closed =
     let P : List ℕ → Type 0 = λ bytes. Continues (inner_of mode (suc depth)) (suc depth) (Index of at) rest (front_read mode (suc depth) bytes) in
     subst P (sym text) step
 
-dotted_stops : (members : List (List ℕ)) (rest : List ℕ) → Closed rest → prefix_len is_name_byte (dotted members ++ rest) ≡ 0
-dotted_stops [] rest closed = closed_word rest closed
-dotted_stops (name ∷ members) rest closed = refl
+dotted_stops : (members : List (List ℕ)) (rest : List ℕ) → prefix_len is_name_byte rest ≡ 0 → prefix_len is_name_byte (dotted members ++ rest) ≡ 0
+dotted_stops [] rest ends = ends
+dotted_stops (name ∷ members) rest ends = refl
 
-names_read : (turns : ℕ) (read members : List (List ℕ)) (rest : List ℕ) → length members ≤ turns → AreNames members → Closed rest → names_at turns read (dotted members ++ rest) ≡ (read ++ members, rest)
+pub names_read : (turns : ℕ) (read members : List (List ℕ)) (rest : List ℕ) → length members ≤ turns → AreNames members → prefix_len is_name_byte rest ≡ 0 → (begins_with 46 rest && is_word (drop 1 rest)) ≡ false → names_at turns read (dotted members ++ rest) ≡ (read ++ members, rest)
 unfolding names_at
-names_read turns read [] rest room named closed = names_stop turns read rest (closed_name rest closed) ∙ ap (λ xs. (xs, rest)) (sym (append-nil read))
-names_read zero read (name ∷ members) rest room named closed = absurd (omega (arith, room))
-names_read (suc turns) read (name ∷ members) rest room named closed =
+names_read turns read [] rest room named ends stops = names_stop turns read rest stops ∙ ap (λ xs. (xs, rest)) (sym (append-nil read))
+names_read zero read (name ∷ members) rest room named ends stops = absurd (omega (arith, room))
+names_read (suc turns) read (name ∷ members) rest room named ends stops =
     let regroup : dotted (name ∷ members) ++ rest ≡ 46 ∷ name ++ (dotted members ++ rest) = append_assoc (46 ∷ name) (dotted members) rest in
-    let stops = dotted_stops members rest closed in
+    let end = dotted_stops members rest ends in
     let word : is_word (name ++ (dotted members ++ rest)) ≡ true = word_append name (dotted members ++ rest) named.0.0 in
-    let step : names_at (suc turns) read (46 ∷ name ++ (dotted members ++ rest)) ≡ names_at turns (read ++ name ∷ []) (dotted members ++ rest) = rw (word, take_front is_name_byte name (dotted members ++ rest) named.0.1 stops, skip_front is_name_byte name (dotted members ++ rest) named.0.1 stops) refl in
-    ap (names_at (suc turns) read) regroup ∙ (step ∙ (names_read turns (read ++ name ∷ []) members rest (omega (arith, room)) named.1 closed ∙ ap (λ xs. (xs, rest)) (append_assoc read (name ∷ []) members)))
+    let step : names_at (suc turns) read (46 ∷ name ++ (dotted members ++ rest)) ≡ names_at turns (read ++ name ∷ []) (dotted members ++ rest) = rw (word, take_front is_name_byte name (dotted members ++ rest) named.0.1 end, skip_front is_name_byte name (dotted members ++ rest) named.0.1 end) refl in
+    ap (names_at (suc turns) read) regroup ∙ (step ∙ (names_read turns (read ++ name ∷ []) members rest (omega (arith, room)) named.1 ends stops ∙ ap (λ xs. (xs, rest)) (append_assoc read (name ∷ []) members)))
   where
     word_append : (name rest : List ℕ) → is_word name ≡ true → is_word (name ++ rest) ≡ true
     word_append [] rest named = absurd (false≢true named)
     word_append (byte ∷ name) rest named = named
 
-length_dotted : (members : List (List ℕ)) → length members ≤ length (dotted members)
+pub length_dotted : (members : List (List ℕ)) → length members ≤ length (dotted members)
 length_dotted [] = omega arith
 length_dotted (name ∷ members) = let others = length_dotted members in omega (arith, others, length-append (46 ∷ name) (dotted members))
 
@@ -364,7 +364,7 @@ project_reads mode depth of members reads_of named room rest closed =
     let behind = 46 ∷ 42 ∷ (dotted members ++ rest) in
     let text : printed (Project of members) ++ rest ≡ printed of ++ behind = ap (λ xs. xs ++ rest) (printed_project of members) ∙ (append_assoc (printed of ++ codes ".*") (dotted members) rest ∙ append_assoc (printed of) (codes ".*") (dotted members ++ rest)) in
     let long : length members ≤ length (42 ∷ (dotted members ++ rest)) = omega (arith, length_dotted members, length-append (dotted members) rest) in
-    let read = names_read (length (42 ∷ (dotted members ++ rest))) [] members rest long named closed in
+    let read = names_read (length (42 ∷ (dotted members ++ rest))) [] members rest long named (closed_behind rest closed).0 (closed_name rest closed) in
     let tail : tail_at (inner_of mode (suc depth)) of behind ≡ Ok (Project of members, rest) = ap (λ found. Ok (Project of found.0, found.1)) read in
     let grown : depth_of of < depth_of (Project of members) = omega (arith, depth_project of members) in
     let step = continues_step (inner_of mode (suc depth)) (suc depth) of (Project of members) behind behind rest (front_read mode (suc depth) (printed of ++ behind)) (reads_of behind (at_star (dotted members ++ rest))) refl refl room tail grown in
@@ -378,11 +378,11 @@ AreRead : (List ℕ → Read Expr) → List Expr → Type 0
 AreRead inner [] = Unit {0}
 AreRead inner (tree ∷ trees) = ((bytes : List ℕ) → inner (printed tree ++ 44 ∷ bytes) ≡ Ok (tree, 44 ∷ bytes)) × ((bytes : List ℕ) → inner (printed tree ++ 41 ∷ bytes) ≡ Ok (tree, 41 ∷ bytes)) × AreRead inner trees
 
-follow_test : (most : Option ℕ) (count all : ℕ) → at_most most all ≡ true → count < all → may_follow most count ≡ true
+pub follow_test : (most : Option ℕ) (count all : ℕ) → at_most most all ≡ true → count < all → may_follow most count ≡ true
 follow_test None count all fits less = refl
 follow_test (Some most) count all fits less = grind (arith, nat_tests)
 
-takes_most : (function : Function) (all : ℕ) → takes function all ≡ true → at_most (most_of function) all ≡ true
+pub takes_most : (function : Function) (all : ℕ) → takes function all ≡ true → at_most (most_of function) all ≡ true
 takes_most function all fits = (and_parts (nat_le (least_of function) all) (at_most (most_of function) all) fits).1
 
 arguments_read : (inner : List ℕ → Read Expr) (function : Function) (turns : ℕ) (read : List Expr) (tree : Expr) (trees : List Expr) (bytes rest : List ℕ) → ((xs : List ℕ) → inner (32 ∷ xs) ≡ inner xs) → length (tree ∷ trees) ≤ turns → AreRead inner (tree ∷ trees) → takes function (length (read ++ tree ∷ trees)) ≡ true → inner bytes ≡ inner (listed (map printed (tree ∷ trees)) ++ 41 ∷ rest) → arguments_at inner function turns read bytes ≡ Ok (read ++ tree ∷ trees, rest)
@@ -457,9 +457,9 @@ call_reads mode depth IsPart reads begins function trees stands fits given =
 
 reads_layer : (mode : Mode) (bound depth : ℕ) → bound ≤ depth → ((tree : Expr) → IsGiven mode bound tree → (d : ℕ) → bound ≤ d → Reads mode d tree) → (x : Expr-F Expr) → IsGivenBy mode (IsGiven mode bound) x → Reads mode (suc depth) (roll-Expr x)
 reads_layer mode bound depth room parts (layer.Lit value) given =
-    subst (Reads mode (suc depth)) (sym (variants.rolls-Lit value)) (leaf_reads mode (suc depth) (Lit value) (literal value) (printed_lit value) (omega arith) (λ rest closed. literal_read mode (inner_of mode (suc depth)) value rest given closed))
+    subst (Reads mode (suc depth)) (sym (variants.rolls-Lit value)) (leaf_reads mode (suc depth) (Lit value) (literal value) (printed_lit value) (omega arith) (λ rest closed. literal_read mode (inner_of mode (suc depth)) value rest given (closed_behind rest closed)))
 reads_layer mode bound depth room parts (layer.Root name) given =
-    subst (Reads mode (suc depth)) (sym (variants.rolls-Root name)) (leaf_reads mode (suc depth) (Root name) name (printed_root name) (omega arith) (λ rest closed. root_read mode (inner_of mode (suc depth)) name rest given.0 closed ∙ ap (λ tree. Ok (tree, rest)) given.1))
+    subst (Reads mode (suc depth)) (sym (variants.rolls-Root name)) (leaf_reads mode (suc depth) (Root name) name (printed_root name) (omega arith) (λ rest closed. root_read mode (inner_of mode (suc depth)) name rest given.0 (closed_behind rest closed) ∙ ap (λ tree. Ok (tree, rest)) given.1))
 reads_layer mode bound depth room parts (layer.Index of at) given =
     subst (Reads mode (suc depth)) (sym (variants.rolls-Index of at)) (index_reads mode depth of at (parts of given.0 (suc depth) (omega arith)) (parts at given.1 depth room) (starts_printed mode bound at given.1) (omega (arith, depth_given mode bound of given.0)))
 reads_layer mode bound depth room parts (layer.Project of members) given =

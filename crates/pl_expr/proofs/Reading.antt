@@ -8,12 +8,12 @@ use Rattle.pl_expr.specs.declared.expr.Expr.{Expr}
 use Rattle.pl_expr.specs.declared.expr.Expr.TheVariants.{Lit}
 use Rattle.pl_expr.specs.declared.expr.Function.{Function}
 use Rattle.pl_expr.specs.declared.expr.Mode.{Mode}
-use Rattle.pl_expr.specs.declared.fault.ExprCode.TheVariants.{TooDeep, NumberRange, BadChar}
+use Rattle.pl_expr.specs.declared.fault.ExprCode.TheVariants.{NumberRange, BadChar}
 use Rattle.pl_expr.specs.declared.stop.Stop.{Stop}
 use Rattle.pl_expr.specs.declared.stop.Stop.TheVariants as stops
 use Rattle.pl_expr.specs.Numerals.{is_blank, skip, number_of, runs_of, behind_runs, segments_of}
 use Rattle.pl_expr.specs.Trees.{depth_of}
-use Rattle.pl_expr.specs.Grammar.{Fault, Read, ◌>>=◌, stop, begins_with, is_word, word_of, behind_word, unsigned_at, names_at, begins_tail, tail_at, tails_at, text_at, expression_at, inner_of, behind_argument, arguments_at}
+use Rattle.pl_expr.specs.Grammar.{Fault, Read, ◌>>=◌, stop, begins_with, is_word, word_of, behind_word, unsigned_at, names_at, begins_tail, tail_at, deep_fault, tails_at, text_at, expression_at, inner_of, behind_argument, arguments_at}
 use Rattle.pl_expr.specs.Parsing.{Stops}
 use Rattle.pl_expr.proofs.Bytes.{segments_of_capped}
 
@@ -70,7 +70,7 @@ unfolding tails_at
 tails_end inner depth zero tree rest ends = rw ends refl
 tails_end inner depth (suc turns) tree rest ends = rw ends refl
 
-tails_deep : (inner : List ℕ → Read Expr) (depth turns : ℕ) (tree : Expr) (rest : List ℕ) → begins_tail (skip is_blank rest) ≡ true → depth ≤ depth_of tree → tails_at inner depth turns tree rest ≡ stop TooDeep (skip is_blank rest)
+tails_deep : (inner : List ℕ → Read Expr) (depth turns : ℕ) (tree : Expr) (rest : List ℕ) → begins_tail (skip is_blank rest) ≡ true → depth ≤ depth_of tree → tails_at inner depth turns tree rest ≡ Err (deep_fault tree rest)
 unfolding tails_at
 tails_deep inner depth zero tree rest goes deep = rw goes refl
 tails_deep inner depth (suc turns) tree rest goes deep =
@@ -88,10 +88,10 @@ continues_end inner depth tree rest here whole reading here_is ends =
     let e : begins_tail (skip is_blank rest) ≡ false = ap begins_tail (sym here_is) ∙ ends in
     sym reading.1.1 ∙ (tails_end inner depth reading.0 tree rest e ∙ ap (λ xs. Ok (tree, xs)) (sym here_is))
 
-pub continues_deep : (inner : List ℕ → Read Expr) (depth : ℕ) (tree : Expr) (rest here : List ℕ) (whole : Read Expr) → Continues inner depth tree rest whole → here ≡ skip is_blank rest → begins_tail here ≡ true → depth ≤ depth_of tree → whole ≡ Err (TooDeep, length here)
+pub continues_deep : (inner : List ℕ → Read Expr) (depth : ℕ) (tree : Expr) (rest here : List ℕ) (whole : Read Expr) → Continues inner depth tree rest whole → here ≡ skip is_blank rest → begins_tail here ≡ true → depth ≤ depth_of tree → whole ≡ Err (deep_fault tree rest)
 continues_deep inner depth tree rest here whole reading here_is goes deep =
     let e : begins_tail (skip is_blank rest) ≡ true = ap begins_tail (sym here_is) ∙ goes in
-    sym reading.1.1 ∙ (tails_deep inner depth reading.0 tree rest e deep ∙ ap (λ xs. Err (TooDeep, length xs)) (sym here_is))
+    sym reading.1.1 ∙ tails_deep inner depth reading.0 tree rest e deep
 
 pub continues_goes : (inner : List ℕ → Read Expr) (depth : ℕ) (tree : Expr) (rest here : List ℕ) (whole : Read Expr) → Continues inner depth tree rest whole → here ≡ skip is_blank rest → begins_tail here ≡ true → depth_of tree < depth → (turns : ℕ) × ((depth ≤ suc turns + depth_of tree) × (whole ≡ (tail_at inner tree here >>= λ next. tails_at inner depth turns next.0 next.1)))
 continues_goes inner depth tree rest here whole (zero, reading) here_is goes room = absurd (omega (arith, reading.0))

@@ -22,7 +22,7 @@ use Rattle.pl_base.specs.Folding.{folded}
 use Rattle.pl_expr.specs.Numerals.{is_blank, skip, digits_of, number_of, signed, goes_on, more_runs, runs_of, behind_runs, is_segment, segments_of}
 use Rattle.pl_expr.specs.Trees.{depth_of, deepest}
 use Rattle.pl_expr.specs.Functions.{name_of, most_of, stands_in, takes, may_follow, named, names, all_functions}
-use Rattle.pl_expr.specs.Grammar.{Fault, Read, ◌>>=◌, stop, begins_with, begins_name, is_name_byte, is_word, word_of, behind_word, unquoted, string_read, number_read, version_read, unsigned_at, signed_at, number_at, word_tree, behind_argument, arguments_at, call_at, called, word_at, front_of, primary_by, primary_at, names_at, index_at, member_at, tail_at, begins_tail, tails_at, expression_at, text_at, text_whole, placed, parses}
+use Rattle.pl_expr.specs.Grammar.{Fault, Read, ◌>>=◌, stop, begins_with, begins_name, is_name_byte, is_word, word_of, behind_word, unquoted, string_read, number_read, version_read, unsigned_at, signed_at, number_at, word_tree, behind_argument, arguments_at, call_at, called, word_at, front_of, primary_by, primary_at, names_at, index_at, member_at, tail_at, begins_tail, deep_fault, tails_at, expression_at, text_at, text_whole, placed, parses}
 use Rattle.pl_expr.specs.Given.{IsName, AreNames, IsNumber, IsVersion, IsLiteral, AreGiven, IsGivenBy, IsGiven}
 use Rattle.pl_expr.proofs.Again.{layer_is, depth_index, depth_project, depth_call, depth_lit, depth_root}
 
@@ -51,7 +51,7 @@ same_first {A} {B} read x y xs ys first second =
 
 -- ---- a tree that is given is given at its own depth
 
-positive : (x : Expr-F Expr) → 0 < depth_of (roll-Expr x)
+pub positive : (x : Expr-F Expr) → 0 < depth_of (roll-Expr x)
 positive (layer.Lit value) = omega (arith, ap depth_of (variants.rolls-Lit value) ∙ depth_lit value)
 positive (layer.Root name) = omega (arith, ap depth_of (variants.rolls-Root name) ∙ depth_root name)
 positive (layer.Index of at) = omega (arith, ap depth_of (variants.rolls-Index of at) ∙ depth_index of at)
@@ -421,12 +421,12 @@ tails_given : (mode : Mode) (depth : ℕ) (inner : List ℕ → Read Expr) → (
 unfolding tails_at
 tails_given mode depth inner sound zero tree bytes read is e = by (chosen (begins_tail (skip is_blank bytes)) _ _ _ e)
   where
-    by : (begins_tail (skip is_blank bytes) ≡ true) × (stop {A = Expr × List ℕ} TooDeep (skip is_blank bytes) ≡ Ok read) ⊎ (begins_tail (skip is_blank bytes) ≡ false) × (done tree (skip is_blank bytes) ≡ Ok read) → IsGiven mode (suc depth) read.0
+    by : (begins_tail (skip is_blank bytes) ≡ true) × (Err (deep_fault tree bytes) ≡ Ok read) ⊎ (begins_tail (skip is_blank bytes) ≡ false) × (done tree (skip is_blank bytes) ≡ Ok read) → IsGiven mode (suc depth) read.0
     by (inl parts) = absurd (cc (parts.1))
     by (inr parts) = subst (IsGiven mode (suc depth)) (same_first (done tree (skip is_blank bytes)) tree read.0 (skip is_blank bytes) read.1 refl parts.1) is
 tails_given mode depth inner sound (suc turns) tree bytes read is e = by (λ next given more. tails_given mode depth inner sound turns next.0 next.1 read given more) (chosen (begins_tail (skip is_blank bytes)) _ _ _ e)
   where
-    deeper : ((next : Expr × List ℕ) → IsGiven mode (suc depth) next.0 → tails_at inner (suc depth) turns next.0 next.1 ≡ Ok read → IsGiven mode (suc depth) read.0) → (nat_le (suc depth) (depth_of tree) ≡ true) × (stop {A = Expr × List ℕ} TooDeep (skip is_blank bytes) ≡ Ok read) ⊎ (nat_le (suc depth) (depth_of tree) ≡ false) × ((tail_at inner tree (skip is_blank bytes) >>= λ next. tails_at inner (suc depth) turns next.0 next.1) ≡ Ok read) → IsGiven mode (suc depth) read.0
+    deeper : ((next : Expr × List ℕ) → IsGiven mode (suc depth) next.0 → tails_at inner (suc depth) turns next.0 next.1 ≡ Ok read → IsGiven mode (suc depth) read.0) → (nat_le (suc depth) (depth_of tree) ≡ true) × (Err (deep_fault tree bytes) ≡ Ok read) ⊎ (nat_le (suc depth) (depth_of tree) ≡ false) × ((tail_at inner tree (skip is_blank bytes) >>= λ next. tails_at inner (suc depth) turns next.0 next.1) ≡ Ok read) → IsGiven mode (suc depth) read.0
     deeper others (inl parts) = absurd (cc (parts.1))
     deeper others (inr parts) =
         let one = bind_ok (tail_at inner tree (skip is_blank bytes)) _ read parts.1 in
@@ -437,7 +437,7 @@ tails_given mode depth inner sound (suc turns) tree bytes read is e = by (λ nex
         shallow : (depth deep : ℕ) → nat_le (suc depth) deep ≡ false → deep ≤ depth
         shallow depth deep test = let less : deep < suc depth = grind (arith, nat_tests) in omega arith
 
-    by : ((next : Expr × List ℕ) → IsGiven mode (suc depth) next.0 → tails_at inner (suc depth) turns next.0 next.1 ≡ Ok read → IsGiven mode (suc depth) read.0) → (begins_tail (skip is_blank bytes) ≡ true) × (cond (nat_le (suc depth) (depth_of tree)) (stop {A = Expr × List ℕ} TooDeep (skip is_blank bytes)) (tail_at inner tree (skip is_blank bytes) >>= λ next. tails_at inner (suc depth) turns next.0 next.1) ≡ Ok read) ⊎ (begins_tail (skip is_blank bytes) ≡ false) × (done tree (skip is_blank bytes) ≡ Ok read) → IsGiven mode (suc depth) read.0
+    by : ((next : Expr × List ℕ) → IsGiven mode (suc depth) next.0 → tails_at inner (suc depth) turns next.0 next.1 ≡ Ok read → IsGiven mode (suc depth) read.0) → (begins_tail (skip is_blank bytes) ≡ true) × (cond (nat_le (suc depth) (depth_of tree)) (Err (deep_fault tree bytes)) (tail_at inner tree (skip is_blank bytes) >>= λ next. tails_at inner (suc depth) turns next.0 next.1) ≡ Ok read) ⊎ (begins_tail (skip is_blank bytes) ≡ false) × (done tree (skip is_blank bytes) ≡ Ok read) → IsGiven mode (suc depth) read.0
     by others (inl parts) = deeper others (chosen (nat_le (suc depth) (depth_of tree)) _ _ _ parts.1)
     by others (inr parts) = subst (IsGiven mode (suc depth)) (same_first (done tree (skip is_blank bytes)) tree read.0 (skip is_blank bytes) read.1 refl parts.1) is
 

@@ -1,25 +1,27 @@
 -- What is read is spelled so by the rules of the grammar.
-use Rattle.std.proofs.Common.{◌≡◌, ◌≢◌, ℕ, zero, suc, ◌+◌, ◌<◌, ◌≤◌, ◌⊎◌, inl, inr, Bool, true, false, cond, nat_le, nat_lt, ◌&&◌, ◌||◌, ◌==◌, Option, Some, None, Result, Ok, List, [], ◌∷◌, ◌++◌, length, drop, take, map, ℤ, refl, ap, sym, subst, ◌∙◌, append_assoc, arith}
+use Rattle.std.proofs.Common.{◌≡◌, ◌≢◌, ℕ, zero, suc, ◌+◌, ◌<◌, ◌≤◌, ◌⊎◌, inl, inr, Bool, true, false, codes, cond, nat_eq, nat_le, nat_lt, ◌&&◌, ◌||◌, ◌==◌, Option, Some, None, Result, Ok, Err, List, [], ◌∷◌, ◌++◌, length, drop, take, map, ℤ, refl, ap, sym, subst, ◌∙◌, append_assoc, rules, arith}
 use Rattle.std.specs.List.{prefix_len, join_with_byte, concat}
 use Rattle.std.specs.Char.{is_ascii_digit}
-use Rattle.std.proofs.lemmas.List.{append-nil, take-append-drop}
+use Rattle.std.specs.Cmp.Lexicographic.{pointwise}
+use Rattle.std.proofs.lemmas.List.{append-nil, take-append-drop, length-drop}
 use Rattle.std.proofs.lemmas.List.Folds.{length-prefix_len}
 use Rattle.std.proofs.lemmas.Bool.{and_parts, false≢true, eqb-false}
 use Rattle.std.proofs.lemmas.Bool.Decides.{nat_tests}
-use Rattle.pl_base.specs.declared.value.Value.{Number, Version, Str}
-use Rattle.pl_expr.specs.declared.expr.Expr.{Expr}
-use Rattle.pl_expr.specs.declared.expr.Expr.TheVariants.{Lit, Index, Project, Call}
+use Rattle.pl_base.specs.Folding.{folded}
+use Rattle.pl_base.specs.declared.value.Value.{Value, Bool as Truth, Number, Version, Str}
+use Rattle.pl_expr.specs.declared.expr.Expr.{Expr, the_lemmas}
+use Rattle.pl_expr.specs.declared.expr.Expr.TheVariants.{Lit, Root, Index, Project, Call}
 use Rattle.pl_expr.specs.declared.expr.Function.{Function}
 use Rattle.pl_expr.specs.declared.expr.Mode.{Mode}
-use Rattle.pl_expr.specs.declared.fault.ExprCode.TheVariants.{Fraction, BadChar, BadCount, TooDeep, Trailing}
+use Rattle.pl_expr.specs.declared.fault.ExprCode.TheVariants.{Fraction, BadChar, BadCount, Trailing}
 use Rattle.pl_expr.specs.declared.scan.Front.{Front}
 use Rattle.pl_expr.specs.declared.scan.Front.TheVariants as front
 use Rattle.pl_expr.specs.Numerals.{is_blank, skip, digits_of, number_of, signed, goes_on, more_runs, behind_more, runs_of, behind_runs, segments_of}
-use Rattle.pl_expr.specs.Trees.{depth_of, quoted, dotted}
+use Rattle.pl_expr.specs.Trees.{depth_of, is_projection, quoted, dotted}
 use Rattle.pl_expr.specs.Functions.{most_of, takes, may_follow, named}
-use Rattle.pl_expr.specs.Grammar.{Fault, Read, ◌>>=◌, stop, begins_with, begins_name, is_name_byte, is_word, word_of, behind_word, unquoted, with_byte, string_read, number_read, version_read, unsigned_at, signed_at, number_at, word_tree, behind_argument, arguments_at, call_at, called, word_at, front_of, primary_by, primary_at, names_at, index_at, member_at, tail_at, begins_tail, tails_at, expression_at, text_at, text_whole, parses}
+use Rattle.pl_expr.specs.Grammar.{Fault, Read, ◌>>=◌, stop, begins_with, begins_name, is_name_byte, is_word, word_of, behind_word, unquoted, with_byte, string_read, number_read, version_read, unsigned_at, signed_at, number_at, word_tree, behind_argument, arguments_at, call_at, called, word_at, front_of, primary_by, primary_at, names_at, index_at, member_at, tail_at, begins_tail, deep_fault, tails_at, expression_at, text_at, text_whole, parses}
 use Rattle.pl_expr.specs.Given.{IsName, AreNames}
-use Rattle.pl_expr.specs.Spelling.{AreBlanks, AreDigits, AreRuns, IsLiteralText, IsText, IsExpression, IsPrimary, AreArguments}
+use Rattle.pl_expr.specs.Spelling.{AreBlanks, AreDigits, AreRuns, IsApart, IsLiteralText, IsText, IsExpression, IsPrimary, AreArguments}
 use Rattle.pl_expr.specs.Spelling as rule
 use Rattle.pl_expr.proofs.Quotes.{unquoted_plain, unquoted_end, unquoted_double}
 use Rattle.pl_expr.proofs.Sound.{bind_ok, chosen, same_first, done, all_front, word_is, more_runs_few, front_is_word, primary_none, read_whole, placed_ok}
@@ -75,7 +77,7 @@ doubled byte bytes text rest others quote e =
     let parts = with_byte_some 39 (unquoted bytes) text rest (sym (unquoted_double (39 ∷ bytes) refl) ∙ (ap (λ b. unquoted (b ∷ 39 ∷ bytes)) (sym (is_39 byte quote)) ∙ e)) in
     ap (λ b. b ∷ 39 ∷ bytes) (is_39 byte quote) ∙ (ap (λ xs. 39 ∷ 39 ∷ xs) (others parts.0 parts.1.0) ∙ sym (ap (λ xs. quoted xs ++ 39 ∷ rest) parts.1.1))
 
-quoted_text : (bytes text rest : List ℕ) → unquoted bytes ≡ Some (text, rest) → bytes ≡ quoted text ++ 39 ∷ rest
+pub quoted_text : (bytes text rest : List ℕ) → unquoted bytes ≡ Some (text, rest) → bytes ≡ quoted text ++ 39 ∷ rest
 unfolding unquoted
 quoted_text [] text rest e = absurd (cc (e))
 quoted_text (byte ∷ []) text rest e = by (byte == 39) refl e
@@ -201,7 +203,7 @@ unfolding blanks_of
 blanks_cut bytes = (digits_cut is_blank bytes, all_front is_blank bytes)
 
 -- what the names of a projection are, and what they take
-pub NamesTook : List (List ℕ) → List ℕ → List (List ℕ) × List ℕ → Type 0
+unfoldable pub NamesTook : List (List ℕ) → List ℕ → List (List ℕ) × List ℕ → Type 0
 NamesTook read bytes found = (members : List (List ℕ)) × ((found.0 ≡ read ++ members) × (AreNames members × (bytes ≡ dotted members ++ found.1)))
 
 pub names_took : (turns : ℕ) (read : List (List ℕ)) (bytes : List ℕ) → NamesTook read bytes (names_at turns read bytes)
@@ -218,9 +220,24 @@ names_took (suc turns) read bytes = by (names_took turns (read ++ word_of (drop 
         let cut : bytes ≡ dotted (word ∷ others.0) ++ found.1 = begins_cut 46 bytes parts.0 ∙ (ap (λ xs. 46 ∷ xs) (digits_cut is_name_byte (drop 1 bytes) ∙ ap (λ xs. word ++ xs) others.1.1.1) ∙ sym (append_assoc (46 ∷ word) (dotted others.0) found.1)) in
         (word ∷ others.0, (others.1.0 ∙ append_assoc read (word ∷ []) others.0, ((word_is (drop 1 bytes) parts.1, others.1.1.0), cut)))
 
+-- no name stands right behind the names of a projection
+goes_name : List ℕ → Bool
+goes_name bytes = begins_with 46 bytes && is_word (drop 1 bytes)
+
+names_ended : (turns : ℕ) (read : List (List ℕ)) (bytes : List ℕ) → length bytes ≤ turns → goes_name (names_at turns read bytes).1 ≡ false
+unfolding names_at goes_name
+names_ended zero read [] room = refl
+names_ended zero read (byte ∷ bytes) room = absurd (omega (arith, room))
+names_ended (suc turns) read [] room = refl
+names_ended (suc turns) read (byte ∷ bytes) room = by (names_ended turns (read ++ word_of bytes ∷ []) (behind_word bytes) (omega (arith, room, length-drop (prefix_len is_name_byte bytes) bytes))) (goes_name (byte ∷ bytes)) refl
+  where
+    by : goes_name (names_at turns (read ++ word_of bytes ∷ []) (behind_word bytes)).1 ≡ false → (b : Bool) → goes_name (byte ∷ bytes) ≡ b → goes_name (cond b (names_at turns (read ++ word_of bytes ∷ []) (behind_word bytes)) (read, byte ∷ bytes)).1 ≡ false
+    by others false e = e
+    by others true e = others
+
 -- ---- arguments
 
-behind_cut : (function : Function) (count : ℕ) (bytes : List ℕ) (more : Bool) (rest : List ℕ) → behind_argument function count bytes ≡ Ok (more, rest) → ((more ≡ true) × (bytes ≡ 44 ∷ rest)) ⊎ ((more ≡ false) × ((bytes ≡ 41 ∷ rest) × (takes function count ≡ true)))
+pub behind_cut : (function : Function) (count : ℕ) (bytes : List ℕ) (more : Bool) (rest : List ℕ) → behind_argument function count bytes ≡ Ok (more, rest) → ((more ≡ true) × (bytes ≡ 44 ∷ rest)) ⊎ ((more ≡ false) × ((bytes ≡ 41 ∷ rest) × (takes function count ≡ true)))
 unfolding behind_argument
 behind_cut function count bytes more rest e = by (chosen (begins_with 44 bytes) _ _ _ e)
   where
@@ -379,14 +396,47 @@ primary_took mode inner spells bytes tree rest e = by (front_of bytes) refl e
     by front.Fraction is e = absurd (cc (e))
     by front.Nothing is e = absurd (cc (e))
 
+-- ---- projections
+
+lit_projection : (value : Value) → is_projection (Lit value) ≡ false
+lit_projection value = search (rules, the_lemmas)
+
+root_projection : (name : List ℕ) → is_projection (Root name) ≡ false
+root_projection name = search (rules, the_lemmas)
+
+index_projection : (of at : Expr) → is_projection (Index of at) ≡ false
+index_projection of at = search (rules, the_lemmas)
+
+call_projection : (function : Function) (trees : List Expr) → is_projection (Call function trees) ≡ false
+call_projection function trees = search (rules, the_lemmas)
+
+word_projection : (word : List ℕ) → is_projection (word_tree word) ≡ false
+unfolding word_tree
+word_projection word = by (pointwise nat_eq (folded (codes "true")) (folded word)) (pointwise nat_eq (folded (codes "false")) (folded word))
+  where
+    by : (truth falsehood : Bool) → is_projection (cond truth (Lit (Truth true)) (cond falsehood (Lit (Truth false)) (Root word))) ≡ false
+    by true falsehood = lit_projection (Truth true)
+    by false true = lit_projection (Truth false)
+    by false false = root_projection word
+
+pub primary_projection : (mode : Mode) (spelling : List ℕ) (tree : Expr) → IsPrimary mode spelling tree → is_projection tree ≡ false
+primary_projection mode _ _ (rule.literal spelling value is) = lit_projection value
+primary_projection mode _ _ (rule.name word is) = word_projection word
+primary_projection mode _ _ (rule.empty_call word blanks function is found are fits) = call_projection function []
+primary_projection mode _ _ (rule.call word blanks inside function trees is found are all fits) = call_projection function trees
+
+-- what is left behind a tree: no name right behind a projection
+Ended : Expr → List ℕ → Type 0
+Ended tree rest = is_projection tree ≡ true → goes_name rest ≡ false
+
 -- ---- tails
 
 -- a tail of the tree, whatever spelling and blanks stand before it
 TailTook : Mode → Expr → List ℕ → Expr × List ℕ → Type 0
-TailTook mode tree bytes read = (tail : List ℕ) × ((bytes ≡ tail ++ read.1) × ((spelling blanks : List ℕ) → IsExpression mode spelling tree → AreBlanks blanks → IsExpression mode (spelling ++ (blanks ++ tail)) read.0))
+TailTook mode tree bytes read = (tail : List ℕ) × ((bytes ≡ tail ++ read.1) × (Ended read.0 read.1 × ((spelling blanks : List ℕ) → IsExpression mode spelling tree → AreBlanks blanks → (goes_name bytes ≡ true → IsApart tree blanks) → IsExpression mode (spelling ++ (blanks ++ tail)) read.0)))
 
 index_took : (mode : Mode) (inner : List ℕ → Read Expr) → Spells mode inner → (tree : Expr) (bytes : List ℕ) (read : Expr × List ℕ) → index_at inner tree bytes ≡ Ok read → TailTook mode tree (91 ∷ bytes) read
-unfolding index_at TailTook Spells Took
+unfolding index_at TailTook Ended Spells Took
 index_took mode inner spells tree bytes read e =
     let one = bind_ok (inner bytes) _ read e in
     by one.0 (spells bytes one.0 one.1.0) (chosen (begins_with 93 one.0.1) _ _ _ one.1.1)
@@ -399,15 +449,18 @@ index_took mode inner spells tree bytes read e =
           91 ∷ took.0 ++ 93 ∷ [],
           (
             cut,
-            λ spelling blanks is are.
-                let P : List ℕ → Type 0 = λ xs. IsExpression mode (spelling ++ xs) (Index tree index.0) in
-                subst (IsExpression mode (spelling ++ (blanks ++ (91 ∷ took.0 ++ 93 ∷ [])))) is_tree (subst P (append_assoc blanks (91 ∷ took.0) (93 ∷ [])) (rule.indexed spelling blanks took.0 tree index.0 is are took.1.1)),
+            (
+              λ projected. absurd (false≢true (sym (index_projection tree index.0) ∙ (ap is_projection is_tree ∙ projected))),
+              λ spelling blanks is are apart.
+                  let P : List ℕ → Type 0 = λ xs. IsExpression mode (spelling ++ xs) (Index tree index.0) in
+                  subst (IsExpression mode (spelling ++ (blanks ++ (91 ∷ took.0 ++ 93 ∷ [])))) is_tree (subst P (append_assoc blanks (91 ∷ took.0) (93 ∷ [])) (rule.indexed spelling blanks took.0 tree index.0 is are took.1.1)),
+            ),
           ),
         )
     by index took (inr parts) = absurd (cc (parts.1))
 
 member_took : (mode : Mode) (tree : Expr) (bytes : List ℕ) (read : Expr × List ℕ) → member_at tree bytes ≡ Ok read → TailTook mode tree (46 ∷ bytes) read
-unfolding member_at TailTook NamesTook
+unfolding member_at TailTook Ended NamesTook goes_name
 member_took mode tree bytes read e = by (chosen (begins_with 42 bytes) _ _ _ e)
   where
     name : (is_word bytes ≡ true) × (done (Index tree (Lit (Str (word_of bytes)))) (behind_word bytes) ≡ Ok read) ⊎ (is_word bytes ≡ false) × (stop {A = Expr × List ℕ} BadChar bytes ≡ Ok read) → TailTook mode tree (46 ∷ bytes) read
@@ -415,17 +468,18 @@ member_took mode tree bytes read e = by (chosen (begins_with 42 bytes) _ _ _ e)
         let made = Index tree (Lit (Str (word_of bytes))) in
         let is_tree = same_first (done made (behind_word bytes)) made read.0 (behind_word bytes) read.1 refl parts.1 in
         let is_rest = same_second (done made (behind_word bytes)) made read.0 (behind_word bytes) read.1 refl parts.1 in
-        (46 ∷ word_of bytes, (ap (λ xs. 46 ∷ xs) (digits_cut is_name_byte bytes ∙ ap (λ xs. word_of bytes ++ xs) is_rest), λ spelling blanks is are. subst (IsExpression mode (spelling ++ (blanks ++ 46 ∷ word_of bytes))) is_tree (rule.member spelling blanks (word_of bytes) tree is are (word_is bytes parts.0))))
+        let ended : Ended read.0 read.1 = λ projected. absurd (false≢true (sym (index_projection tree (Lit (Str (word_of bytes)))) ∙ (ap is_projection is_tree ∙ projected))) in
+        (46 ∷ word_of bytes, (ap (λ xs. 46 ∷ xs) (digits_cut is_name_byte bytes ∙ ap (λ xs. word_of bytes ++ xs) is_rest), (ended, λ spelling blanks is are apart. subst (IsExpression mode (spelling ++ (blanks ++ 46 ∷ word_of bytes))) is_tree (rule.member spelling blanks (word_of bytes) tree is are (apart parts.0) (word_is bytes parts.0)))))
     name (inr parts) = absurd (cc (parts.1))
 
-    star : begins_with 42 bytes ≡ true → (found : List (List ℕ) × List ℕ) → NamesTook [] (drop 1 bytes) found → done (Project tree found.0) found.1 ≡ Ok read → TailTook mode tree (46 ∷ bytes) read
-    star begins found took e =
+    star : begins_with 42 bytes ≡ true → (found : List (List ℕ) × List ℕ) → goes_name found.1 ≡ false → NamesTook [] (drop 1 bytes) found → done (Project tree found.0) found.1 ≡ Ok read → TailTook mode tree (46 ∷ bytes) read
+    star begins found ends took e =
         let is_tree : Project tree took.0 ≡ read.0 = ap (λ xs. Project tree xs) (sym took.1.0) ∙ same_first (done (Project tree found.0) found.1) (Project tree found.0) read.0 found.1 read.1 refl e in
         let is_rest = same_second (done (Project tree found.0) found.1) (Project tree found.0) read.0 found.1 read.1 refl e in
-        (46 ∷ 42 ∷ dotted took.0, (ap (λ xs. 46 ∷ xs) (begins_cut 42 bytes begins ∙ ap (λ xs. 42 ∷ xs) (took.1.1.1 ∙ ap (λ xs. dotted took.0 ++ xs) is_rest)), λ spelling blanks is are. subst (IsExpression mode (spelling ++ (blanks ++ 46 ∷ 42 ∷ dotted took.0))) is_tree (rule.projected spelling blanks took.0 tree is are took.1.1.0)))
+        (46 ∷ 42 ∷ dotted took.0, (ap (λ xs. 46 ∷ xs) (begins_cut 42 bytes begins ∙ ap (λ xs. 42 ∷ xs) (took.1.1.1 ∙ ap (λ xs. dotted took.0 ++ xs) is_rest)), (λ projected. ap goes_name (sym is_rest) ∙ ends, λ spelling blanks is are apart. subst (IsExpression mode (spelling ++ (blanks ++ 46 ∷ 42 ∷ dotted took.0))) is_tree (rule.projected spelling blanks took.0 tree is are took.1.1.0))))
 
     by : (begins_with 42 bytes ≡ true) × (done (Project tree (names_at (length bytes) [] (drop 1 bytes)).0) (names_at (length bytes) [] (drop 1 bytes)).1 ≡ Ok read) ⊎ (begins_with 42 bytes ≡ false) × (cond (is_word bytes) (done (Index tree (Lit (Str (word_of bytes)))) (behind_word bytes)) (stop {A = Expr × List ℕ} BadChar bytes) ≡ Ok read) → TailTook mode tree (46 ∷ bytes) read
-    by (inl parts) = star parts.0 (names_at (length bytes) [] (drop 1 bytes)) (names_took (length bytes) [] (drop 1 bytes)) parts.1
+    by (inl parts) = star parts.0 (names_at (length bytes) [] (drop 1 bytes)) (names_ended (length bytes) [] (drop 1 bytes) (omega (arith, length-drop 1 bytes))) (names_took (length bytes) [] (drop 1 bytes)) parts.1
     by (inr parts) = name (chosen (is_word bytes) _ _ _ parts.1)
 
 tail_took : (mode : Mode) (inner : List ℕ → Read Expr) → Spells mode inner → (tree : Expr) (bytes : List ℕ) (read : Expr × List ℕ) → begins_tail bytes ≡ true → tail_at inner tree bytes ≡ Ok read → TailTook mode tree bytes read
@@ -440,6 +494,15 @@ tail_took mode inner spells tree bytes read begins e = by (chosen (begins_with 9
         let P : List ℕ → Type 0 = λ xs. TailTook mode tree xs read in
         subst P (sym (begins_cut 46 bytes (tail_dot bytes begins parts.0))) (member_took mode tree (drop 1 bytes) read parts.1)
 
+-- a name that isn't the projection's own stands behind blanks
+apart_of : (tree : Expr) (bytes : List ℕ) → Ended tree bytes → goes_name (skip is_blank bytes) ≡ true → IsApart tree (blanks_of bytes)
+unfolding Ended
+apart_of tree bytes ended goes projected = by (blanks_of bytes) (blanks_cut bytes).0
+  where
+    by : (blanks : List ℕ) → bytes ≡ blanks ++ skip is_blank bytes → 0 < length blanks
+    by [] same = absurd (false≢true (sym (ended projected) ∙ (ap goes_name same ∙ goes)))
+    by (blank ∷ blanks) cut = omega arith
+
 -- the tails, and the blanks behind them
 TailsTook : Mode → List ℕ → List ℕ → Expr × List ℕ → Type 0
 TailsTook mode spelling bytes read = (tails : List ℕ) × ((blanks : List ℕ) × ((bytes ≡ tails ++ (blanks ++ read.1)) × (AreBlanks blanks × IsExpression mode (spelling ++ tails) read.0)))
@@ -453,39 +516,40 @@ tails_ended mode spelling bytes tree read is e =
     let P : List ℕ → Type 0 = λ xs. IsExpression mode xs read.0 in
     ([], (blanks_of bytes, (blanks.0 ∙ ap (λ xs. blanks_of bytes ++ xs) is_rest, (blanks.1, subst P (sym (append-nil spelling)) (subst (IsExpression mode spelling) is_tree is)))))
 
-tails_took : (mode : Mode) (inner : List ℕ → Read Expr) → Spells mode inner → (depth turns : ℕ) (spelling : List ℕ) (tree : Expr) (bytes : List ℕ) (read : Expr × List ℕ) → IsExpression mode spelling tree → tails_at inner depth turns tree bytes ≡ Ok read → TailsTook mode spelling bytes read
+tails_took : (mode : Mode) (inner : List ℕ → Read Expr) → Spells mode inner → (depth turns : ℕ) (spelling : List ℕ) (tree : Expr) (bytes : List ℕ) (read : Expr × List ℕ) → IsExpression mode spelling tree → Ended tree bytes → tails_at inner depth turns tree bytes ≡ Ok read → TailsTook mode spelling bytes read
 unfolding tails_at TailTook TailsTook
-tails_took mode inner spells depth zero spelling tree bytes read is e = by (chosen (begins_tail (skip is_blank bytes)) _ _ _ e)
+tails_took mode inner spells depth zero spelling tree bytes read is ended e = by (chosen (begins_tail (skip is_blank bytes)) _ _ _ e)
   where
-    by : (begins_tail (skip is_blank bytes) ≡ true) × (stop {A = Expr × List ℕ} TooDeep (skip is_blank bytes) ≡ Ok read) ⊎ (begins_tail (skip is_blank bytes) ≡ false) × (done tree (skip is_blank bytes) ≡ Ok read) → TailsTook mode spelling bytes read
+    by : (begins_tail (skip is_blank bytes) ≡ true) × (Err (deep_fault tree bytes) ≡ Ok read) ⊎ (begins_tail (skip is_blank bytes) ≡ false) × (done tree (skip is_blank bytes) ≡ Ok read) → TailsTook mode spelling bytes read
     by (inl parts) = absurd (cc (parts.1))
     by (inr parts) = tails_ended mode spelling bytes tree read is parts.1
-tails_took mode inner spells depth (suc turns) spelling tree bytes read is e = by (λ spelling next given more. tails_took mode inner spells depth turns spelling next.0 next.1 read given more) (chosen (begins_tail (skip is_blank bytes)) _ _ _ e)
+tails_took mode inner spells depth (suc turns) spelling tree bytes read is ended e = by (λ spelling next given ends more. tails_took mode inner spells depth turns spelling next.0 next.1 read given ends more) (chosen (begins_tail (skip is_blank bytes)) _ _ _ e)
   where
-    deeper : ((spelling : List ℕ) (next : Expr × List ℕ) → IsExpression mode spelling next.0 → tails_at inner depth turns next.0 next.1 ≡ Ok read → TailsTook mode spelling next.1 read) → begins_tail (skip is_blank bytes) ≡ true → (nat_le depth (depth_of tree) ≡ true) × (stop {A = Expr × List ℕ} TooDeep (skip is_blank bytes) ≡ Ok read) ⊎ (nat_le depth (depth_of tree) ≡ false) × ((tail_at inner tree (skip is_blank bytes) >>= λ next. tails_at inner depth turns next.0 next.1) ≡ Ok read) → TailsTook mode spelling bytes read
+    deeper : ((spelling : List ℕ) (next : Expr × List ℕ) → IsExpression mode spelling next.0 → Ended next.0 next.1 → tails_at inner depth turns next.0 next.1 ≡ Ok read → TailsTook mode spelling next.1 read) → begins_tail (skip is_blank bytes) ≡ true → (nat_le depth (depth_of tree) ≡ true) × (Err (deep_fault tree bytes) ≡ Ok read) ⊎ (nat_le depth (depth_of tree) ≡ false) × ((tail_at inner tree (skip is_blank bytes) >>= λ next. tails_at inner depth turns next.0 next.1) ≡ Ok read) → TailsTook mode spelling bytes read
     deeper others begins (inl parts) = absurd (cc (parts.1))
     deeper others begins (inr parts) =
         let one = bind_ok (tail_at inner tree (skip is_blank bytes)) _ read parts.1 in
         let tail = tail_took mode inner spells tree (skip is_blank bytes) one.0 begins one.1.0 in
         let blanks = blanks_cut bytes in
         let front = blanks_of bytes ++ tail.0 in
-        let found = others (spelling ++ front) one.0 (tail.1.1 spelling (blanks_of bytes) is blanks.1) one.1.1 in
+        let found = others (spelling ++ front) one.0 (tail.1.1.1 spelling (blanks_of bytes) is blanks.1 (apart_of tree bytes ended)) tail.1.1.0 one.1.1 in
         let cut : bytes ≡ (front ++ found.0) ++ (found.1.0 ++ read.1) = blanks.0 ∙ (ap (λ xs. blanks_of bytes ++ xs) tail.1.0 ∙ (sym (append_assoc (blanks_of bytes) tail.0 one.0.1) ∙ (ap (λ xs. front ++ xs) found.1.1.0 ∙ sym (append_assoc front found.0 (found.1.0 ++ read.1))))) in
         let P : List ℕ → Type 0 = λ xs. IsExpression mode xs read.0 in
         (front ++ found.0, (found.1.0, (cut, (found.1.1.1.0, subst P (append_assoc spelling front found.0) found.1.1.1.1))))
 
-    by : ((spelling : List ℕ) (next : Expr × List ℕ) → IsExpression mode spelling next.0 → tails_at inner depth turns next.0 next.1 ≡ Ok read → TailsTook mode spelling next.1 read) → (begins_tail (skip is_blank bytes) ≡ true) × (cond (nat_le depth (depth_of tree)) (stop {A = Expr × List ℕ} TooDeep (skip is_blank bytes)) (tail_at inner tree (skip is_blank bytes) >>= λ next. tails_at inner depth turns next.0 next.1) ≡ Ok read) ⊎ (begins_tail (skip is_blank bytes) ≡ false) × (done tree (skip is_blank bytes) ≡ Ok read) → TailsTook mode spelling bytes read
+    by : ((spelling : List ℕ) (next : Expr × List ℕ) → IsExpression mode spelling next.0 → Ended next.0 next.1 → tails_at inner depth turns next.0 next.1 ≡ Ok read → TailsTook mode spelling next.1 read) → (begins_tail (skip is_blank bytes) ≡ true) × (cond (nat_le depth (depth_of tree)) (Err (deep_fault tree bytes)) (tail_at inner tree (skip is_blank bytes) >>= λ next. tails_at inner depth turns next.0 next.1) ≡ Ok read) ⊎ (begins_tail (skip is_blank bytes) ≡ false) × (done tree (skip is_blank bytes) ≡ Ok read) → TailsTook mode spelling bytes read
     by others (inl parts) = deeper others parts.0 (chosen (nat_le depth (depth_of tree)) _ _ _ parts.1)
     by others (inr parts) = tails_ended mode spelling bytes tree read is parts.1
 
 -- ---- whole texts
 
 text_spelled : (mode : Mode) (inner : List ℕ → Read Expr) → Spells mode inner → (depth : ℕ) (bytes : List ℕ) (read : Expr × List ℕ) → (primary_at mode true inner (skip is_blank bytes) >>= λ first. tails_at inner depth depth first.0 first.1) ≡ Ok read → Took (λ taken. IsText mode taken read.0) bytes read.1
-unfolding Took TailsTook
+unfolding Took TailsTook Ended
 text_spelled mode inner spells depth bytes read e =
     let one = bind_ok (primary_at mode true inner (skip is_blank bytes)) _ read e in
     let primary = primary_took mode inner spells (skip is_blank bytes) one.0.0 one.0.1 one.1.0 in
-    let tails = tails_took mode inner spells depth depth primary.0 one.0.0 one.0.1 read (rule.primary primary.0 one.0.0 primary.1.1) one.1.1 in
+    let ended : Ended one.0.0 one.0.1 = λ projected. absurd (false≢true (sym (primary_projection mode primary.0 one.0.0 primary.1.1) ∙ projected)) in
+    let tails = tails_took mode inner spells depth depth primary.0 one.0.0 one.0.1 read (rule.primary primary.0 one.0.0 primary.1.1) ended one.1.1 in
     let blanks = blanks_cut bytes in
     let spelling = primary.0 ++ tails.0 in
     let cut : bytes ≡ (blanks_of bytes ++ spelling ++ tails.1.0) ++ read.1 = blanks.0 ∙ (ap (λ xs. blanks_of bytes ++ xs) (primary.1.0 ∙ (ap (λ xs. primary.0 ++ xs) tails.1.1.0 ∙ sym (append_assoc primary.0 tails.0 (tails.1.0 ++ read.1)))) ∙ (sym (append_assoc (blanks_of bytes) spelling (tails.1.0 ++ read.1)) ∙ sym (append_assoc (blanks_of bytes ++ spelling) tails.1.0 read.1))) in

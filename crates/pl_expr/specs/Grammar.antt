@@ -25,7 +25,7 @@ use Rattle.pl_expr.specs.declared.scan.Front.TheVariants as front
 use Rattle.pl_base.specs.Folding.{folded}
 use Rattle.pl_expr.specs.Numerals.{is_blank, skip, digits_of, number_of, signed, goes_on, runs_of, behind_runs, segments_of}
 use Rattle.pl_expr.specs.Functions.{most_of, may_follow, takes, named}
-use Rattle.pl_expr.specs.Trees.{depth_of}
+use Rattle.pl_expr.specs.Trees.{depth_of, is_projection}
 
 -- ---- what reading gives
 
@@ -211,14 +211,25 @@ tail_at inner tree bytes =
 abbrev pub begins_tail : List ℕ → Bool
 begins_tail bytes = begins_with 46 bytes || begins_with 91 bytes
 
+-- what may stand behind a tail's dot
+abbrev pub begins_member : List ℕ → Bool
+begins_member bytes = begins_with 42 bytes || is_word bytes
+
+-- The fault of one more tail behind a tree as deep as it may get. Names make a projection no deeper, so a dot right
+-- behind one may begin a name. Where it begins neither a name nor `.*`, the byte behind the dot is what fits nothing.
+unfoldable pub deep_fault : Expr → List ℕ → Fault
+deep_fault tree bytes =
+    if is_projection tree && (begins_with 46 bytes && not (begins_member (drop 1 bytes))) then (BadChar, length (drop 1 bytes))
+    else (TooDeep, length (skip is_blank bytes))
+
 -- The tails of a tree that may get so deep, and the blanks behind them. Each makes it deeper, so that there are no
 -- more turns than that.
 unfoldable pub tails_at : (List ℕ → Read Expr) → ℕ → ℕ → Expr → List ℕ → Read Expr
 tails_at inner depth zero tree bytes =
-    if begins_tail (skip is_blank bytes) then stop TooDeep (skip is_blank bytes) else Ok (tree, skip is_blank bytes)
+    if begins_tail (skip is_blank bytes) then Err (deep_fault tree bytes) else Ok (tree, skip is_blank bytes)
 tails_at inner depth (suc turns) tree bytes =
     if begins_tail (skip is_blank bytes) then
-    (if nat_le depth (depth_of tree) then stop TooDeep (skip is_blank bytes)
+    (if nat_le depth (depth_of tree) then Err (deep_fault tree bytes)
     else tail_at inner tree (skip is_blank bytes) >>= λ next. tails_at inner depth turns next.0 next.1)
     else Ok (tree, skip is_blank bytes)
 

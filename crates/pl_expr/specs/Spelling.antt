@@ -1,5 +1,6 @@
 -- The grammar as rules, one for each way to write a tree: which texts have which tree. The reader of `Grammar` gives
--- only trees that these rules give.
+-- only trees that these rules give. A name that stands right behind a projection belongs to it, so that `a.*.b` is
+-- one tail; `a.* .b`, with a blank between, is a projection and a member of what it gives.
 use Rattle.std.specs.Prelude.{◌≡◌, ℕ, ◌<◌, ◌≤◌, true, false, List, [], ◌∷◌, ◌++◌, length, map, Some, ℤ}
 use Rattle.std.specs.List.{list_all, join_with_byte}
 use Rattle.std.specs.Char.{is_ascii_digit}
@@ -12,7 +13,7 @@ use Rattle.pl_expr.specs.Numerals.{is_blank, number_of, signed, segments_of}
 use Rattle.pl_expr.specs.Functions.{takes, named}
 use Rattle.pl_expr.specs.Grammar.{word_tree}
 use Rattle.pl_expr.specs.Given.{IsName, AreNames}
-use Rattle.pl_expr.specs.Trees.{quoted, dotted}
+use Rattle.pl_expr.specs.Trees.{is_projection, quoted, dotted}
 
 abbrev pub AreBlanks : List ℕ → Type 0
 AreBlanks bytes = list_all is_blank bytes ≡ true
@@ -32,6 +33,10 @@ pub data IsLiteralText : List ℕ → Value → Type 0 where
   version : (runs : List (List ℕ)) (segments : List ℕ) → AreRuns runs → 2 < length runs → length runs ≤ 4 → segments_of (map number_of runs) ≡ Some segments → IsLiteralText (join_with_byte 46 runs) (Version segments)
   string : (text : List ℕ) → IsLiteralText (39 ∷ quoted text ++ 39 ∷ []) (Str text)
 
+-- so many blanks behind a tree that a name behind them is a tail of its own
+abbrev pub IsApart : Expr → List ℕ → Type 0
+IsApart tree blanks = is_projection tree ≡ true → 0 < length blanks
+
 mutual
   -- blanks expr blanks
   pub data IsText (mode : Mode) : List ℕ → Expr → Type 0 where
@@ -40,7 +45,7 @@ mutual
   -- primary { blanks tail }
   pub data IsExpression (mode : Mode) : List ℕ → Expr → Type 0 where
     primary : (spelling : List ℕ) (tree : Expr) → IsPrimary mode spelling tree → IsExpression mode spelling tree
-    member : (spelling blanks name : List ℕ) (tree : Expr) → IsExpression mode spelling tree → AreBlanks blanks → IsName name → IsExpression mode (spelling ++ (blanks ++ 46 ∷ name)) (Index tree (Lit (Str name)))
+    member : (spelling blanks name : List ℕ) (tree : Expr) → IsExpression mode spelling tree → AreBlanks blanks → IsApart tree blanks → IsName name → IsExpression mode (spelling ++ (blanks ++ 46 ∷ name)) (Index tree (Lit (Str name)))
     indexed : (spelling blanks inside : List ℕ) (tree index : Expr) → IsExpression mode spelling tree → AreBlanks blanks → IsText mode inside index → IsExpression mode (spelling ++ (blanks ++ 91 ∷ inside ++ 93 ∷ [])) (Index tree index)
     projected : (spelling blanks : List ℕ) (members : List (List ℕ)) (tree : Expr) → IsExpression mode spelling tree → AreBlanks blanks → AreNames members → IsExpression mode (spelling ++ (blanks ++ 46 ∷ 42 ∷ dotted members)) (Project tree members)
 

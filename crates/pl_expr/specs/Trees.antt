@@ -1,11 +1,12 @@
--- How deep an expression is, and how it is printed.
-use Rattle.std.specs.Prelude.{ℕ, ◌+◌, true, false, List, [], ◌∷◌, ◌++◌, map, max, codes, decimal, flat_map, ◌==◌, if◌then◌else◌}
+-- How deep an expression is, what its last tail is, and how it is printed.
+use Rattle.std.specs.Prelude.{ℕ, ◌+◌, Bool, true, false, List, [], ◌∷◌, ◌++◌, map, max, codes, decimal, flat_map, ◌==◌, if◌then◌else◌}
 use Rattle.std.specs.Fmt.{signed_decimal}
 use Rattle.std.specs.List.{join_with_byte}
 use Rattle.pl_base.specs.declared.value.Value.{Value, Bool as Truth, Number, Version, Str}
 use Rattle.pl_expr.specs.declared.expr.Expr.{Expr}
 use Rattle.pl_expr.specs.declared.expr.Expr.TheOpen.{Expr-F, Lit, Root, Index, Project, Call}
 use Rattle.pl_expr.specs.declared.expr.Expr.TheFolds.{fold-Expr}
+use Rattle.pl_expr.specs.declared.expr.Expr.TheViews.{out-Expr}
 use Rattle.pl_expr.specs.Functions.{name_of}
 
 -- A leaf is 1 deep, and so is a call without arguments. What an expression stands in is one deeper.
@@ -22,6 +23,14 @@ depth_step (Call function arguments) = 1 + deepest arguments
 
 abbrev pub depth_of : Expr → ℕ
 depth_of = fold-Expr ℕ depth_step
+
+-- the last tail is a projection
+abbrev pub projects : Expr-F Expr → Bool
+projects (Project of names) = true
+projects tree = false
+
+abbrev pub is_projection : Expr → Bool
+is_projection tree = projects (out-Expr tree)
 
 -- a text's bytes between quotes, each quote in it twice
 abbrev pub quoted : List ℕ → List ℕ

@@ -1,5 +1,5 @@
 ghost use Rattle.std.specs.Prelude.{◌≡◌, ◌≤◌, ◌<◌, ◌+◌, ◌-◌, ◌^◌, ◌&&◌, true, [], nat_lt, drop, length, IfOk};
-ghost use Rattle.pl_expr.specs.Grammar.{begins_with, is_word, text_at, inner_of, primary_at, word_at, call_at, arguments_at, behind_argument, tails_at, tail_at, member_at, index_at, names_at, begins_tail, text_whole, parses};
+ghost use Rattle.pl_expr.specs.Grammar.{begins_with, is_word, text_at, inner_of, primary_at, word_at, call_at, arguments_at, behind_argument, tails_at, tail_at, member_at, index_at, names_at, begins_tail, deep_fault, text_whole, parses};
 ghost use Rattle.pl_expr.specs.Parsing.{Gives, Answers};
 
 use crate::expr::{Expr, Function, Mode};
@@ -175,12 +175,29 @@ fn read_tails<'t>(
             return Ok((tree, here));
         }
         if tree.depth >= depth {
-            return Err(stop_at(ExprCode::TooDeep, here));
+            return Err(deep_stop(&tree, rest));
         }
         let (next, behind) = read_tail(alloc, mode, depth, tree, here)?;
         tree = next;
         rest = whole(behind);
     }
+}
+
+/// The stop at one more tail behind a tree as deep as it may get. The text begins right behind the tree.
+///
+/// Names make a projection no deeper, so a dot right behind one may begin a name. Where it begins neither a name nor
+/// `.*`, the byte behind the dot is what fits nothing.
+#[tactic(auto, unfolding(crate::specs::Grammar::deep_fault))]
+fn deep_stop(tree: &Tree, text: &str) -> Stop
+    ensures { result ≡ Stop.Fault (deep_fault tree.now.expr text.now).0 (deep_fault tree.now.expr text.now).1 }
+{
+    if tree.is_projection() && begins_with(text, b'.') {
+        let behind = skip_byte(text, b'.');
+        if !begins_with(behind, b'*') && !is_word(behind) {
+            return stop_at(ExprCode::BadChar, behind);
+        }
+    }
+    stop_at(ExprCode::TooDeep, skip_blanks(text))
 }
 
 /// Whether the text begins with a tail's first byte.

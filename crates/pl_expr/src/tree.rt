@@ -1,5 +1,5 @@
 ghost use Rattle.std.specs.Prelude.{◌≡◌, ◌∷◌, [], ◌++◌, ◌+◌, ◌<◌, ◌^◌, ◌-◌, max, map, length, IfOk, OnOk};
-ghost use Rattle.pl_expr.specs.Trees.{depth_of, deepest};
+ghost use Rattle.pl_expr.specs.Trees.{depth_of, deepest, is_projection};
 
 use crate::expr::{Expr, Function};
 use pl_base::{Boxed, List, Memory, Text, Value};
@@ -72,6 +72,13 @@ impl Tree {
             expr: Expr::Project(of, names),
             depth,
         })
+    }
+
+    /// Whether the last tail is a projection.
+    pub fn is_projection(&self) -> bool
+        ensures { result ≡ is_projection self.now.expr }
+    {
+        matches!(self.expr, Expr::Project(..))
     }
 
     /// A call.

@@ -315,6 +315,16 @@ not(|50|.5|) => E7 200
 not(|50|]|) => E1 200
 not(|50||) => E4 200
 not(|10|a.b|) => none
+not(|48|a.*.b|) => none
+not(|48|a.*.|) => E1 196
+not(|48|a.*.1|) => E1 196
+not(|48|a.*. b|) => E1 196
+not(|48|a.*..b|) => E1 196
+not(|48|a.*.b.|) => E1 198
+not(|48|a.* .|) => E6 196
+not(|48|a.*.*|) => E6 195
+not(|48|a.*[0]|) => E6 195
+not(|48|a.b.|) => E6 195
 a[|49|b|] => none
 a[|50|b|] => E6 99
 |49|a|.b => none
@@ -354,6 +364,29 @@ fn refuses_trees_deeper_than_fifty(rt: HostRuntime) -> Result<(), Fail> {
         )?
         .as_str(),
         ""
+    );
+    Ok(())
+}
+
+/// Names make a projection no deeper, so a dot right behind the deepest one may begin a name.
+#[test]
+fn reads_on_behind_the_deepest_projection(rt: HostRuntime) -> Result<(), Fail> {
+    let alloc = rt.alloc();
+    let mut text = nested(alloc, "", 48, "r", ".a")?;
+    text.push_str(".*.")?;
+    assert_eq!(rt;
+        fault_of(alloc, Mode::Compile, text.as_str())?.as_str(),
+        "E1 100"
+    );
+    text.push_str("b")?;
+    assert_eq!(rt;
+        fault_of(alloc, Mode::Compile, text.as_str())?.as_str(),
+        "none"
+    );
+    text.push_str(" .")?;
+    assert_eq!(rt;
+        fault_of(alloc, Mode::Compile, text.as_str())?.as_str(),
+        "E6 102"
     );
     Ok(())
 }

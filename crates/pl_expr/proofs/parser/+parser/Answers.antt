@@ -12,7 +12,7 @@ read_tails-returns-then-not-begins_tail-clause-gives t c =
 pub read_tails-returns-then-tree-depth-clause-gives : goal.read_tails-returns-then-tree-depth-clause-gives
 read_tails-returns-then-tree-depth-clause-gives t c =
     let deep : c.args.depth ≤ depth_of c.tails.tree.expr = omega (arith, c.tails.tree.deep) in
-    rw c.stop_at.ensures (continues_deep (inner_of c.args.mode c.args.depth) c.args.depth c.tails.tree.expr c.tails.rest.now _ _ c.tails.invariant.reading c.skip_blanks-here.ensures (sym c.if-not-begins_tail.ensures) deep)
+    rw c.deep_stop.ensures (continues_deep (inner_of c.args.mode c.args.depth) c.args.depth c.tails.tree.expr c.tails.rest.now _ _ c.tails.invariant.reading c.skip_blanks-here.ensures (sym c.if-not-begins_tail.ensures) deep)
 
 pub read_tails-returns-in_err-next-clause-gives : goal.read_tails-returns-in_err-next-clause-gives
 read_tails-returns-in_err-next-clause-gives t c =
