@@ -5,7 +5,8 @@ use Rattle.std.specs.List.{find, list_any, filter_map, cons_option}
 use Rattle.std.proofs.lemmas.List.{at_drop_more, append-nil}
 use Rattle.std.proofs.lemmas.List.Elements.{filter_map-append}
 use Rattle.pl_base.specs.declared.value.MarkedNode.{MarkedNode}
-use Rattle.pl_eval.specs.LookUps.{member, member_behind}
+use Rattle.pl_base.specs.declared.value.Value.{Value}
+use Rattle.pl_eval.specs.LookUps.{member, member_behind, found, found_behind}
 
 pub find_drop_yes : {X : Type 0} (p : X → Bool) (xs : List X) (i : ℕ) (d : X) → i < length xs → p (get_or xs i d) ≡ true → find p (drop i xs) ≡ Some (get_or xs i d)
 find_drop_yes p xs i d within passes = at_drop_more (find p) xs i d within ∙ rw passes refl
@@ -24,6 +25,12 @@ behind_some names i d node next within there = at_drop_more (λ rest. member_beh
 
 pub behind_none : (names : List (List ℕ)) (i : ℕ) (d : List ℕ) (node : MarkedNode) → i < length names → member (get_or names i d) node.value ≡ None → member_behind (drop i names) node ≡ None
 behind_none names i d node within lacking = at_drop_more (λ rest. member_behind rest node) names i d within ∙ rw lacking refl
+
+pub path_some : (path : List Value) (i : ℕ) (d : Value) (node next : MarkedNode) → i < length path → found node.value (get_or path i d) ≡ Some next → found_behind (drop i path) node ≡ found_behind (drop (i + 1) path) next
+path_some path i d node next within there = at_drop_more (λ rest. found_behind rest node) path i d within ∙ rw there refl
+
+pub path_none : (path : List Value) (i : ℕ) (d : Value) (node : MarkedNode) → i < length path → found node.value (get_or path i d) ≡ None → found_behind (drop i path) node ≡ None
+path_none path i d node within lacking = at_drop_more (λ rest. found_behind rest node) path i d within ∙ rw lacking refl
 
 pub slice_get_is : {X : Type 0} (xs : List X) (i : ℕ) (d : X) → i < length xs → slice_get xs i ≡ Some (get_or xs i d)
 slice_get_is [] i d within = absurd (omega (arith, within))

@@ -10,14 +10,18 @@ use Rattle.pl_base.specs.declared.value.Value.{Value, Null, Bool as Truth, Numbe
 use Rattle.pl_base.specs.declared.value.Value.TheOpen as layer
 use Rattle.pl_base.specs.declared.value.MarkedNode.{MarkedNode}
 use Rattle.pl_expr.specs.Conversions.{bool_of, cast_text, order_of, equals}
-use Rattle.pl_expr.specs.declared.expr.Function.{Function}
-use Rattle.pl_expr.specs.declared.expr.Function.TheVariants.{Not, Length, Lower, Upper, Trim, Xor, Eq, Ne, Lt, Le, Gt, Ge, Contains, StartsWith, EndsWith, ContainsValue, Join, Split, Replace, Format}
 use Rattle.pl_texts.specs.Matching.{begins, ends, holds}
 use Rattle.pl_eval.specs.Texts.{searched, lower_of, upper_of, trim_of, join_of, split_of, replace_of, format_of}
 use Rattle.pl_eval.specs.LookUps.{Opened}
 use Rattle.pl_eval.specs.Steps.{◌>>=◌}
 use Rattle.pl_eval.specs.declared.fault.EvalCode.{EvalCode}
 use Rattle.pl_eval.specs.declared.fault.EvalCode.TheVariants.{NotConvertible, NoLength}
+use Rattle.pl_eval.specs.declared.manner.BinaryFunction.{BinaryFunction}
+use Rattle.pl_eval.specs.declared.manner.BinaryFunction.TheVariants.{Xor, Eq, Ne, Lt, Le, Gt, Ge, Contains, StartsWith, EndsWith, ContainsValue, Join, Split}
+use Rattle.pl_eval.specs.declared.manner.Operation.{Operation}
+use Rattle.pl_eval.specs.declared.manner.Operation.TheVariants.{One, Two, Replace, Format}
+use Rattle.pl_eval.specs.declared.manner.UnaryFunction.{UnaryFunction}
+use Rattle.pl_eval.specs.declared.manner.UnaryFunction.TheVariants.{Not, Length, Lower, Upper, Trim}
 
 -- how many scalar values a text has, or items an array
 abbrev pub length_in : Opened → Result Value EvalCode
@@ -54,16 +58,15 @@ abbrev pub compared : (Ordering → Bool) → Value → Value → Result Value E
 compared test left right = ordered left right >>= λ order. Ok (Truth (test order))
 
 -- the functions of one argument
-abbrev pub of_one : Function → Value → Result Value EvalCode
+abbrev pub of_one : UnaryFunction → Value → Result Value EvalCode
 of_one Not value = Ok (Truth (not (bool_of value)))
 of_one Length value = length_of value
 of_one Lower value = lower_of value
 of_one Upper value = upper_of value
 of_one Trim value = trim_of value
-of_one function value = Ok Null
 
 -- the functions of two arguments
-abbrev pub of_two : Origin → Function → Value → Value → Result Value EvalCode
+abbrev pub of_two : Origin → BinaryFunction → Value → Value → Result Value EvalCode
 of_two here Xor left right = Ok (Truth (differ (bool_of left) (bool_of right)))
 of_two here Eq left right = Ok (Truth (equals left right))
 of_two here Ne left right = Ok (Truth (not (equals left right)))
@@ -77,19 +80,14 @@ of_two here EndsWith text sought = Ok (Truth (searched ends text sought))
 of_two here ContainsValue of sought = Ok (Truth (holds_value of sought))
 of_two here Join separator value = join_of separator value
 of_two here Split text separators = split_of here text separators
-of_two here function left right = Ok Null
 
 -- the value at a place from 0; a missing one is Null
 abbrev pub value_at : List MarkedNode → ℕ → Value
 value_at nodes at = option_map_or (λ node. node.value) (slice_get nodes at) Null
 
 -- a function that looks at the values of all its arguments
-abbrev pub applied : Origin → Function → List MarkedNode → Result Value EvalCode
-applied here Not nodes = of_one Not (value_at nodes 0)
-applied here Length nodes = of_one Length (value_at nodes 0)
-applied here Lower nodes = of_one Lower (value_at nodes 0)
-applied here Upper nodes = of_one Upper (value_at nodes 0)
-applied here Trim nodes = of_one Trim (value_at nodes 0)
+abbrev pub applied : Origin → Operation → List MarkedNode → Result Value EvalCode
+applied here (One function) nodes = of_one function (value_at nodes 0)
+applied here (Two function) nodes = of_two here function (value_at nodes 0) (value_at nodes 1)
 applied here Replace nodes = replace_of (value_at nodes 0) (value_at nodes 1) (value_at nodes 2)
 applied here Format nodes = format_of (value_at nodes 0) (map (λ node. cast_text node.value) (drop 1 nodes))
-applied here function nodes = of_two here function (value_at nodes 0) (value_at nodes 1)

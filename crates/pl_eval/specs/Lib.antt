@@ -1,5 +1,6 @@
 pub mod Applied
 pub mod Gives
+pub mod Held
 pub mod Known
 pub mod LookUps
 pub mod Means

@@ -8,8 +8,8 @@ use Rattle.pl_base.specs.declared.value.Value.TheOpen.{Value-F}
 use Rattle.pl_base.specs.declared.value.Value.TheOpen as layer
 use Rattle.pl_base.specs.declared.value.MarkedNode.{MarkedNode}
 use Rattle.pl_base.specs.declared.value.MarkedPair.{MarkedPair}
-use Rattle.pl_eval.specs.declared.names.RootMember.{RootMember}
-use Rattle.pl_eval.specs.declared.names.RootMember.TheVariants.{NoRoot, Missing, Found}
+use Rattle.pl_eval.specs.declared.parts.RootPart.{RootPart}
+use Rattle.pl_eval.specs.declared.parts.RootPart.TheVariants.{NoRoot, Missing, Found}
 use Rattle.pl_eval.specs.Known.{Known, same_name, root_of}
 use Rattle.pl_expr.specs.Conversions.{number_of_value, text_of}
 
@@ -40,14 +40,19 @@ found_in value at = None
 abbrev pub found : Value → Value → Option MarkedNode
 found of at = found_in (out-Value of) at
 
--- what an index finds in the value of a root, where there is such a root
-abbrev pub member_of : Option (Option MarkedNode) → RootMember
-member_of None = NoRoot
-member_of (Some None) = Missing
-member_of (Some (Some node)) = Found node
+-- What the indices of a path find in a node: each is looked up in what the one before it found.
+abbrev pub found_behind : List Value → MarkedNode → Option MarkedNode
+found_behind [] node = Some node
+found_behind (at ∷ path) node = option_and_then (found_behind path) (found node.value at)
 
-abbrev pub root_member : Known → List ℕ → Value → RootMember
-root_member known root at = member_of (option_map (λ node. found node.value at) (root_of known root))
+-- what a path finds in the value of a root, where there is such a root
+abbrev pub part_of : Option (Option MarkedNode) → RootPart
+part_of None = NoRoot
+part_of (Some None) = Missing
+part_of (Some (Some node)) = Found node
+
+abbrev pub root_part : Known → List ℕ → List Value → RootPart
+root_part known root path = part_of (option_map (found_behind path) (root_of known root))
 
 -- a look-up hands on what it finds, and makes Null where there is nothing
 abbrev pub looked_up : Origin → Value → Value → MarkedNode

@@ -10,7 +10,7 @@ use Rattle.pl_expr.specs.declared.expr.Expr.{Expr}
 use Rattle.pl_expr.specs.declared.expr.Expr.TheOpen.{Expr-F, Lit, Root, Index, Project, Call}
 use Rattle.pl_expr.specs.declared.expr.Expr.TheFolds.{fold-Expr}
 use Rattle.pl_expr.specs.declared.expr.Function.{Function}
-use Rattle.pl_expr.specs.declared.expr.Function.TheVariants.{Iif, And, Or, Coalesce, In, NotIn, Always, Canceled, Failed, Succeeded, SucceededOrFailed}
+use Rattle.pl_expr.specs.declared.expr.Function.TheVariants.{Not, Length, Lower, Upper, Trim, Xor, Eq, Ne, Lt, Le, Gt, Ge, Contains, StartsWith, EndsWith, ContainsValue, Join, Split, Replace, Iif, And, Or, Coalesce, In, NotIn, Format, Always, Canceled, Failed, Succeeded, SucceededOrFailed}
 use Rattle.pl_eval.specs.declared.fault.EvalCode.{EvalCode}
 use Rattle.pl_eval.specs.declared.fault.EvalCode.TheVariants.{UnknownRoot}
 use Rattle.pl_eval.specs.Known.{Known, root_of}
@@ -18,6 +18,9 @@ use Rattle.pl_eval.specs.LookUps.{made, looked_up, projected}
 use Rattle.pl_eval.specs.Applied.{applied}
 use Rattle.pl_eval.specs.declared.manner.Manner.{Manner}
 use Rattle.pl_eval.specs.declared.manner.Manner.TheVariants.{Choosing, All, Any, First, Among, NotAmong, Status, Strict}
+use Rattle.pl_eval.specs.declared.manner.Operation.TheVariants as operation
+use Rattle.pl_eval.specs.declared.manner.UnaryFunction.TheVariants as unary
+use Rattle.pl_eval.specs.declared.manner.BinaryFunction.TheVariants as binary
 use Rattle.pl_eval.specs.Statuses.{status_of}
 use Rattle.pl_eval.specs.Steps.{◌>>=◌}
 
@@ -112,7 +115,7 @@ called_by First known here function arguments = first_filled here arguments
 called_by Among known here function arguments = told here (first_is_among here arguments)
 called_by NotAmong known here function arguments = contrary here (first_is_among here arguments)
 called_by Status known here function arguments = values (up_to (most_of function) arguments) >>= status known here function
-called_by Strict known here function arguments = values (up_to (most_of function) arguments) >>= λ nodes. applied here function nodes >>= answer here
+called_by (Strict operation) known here function arguments = values (up_to (most_of function) arguments) >>= λ nodes. applied here operation nodes >>= answer here
 
 abbrev pub manner_of : Function → Manner
 manner_of Iif = Choosing
@@ -126,7 +129,26 @@ manner_of Canceled = Status
 manner_of Failed = Status
 manner_of Succeeded = Status
 manner_of SucceededOrFailed = Status
-manner_of function = Strict
+manner_of Not = Strict (operation.One unary.Not)
+manner_of Length = Strict (operation.One unary.Length)
+manner_of Lower = Strict (operation.One unary.Lower)
+manner_of Upper = Strict (operation.One unary.Upper)
+manner_of Trim = Strict (operation.One unary.Trim)
+manner_of Xor = Strict (operation.Two binary.Xor)
+manner_of Eq = Strict (operation.Two binary.Eq)
+manner_of Ne = Strict (operation.Two binary.Ne)
+manner_of Lt = Strict (operation.Two binary.Lt)
+manner_of Le = Strict (operation.Two binary.Le)
+manner_of Gt = Strict (operation.Two binary.Gt)
+manner_of Ge = Strict (operation.Two binary.Ge)
+manner_of Contains = Strict (operation.Two binary.Contains)
+manner_of StartsWith = Strict (operation.Two binary.StartsWith)
+manner_of EndsWith = Strict (operation.Two binary.EndsWith)
+manner_of ContainsValue = Strict (operation.Two binary.ContainsValue)
+manner_of Join = Strict (operation.Two binary.Join)
+manner_of Split = Strict (operation.Two binary.Split)
+manner_of Replace = Strict operation.Replace
+manner_of Format = Strict operation.Format
 
 -- a call, by the meanings of its arguments
 abbrev pub called : Known → Origin → Function → List Meaning → Meaning
@@ -141,10 +163,6 @@ rooted (Some node) = Ok node
 -- a look-up by an index: a fault of what is looked in comes first
 abbrev pub indexed : Origin → Meaning → Meaning → Meaning
 indexed here of at = of >>= λ node. at >>= λ index. Ok (looked_up here node.value index.value)
-
--- the same by the value of an index that has no fault
-abbrev pub indexed_by : Origin → Meaning → Value → Meaning
-indexed_by here of index = of >>= λ node. Ok (looked_up here node.value index)
 
 abbrev pub means_step : Known → Origin → Expr-F Meaning → Meaning
 means_step known here (Lit value) = answer here value

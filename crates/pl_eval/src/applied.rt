@@ -5,9 +5,10 @@ ghost use Rattle.pl_eval.specs.Applied.{length_of, holds_value, ordered, of_one,
 ghost use Rattle.pl_eval.specs.Gives.{Gives};
 
 use crate::fault::{EvalCode, EvalFault};
+use crate::manner::{BinaryFunction, UnaryFunction};
 use crate::texts::{join_value, lower_value, split_value, trim_value, upper_value};
 use pl_base::{List, MarkedNode, MarkedPair, Memory, Origin, Text, Value};
-use pl_expr::{Function, loosely_equal, order, to_bool, to_text};
+use pl_expr::{loosely_equal, order, to_bool, to_text};
 use pl_texts::{contains, count, ends_with, starts_with};
 use std::alloc::Global;
 use std::cmp::Ordering;
@@ -28,16 +29,15 @@ fn length_value(value: &Value) -> Result<Value, EvalFault>
 }
 
 /// A function of one argument.
-pub fn apply_one(alloc: Global, function: Function, value: &Value) -> Result<Value, EvalFault>
+pub fn apply_one(alloc: Global, function: UnaryFunction, value: &Value) -> Result<Value, EvalFault>
     ensures { Gives result (of_one function value.now) }
 {
     match function {
-        Function::Not => Ok(Value::Bool(!to_bool(value))),
-        Function::Length => length_value(value),
-        Function::Lower => lower_value(alloc, value),
-        Function::Upper => upper_value(alloc, value),
-        Function::Trim => trim_value(alloc, value),
-        _ => Ok(Value::Null),
+        UnaryFunction::Not => Ok(Value::Bool(!to_bool(value))),
+        UnaryFunction::Length => length_value(value),
+        UnaryFunction::Lower => lower_value(alloc, value),
+        UnaryFunction::Upper => upper_value(alloc, value),
+        UnaryFunction::Trim => trim_value(alloc, value),
     }
 }
 
@@ -97,7 +97,7 @@ fn cast_both(alloc: Global, left: &Value, right: &Value) -> Result<(Text, Text),
 /// A function of two arguments.
 pub fn apply_two(
     alloc: Global,
-    function: Function,
+    function: BinaryFunction,
     left: &Value,
     right: &Value,
     here: &Origin,
@@ -105,28 +105,27 @@ pub fn apply_two(
     ensures { Gives result (of_two here.now function left.now right.now) }
 {
     match function {
-        Function::Xor => Ok(Value::Bool(to_bool(left) != to_bool(right))),
-        Function::Eq => Ok(Value::Bool(loosely_equal(alloc, left, right)?)),
-        Function::Ne => Ok(Value::Bool(!loosely_equal(alloc, left, right)?)),
-        Function::Lt => Ok(Value::Bool(compare(alloc, left, right)?.is_lt())),
-        Function::Le => Ok(Value::Bool(compare(alloc, left, right)?.is_le())),
-        Function::Gt => Ok(Value::Bool(compare(alloc, left, right)?.is_gt())),
-        Function::Ge => Ok(Value::Bool(compare(alloc, left, right)?.is_ge())),
-        Function::Contains => {
+        BinaryFunction::Xor => Ok(Value::Bool(to_bool(left) != to_bool(right))),
+        BinaryFunction::Eq => Ok(Value::Bool(loosely_equal(alloc, left, right)?)),
+        BinaryFunction::Ne => Ok(Value::Bool(!loosely_equal(alloc, left, right)?)),
+        BinaryFunction::Lt => Ok(Value::Bool(compare(alloc, left, right)?.is_lt())),
+        BinaryFunction::Le => Ok(Value::Bool(compare(alloc, left, right)?.is_le())),
+        BinaryFunction::Gt => Ok(Value::Bool(compare(alloc, left, right)?.is_gt())),
+        BinaryFunction::Ge => Ok(Value::Bool(compare(alloc, left, right)?.is_ge())),
+        BinaryFunction::Contains => {
             let (text, sought) = cast_both(alloc, left, right)?;
             Ok(Value::Bool(contains(alloc, &text, &sought)?))
         }
-        Function::StartsWith => {
+        BinaryFunction::StartsWith => {
             let (text, sought) = cast_both(alloc, left, right)?;
             Ok(Value::Bool(starts_with(&text, &sought)))
         }
-        Function::EndsWith => {
+        BinaryFunction::EndsWith => {
             let (text, sought) = cast_both(alloc, left, right)?;
             Ok(Value::Bool(ends_with(&text, &sought)))
         }
-        Function::ContainsValue => Ok(Value::Bool(contains_value(alloc, left, right)?)),
-        Function::Join => join_value(alloc, left, right),
-        Function::Split => split_value(alloc, left, right, here),
-        _ => Ok(Value::Null),
+        BinaryFunction::ContainsValue => Ok(Value::Bool(contains_value(alloc, left, right)?)),
+        BinaryFunction::Join => join_value(alloc, left, right),
+        BinaryFunction::Split => split_value(alloc, left, right, here),
     }
 }

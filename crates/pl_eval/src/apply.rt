@@ -6,9 +6,9 @@ ghost use Rattle.pl_eval.specs.Gives.{Gives};
 
 use crate::applied::{apply_one, apply_two};
 use crate::fault::EvalFault;
+use crate::manner::Operation;
 use crate::texts::{cast_items, format_value, replace_value};
 use pl_base::{List, MarkedNode, Memory, Origin, Text, Value};
-use pl_expr::Function;
 use std::alloc::Global;
 
 /// The value at a place from 0, or this Null where there is none.
@@ -32,30 +32,30 @@ fn cast_others(alloc: Global, nodes: &List<MarkedNode>) -> Result<List<Text>, Me
     }
 }
 
-/// A function that looks at the values of all its arguments. A missing one counts as Null.
+/// What a call makes of the values of all its arguments. A missing one counts as Null.
 pub fn apply(
     alloc: Global,
-    function: Function,
+    operation: Operation,
     nodes: &List<MarkedNode>,
     here: &Origin,
 ) -> Result<Value, EvalFault>
-    ensures { Gives result (applied here.now function nodes.now) }
+    ensures { Gives result (applied here.now operation nodes.now) }
 {
     let null = Value::Null;
     let first = value_at(nodes, 0, &null);
-    match function {
-        Function::Not | Function::Length | Function::Lower | Function::Upper | Function::Trim => {
-            apply_one(alloc, function, first)
+    match operation {
+        Operation::One(function) => apply_one(alloc, function, first),
+        Operation::Two(function) => {
+            apply_two(alloc, function, first, value_at(nodes, 1, &null), here)
         }
-        Function::Replace => {
+        Operation::Replace => {
             let sought = value_at(nodes, 1, &null);
             let new = value_at(nodes, 2, &null);
             replace_value(alloc, first, sought, new)
         }
-        Function::Format => {
+        Operation::Format => {
             let texts = cast_others(alloc, nodes)?;
             format_value(alloc, first, &texts)
         }
-        _ => apply_two(alloc, function, first, value_at(nodes, 1, &null), here),
     }
 }

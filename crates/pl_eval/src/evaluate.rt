@@ -1,20 +1,21 @@
 ghost use Rattle.std.specs.Prelude.{◌≡◌, Result, Bool, true, not, length, map, IfOk};
 ghost use Rattle.pl_expr.specs.Conversions.{equals, is_null};
 ghost use Rattle.pl_expr.specs.Functions.{most_of};
-ghost use Rattle.pl_eval.specs.Known.{root_of};
 ghost use Rattle.pl_eval.specs.Statuses.{is_status};
 ghost use Rattle.pl_eval.specs.declared.fault.EvalCode.{EvalCode as Code};
-ghost use Rattle.pl_eval.specs.Means.{Meaning, means, called, rooted, indexed, indexed_by, told, contrary, argument, filled, counted, up_to, all_true, any_true, first_filled, first_is_among, values, status, chosen};
+ghost use Rattle.pl_eval.specs.Means.{Meaning, means, called, told, contrary, argument, filled, counted, up_to, all_true, any_true, first_filled, first_is_among, values, status, chosen};
 ghost use Rattle.pl_eval.specs.Gives.{Gives};
+ghost use Rattle.pl_eval.specs.Held.{Holds};
 
 use crate::apply::apply;
-use crate::fault::{EvalCode, EvalFault};
-use crate::look_ups::{look_up, make};
+use crate::fault::EvalFault;
+use crate::held::{Held, look_behind, value_of};
+use crate::look_ups::make;
 use crate::manner::{Manner, manner_of};
-use crate::names::{Names, RootMember};
+use crate::names::Names;
 use crate::projecting::project;
 use crate::texts::cast_items;
-use pl_base::{ExactCopy, List, MarkedNode, Memory, Origin, Text, Value};
+use pl_base::{ExactCopy, List, MarkedNode, Memory, Origin, Value};
 use pl_expr::{Expr, Function, loosely_equal, to_bool};
 use std::alloc::Global;
 
@@ -38,53 +39,6 @@ pub fn eval<N: Names>(
     ensures { Gives result (means (N.known names.now) here.now expr.now) }
 {
     evaluate(alloc, expr, names, here)
-}
-
-/// The value of a root. UnknownRoot comes where there is no such root.
-fn root<N: Names>(alloc: Global, name: &Text, names: &N) -> Result<MarkedNode, EvalFault>
-    ensures { Gives result (rooted (root_of (N.known names.now) name.now)) }
-{
-    match names.find(alloc, name)? {
-        Some(node) => Ok(node),
-        None => Err(EvalFault::Refused(EvalCode::UnknownRoot)),
-    }
-}
-
-/// What an index finds in a root. An unknown root comes before a fault of the index.
-fn root_index<N: Names>(
-    alloc: Global,
-    name: &Text,
-    at: Result<MarkedNode, EvalFault>,
-    names: &N,
-    here: &Origin,
-) -> Result<MarkedNode, EvalFault>
-    ensures { (meant : Meaning) → Gives at meant → Gives result (indexed here.now (rooted (root_of (N.known names.now) name.now)) meant) }
-{
-    match at {
-        Ok(at) => root_member(alloc, name, &at.value, names, here),
-        Err(EvalFault::Memory) => Err(EvalFault::Memory),
-        Err(fault) => {
-            root(alloc, name, names)?;
-            Err(fault)
-        }
-    }
-}
-
-/// What an index finds in a root, or a Null that is made where it finds nothing.
-fn root_member<N: Names>(
-    alloc: Global,
-    name: &Text,
-    at: &Value,
-    names: &N,
-    here: &Origin,
-) -> Result<MarkedNode, EvalFault>
-    ensures { Gives result (indexed_by here.now (rooted (root_of (N.known names.now) name.now)) at.now) }
-{
-    match names.member(alloc, name, at)? {
-        RootMember::NoRoot => Err(EvalFault::Refused(EvalCode::UnknownRoot)),
-        RootMember::Missing => Ok(make(alloc, Value::Null, here)?),
-        RootMember::Found(node) => Ok(node),
-    }
 }
 
 /// An answer as a value that is made here.
@@ -168,26 +122,40 @@ fn evaluate<N: Names>(
 ) -> Result<MarkedNode, EvalFault>
     ensures { Gives result (means (N.known names.now) here.now expr.now) }
 {
+    match hold(alloc, expr, names, here) {
+        Ok(held) => value_of(alloc, held, names, here),
+        Err(fault) => Err(fault),
+    }
+}
+
+/// What an expression stands for, a part of a root without looking it up.
+#[cycle(evaluation)]
+fn hold<'e, N: Names>(
+    alloc: Global,
+    expr: &'e Expr,
+    names: &N,
+    here: &Origin,
+) -> Result<Held<'e>, EvalFault>
+    ensures { Holds (N.known names.now) here.now result (means (N.known names.now) here.now expr.now) }
+{
     match expr {
-        Expr::Lit(value) => Ok(make(alloc, value.copy(alloc)?, here)?),
-        Expr::Root(name) => root(alloc, name, names),
-        Expr::Index(of, at) => match of.get() {
-            Expr::Root(root) => {
+        Expr::Lit(value) => Ok(Held::Node(make(alloc, value.copy(alloc)?, here)?)),
+        Expr::Root(name) => Ok(Held::Part(name, List::new(alloc))),
+        Expr::Index(of, at) => match hold(alloc, of.get(), names, here) {
+            Ok(of) => {
                 let at = evaluate(alloc, at.get(), names, here);
-                root_index(alloc, root, at, names, here)
+                look_behind(alloc, of, at, names, here)
             }
-            of => {
-                let of = evaluate(alloc, of, names, here)?;
-                let at = evaluate(alloc, at.get(), names, here)?;
-                Ok(look_up(alloc, of.value, &at.value, here)?)
-            }
+            Err(fault) => Err(fault),
         },
         Expr::Project(of, members) => {
             let of = evaluate(alloc, of.get(), names, here)?;
             let found = project(alloc, of.value, members)?;
-            Ok(make(alloc, found, here)?)
+            Ok(Held::Node(make(alloc, found, here)?))
         }
-        Expr::Call(function, arguments) => call(alloc, *function, arguments, names, here),
+        Expr::Call(function, arguments) => {
+            Ok(Held::Node(call(alloc, *function, arguments, names, here)?))
+        }
     }
 }
 
@@ -212,9 +180,9 @@ fn call<N: Names>(
             let nodes = evaluate_all(alloc, function, arguments, names, here)?;
             status(alloc, function, &nodes, names, here)
         }
-        Manner::Strict => {
+        Manner::Strict(operation) => {
             let nodes = evaluate_all(alloc, function, arguments, names, here)?;
-            Ok(make(alloc, apply(alloc, function, &nodes, here)?, here)?)
+            Ok(make(alloc, apply(alloc, operation, &nodes, here)?, here)?)
         }
     }
 }

@@ -5,13 +5,16 @@ mod applied;
 mod apply;
 mod evaluate;
 mod fault;
+mod held;
 mod look_ups;
 mod manner;
 mod names;
+mod parts;
 mod projecting;
 mod texts;
 
 pub use evaluate::eval;
 pub use fault::{EvalCode, EvalFault};
 pub use look_ups::{find_member, is_named, place_of};
-pub use names::{Names, RootMember};
+pub use names::Names;
+pub use parts::{RootPart, find_behind, part_behind};

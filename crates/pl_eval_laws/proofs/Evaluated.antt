@@ -17,7 +17,6 @@ use Rattle.pl_expr.specs.declared.expr.Expr.TheOpen.{Expr-F}
 use Rattle.pl_expr.specs.declared.expr.Expr.TheOpen as layer
 use Rattle.pl_expr.specs.declared.expr.Expr.TheViews.{out-Expr, roll-Expr}
 use Rattle.pl_expr.specs.declared.expr.Function.{Function}
-use Rattle.pl_expr.specs.declared.expr.Function.TheVariants as function
 use Rattle.pl_expr.specs.declared.expr.Mode.{Mode}
 use Rattle.pl_expr.specs.Given.{IsLiteral, AreGiven, IsGivenBy, IsGiven}
 use Rattle.pl_expr.proofs.Again.{layer_is}
@@ -25,6 +24,12 @@ use Rattle.pl_texts.specs.declared.fault.TextFault.{TextFault}
 use Rattle.pl_eval.specs.declared.fault.EvalCode.{EvalCode}
 use Rattle.pl_eval.specs.declared.manner.Manner.{Manner}
 use Rattle.pl_eval.specs.declared.manner.Manner.TheVariants as manner
+use Rattle.pl_eval.specs.declared.manner.Operation.{Operation}
+use Rattle.pl_eval.specs.declared.manner.Operation.TheVariants as operation
+use Rattle.pl_eval.specs.declared.manner.UnaryFunction.{UnaryFunction}
+use Rattle.pl_eval.specs.declared.manner.UnaryFunction.TheVariants as unary
+use Rattle.pl_eval.specs.declared.manner.BinaryFunction.{BinaryFunction}
+use Rattle.pl_eval.specs.declared.manner.BinaryFunction.TheVariants as binary
 use Rattle.pl_eval.specs.Known.{Known, same_name, root_of}
 use Rattle.pl_eval.specs.LookUps.{Opened, made, property, item_at, found_in, found, looked_up}
 use Rattle.pl_eval.specs.LookUps.{member_in, member, member_behind, items_in, items_of, projected}
@@ -166,43 +171,38 @@ module _ (P L : Origin → Type 0) (here : Origin) (made_here : P here) where
   compared_made test (Ok order) = truth_node P L here made_here (test order)
   compared_made test (Err code) = tt
 
-  one_made : (function : Function) (one : Value) → IfOk (of_one function one) Made
-  one_made function.Not one = truth_node P L here made_here _
-  one_made function.Length one = length_made (out-Value one)
-  one_made function.Lower one = text_made _
-  one_made function.Upper one = text_made _
-  one_made function.Trim one = text_made _
-  one_made other one = null_node P L here made_here
+  one_made : (function : UnaryFunction) (one : Value) → IfOk (of_one function one) Made
+  one_made unary.Not one = truth_node P L here made_here _
+  one_made unary.Length one = length_made (out-Value one)
+  one_made unary.Lower one = text_made _
+  one_made unary.Upper one = text_made _
+  one_made unary.Trim one = text_made _
 
   two_made :
-      (function : Function) (left right : Value) →
+      (function : BinaryFunction) (left right : Value) →
       IfOk (of_two here function left right) Made
-  two_made function.Xor left right = truth_node P L here made_here _
-  two_made function.Eq left right = truth_node P L here made_here _
-  two_made function.Ne left right = truth_node P L here made_here _
-  two_made function.Lt left right = compared_made is_lt (ordered left right)
-  two_made function.Le left right = compared_made is_le (ordered left right)
-  two_made function.Gt left right = compared_made is_gt (ordered left right)
-  two_made function.Ge left right = compared_made is_ge (ordered left right)
-  two_made function.Contains left right = truth_node P L here made_here _
-  two_made function.StartsWith left right = truth_node P L here made_here _
-  two_made function.EndsWith left right = truth_node P L here made_here _
-  two_made function.ContainsValue left right = truth_node P L here made_here _
-  two_made function.Join left right = text_made _
-  two_made function.Split left right = texts_made _
-  two_made other left right = null_node P L here made_here
+  two_made binary.Xor left right = truth_node P L here made_here _
+  two_made binary.Eq left right = truth_node P L here made_here _
+  two_made binary.Ne left right = truth_node P L here made_here _
+  two_made binary.Lt left right = compared_made is_lt (ordered left right)
+  two_made binary.Le left right = compared_made is_le (ordered left right)
+  two_made binary.Gt left right = compared_made is_gt (ordered left right)
+  two_made binary.Ge left right = compared_made is_ge (ordered left right)
+  two_made binary.Contains left right = truth_node P L here made_here _
+  two_made binary.StartsWith left right = truth_node P L here made_here _
+  two_made binary.EndsWith left right = truth_node P L here made_here _
+  two_made binary.ContainsValue left right = truth_node P L here made_here _
+  two_made binary.Join left right = text_made _
+  two_made binary.Split left right = texts_made _
 
   applied_made :
-      (function : Function) (nodes : List MarkedNode) →
-      IfOk (applied here function nodes) Made
-  applied_made function.Not nodes = one_made function.Not (value_at nodes 0)
-  applied_made function.Length nodes = one_made function.Length (value_at nodes 0)
-  applied_made function.Lower nodes = one_made function.Lower (value_at nodes 0)
-  applied_made function.Upper nodes = one_made function.Upper (value_at nodes 0)
-  applied_made function.Trim nodes = one_made function.Trim (value_at nodes 0)
-  applied_made function.Replace nodes = text_made _
-  applied_made function.Format nodes = text_made _
-  applied_made other nodes = two_made other (value_at nodes 0) (value_at nodes 1)
+      (operation : Operation) (nodes : List MarkedNode) →
+      IfOk (applied here operation nodes) Made
+  applied_made (operation.One function) nodes = one_made function (value_at nodes 0)
+  applied_made (operation.Two function) nodes =
+      two_made function (value_at nodes 0) (value_at nodes 1)
+  applied_made operation.Replace nodes = text_made _
+  applied_made operation.Format nodes = text_made _
 
   -- ---- calls
 
@@ -268,11 +268,11 @@ module _ (P L : Origin → Type 0) (here : Origin) (made_here : P here) where
   status_from known function (Err code) = tt
 
   strict_from :
-      (function : Function) (nodes : Result (List MarkedNode) EvalCode) →
-      IfOk (nodes >>= λ nodes. applied here function nodes >>= answer here) (NodeFrom P L)
-  strict_from function (Ok nodes) =
-      answer_from (applied here function nodes) (applied_made function nodes)
-  strict_from function (Err code) = tt
+      (operation : Operation) (nodes : Result (List MarkedNode) EvalCode) →
+      IfOk (nodes >>= λ nodes. applied here operation nodes >>= answer here) (NodeFrom P L)
+  strict_from operation (Ok nodes) =
+      answer_from (applied here operation nodes) (applied_made operation nodes)
+  strict_from operation (Err code) = tt
 
   called_from :
       (by : Manner) (known : Known) (function : Function) (arguments : List Meaning) →
@@ -285,7 +285,7 @@ module _ (P L : Origin → Type 0) (here : Origin) (made_here : P here) where
   called_from manner.Among known function arguments all = told_from _
   called_from manner.NotAmong known function arguments all = contrary_from _
   called_from manner.Status known function arguments all = status_from known function _
-  called_from manner.Strict known function arguments all = strict_from function _
+  called_from (manner.Strict operation) known function arguments all = strict_from operation _
 
   -- ---- expressions
 

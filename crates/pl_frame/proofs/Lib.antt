@@ -1,6 +1,7 @@
 pub mod Bound
 pub mod Doubled
 pub mod Found
+pub mod Moved
 pub mod Named
 pub mod Places
 pub mod Refusing

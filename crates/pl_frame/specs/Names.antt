@@ -21,12 +21,14 @@ use Rattle.pl_frame.specs.Trees.{moved, all_moved}
 
 -- ---- the parameters, in the order of their declarations
 
--- What an expression at that place takes of a parameter: every node and key of what was given
--- crosses the parameter once more; a default is a literal.
+-- What an expression at that place takes of a node of a parameter's value: every node and key of
+-- what was given crosses the parameter once more; a default is a literal.
+abbrev pub taken_of : Place → Parameter → MarkedNode → MarkedNode
+taken_of place parameter node =
+    if parameter.given then moved (across (Argument parameter.name place)) node else node
+
 abbrev pub taken : Place → Parameter → MarkedNode
-taken place parameter =
-    if parameter.given then moved (across (Argument parameter.name place)) parameter.value
-    else parameter.value
+taken place parameter = taken_of place parameter parameter.value
 
 -- its name counts as written where it is declared
 abbrev pub parameter_pair : Frame → Place → Parameter → MarkedPair

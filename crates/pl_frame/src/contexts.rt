@@ -1,6 +1,6 @@
 ghost use Rattle.std.specs.Prelude.{◌≡◌, map, IfOk};
 ghost use Rattle.pl_eval.specs.LookUps.{made};
-ghost use Rattle.pl_frame.specs.Names.{taken, parameter_pair, parameters_at, variable_pair};
+ghost use Rattle.pl_frame.specs.Names.{taken_of, parameter_pair, parameters_at, variable_pair};
 ghost use Rattle.pl_frame.specs.Names.{variables_at};
 ghost use Rattle.pl_frame.specs.Trees.{all_moved};
 ghost use Rattle.pl_frame.specs.Members.{made_pair};
@@ -11,17 +11,22 @@ use crate::origins::{literal_at, made_at};
 use pl_base::{Crossing, ExactCopy, List, MarkedNode, MarkedPair, Memory, Origin, Place, Value};
 use std::alloc::Global;
 
-/// What an expression at a place takes of a parameter: what was given crosses the parameter once
-/// more, and a default stays as it is.
-pub fn taken(alloc: Global, place: &Place, parameter: &Parameter) -> Result<MarkedNode, Memory>
-    ensures { IfOk result (λ node. node ≡ taken place.now parameter.now) }
+/// What an expression at a place takes of a node of a parameter's value: what was given crosses the
+/// parameter once more, and a default stays as it is.
+pub fn taken_of(
+    alloc: Global,
+    place: &Place,
+    parameter: &Parameter,
+    node: &MarkedNode,
+) -> Result<MarkedNode, Memory>
+    ensures { IfOk result (λ taken. taken ≡ taken_of place.now parameter.now node.now) }
 {
     if !parameter.given {
-        return parameter.value.copy(alloc);
+        return node.copy(alloc);
     }
     let name = parameter.name.copy(alloc)?;
     let crossing = Crossing::Argument(name, place.copy(alloc)?);
-    cross(alloc, &parameter.value, &crossing)
+    cross(alloc, node, &crossing)
 }
 
 /// The parameters as an object.
@@ -48,7 +53,7 @@ fn parameter_pair(
 {
     let key = parameter.name.copy(alloc)?;
     let key_origin = literal_at(alloc, frame, &parameter.place)?;
-    let item = taken(alloc, place, parameter)?;
+    let item = taken_of(alloc, place, parameter, &parameter.value)?;
     Ok(MarkedPair {
         key,
         key_origin,

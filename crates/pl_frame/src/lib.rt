@@ -13,6 +13,7 @@ mod members;
 mod moving;
 mod names;
 mod origins;
+mod parts;
 mod problem;
 mod variables;
 

@@ -1,19 +1,11 @@
-ghost use Rattle.std.specs.Prelude.{◌≡◌, find, map, Some, IfOk};
+ghost use Rattle.std.specs.Prelude.{◌≡◌, find, IfOk};
 ghost use Rattle.std.specs.Option.{option_copied};
-ghost use Rattle.pl_base.specs.declared.value.Value.{Object as object};
 ghost use Rattle.pl_expr.specs.Conversions.{text_of};
 ghost use Rattle.pl_eval.specs.Known.{same_name};
-ghost use Rattle.pl_eval.specs.LookUps.{found, member_of};
-ghost use Rattle.pl_frame.specs.Members.{loop_of};
-ghost use Rattle.pl_frame.specs.Names.{parameter_pair, variable_pair};
+ghost use Rattle.pl_frame.specs.Members.{loop_of, parameter_at, variable_at};
 
-use crate::contexts::{taken, variable_node};
-use crate::frame::{Frame, Loop, Parameter, Variable};
-use crate::origins::made_at;
-use pl_base::{
-    ExactCopy, List, MarkedNode, Memory, Place, SharedList, Text, Value, equals_ignoring_case,
-};
-use pl_eval::{RootMember, find_member};
+use crate::frame::{Loop, Parameter, Variable};
+use pl_base::{List, MarkedNode, Memory, SharedList, Text, Value, equals_ignoring_case};
 use pl_expr::to_text;
 use std::alloc::Global;
 
@@ -39,16 +31,6 @@ pub fn loop_named<'l>(
         }
     }
     Ok(None)
-}
-
-/// What an index finds in a value.
-pub fn member_in(alloc: Global, of: &Value, at: &Value) -> Result<RootMember, Memory>
-    ensures { IfOk result (λ member. member ≡ member_of (Some (found of.now at.now))) }
-{
-    match find_member(alloc, of, at)? {
-        Some(node) => Ok(RootMember::Found(node.copy(alloc)?)),
-        None => Ok(RootMember::Missing),
-    }
 }
 
 /// The name that an index converts to, or None for an array and an object.
@@ -89,45 +71,31 @@ fn variable_named<'v>(variables: &'v List<Variable>, name: &Text) -> Option<&'v 
     None
 }
 
-/// What an index finds in the object of the parameters.
-pub fn parameter_member(
+/// The parameter that an index finds: the first of the name that the index converts to.
+pub fn parameter_at<'p>(
     alloc: Global,
-    frame: &Frame,
-    place: &Place,
+    parameters: &'p List<Parameter>,
     at: &Value,
-) -> Result<RootMember, Memory>
+) -> Result<Option<&'p Parameter>, Memory>
     ensures { IfOk result
-        (λ member. member ≡ member_of
-        (Some (found (object (map (parameter_pair frame.now place.now) frame.now.parameters))
-        at.now))) }
+        (λ parameter. option_copied parameter ≡ parameter_at parameters.now at.now) }
 {
-    let Some(name) = name_in(alloc, at)? else {
-        return Ok(RootMember::Missing);
-    };
-    match parameter_named(&frame.parameters, &name) {
-        Some(parameter) => Ok(RootMember::Found(taken(alloc, place, parameter)?)),
-        None => Ok(RootMember::Missing),
+    match name_in(alloc, at)? {
+        Some(name) => Ok(parameter_named(parameters, &name)),
+        None => Ok(None),
     }
 }
 
-/// What an index finds in the object of the variables.
-pub fn variable_member(
+/// The variable that an index finds: the first of the name that the index converts to.
+pub fn variable_at<'v>(
     alloc: Global,
-    frame: &Frame,
-    place: &Place,
+    variables: &'v List<Variable>,
     at: &Value,
-) -> Result<RootMember, Memory>
-    ensures { IfOk result
-        (λ member. member ≡ member_of
-        (Some (found (object (map (variable_pair frame.now place.now) frame.now.variables))
-        at.now))) }
+) -> Result<Option<&'v Variable>, Memory>
+    ensures { IfOk result (λ variable. option_copied variable ≡ variable_at variables.now at.now) }
 {
-    let Some(name) = name_in(alloc, at)? else {
-        return Ok(RootMember::Missing);
-    };
-    let Some(variable) = variable_named(&frame.variables, &name) else {
-        return Ok(RootMember::Missing);
-    };
-    let here = made_at(alloc, frame, place)?;
-    Ok(RootMember::Found(variable_node(alloc, &here, variable)?))
+    match name_in(alloc, at)? {
+        Some(name) => Ok(variable_named(variables, &name)),
+        None => Ok(None),
+    }
 }

@@ -51,6 +51,15 @@ pub fn move_to(alloc: Global, value: &Value, here: &Origin) -> Result<Value, Mem
     value_by(alloc, value, &by, DEEPEST)
 }
 
+/// A tree whose nodes and keys all have that origin. Memory comes too where the tree is deeper than
+/// `DEEPEST`.
+pub fn move_node_to(alloc: Global, node: &MarkedNode, here: &Origin) -> Result<MarkedNode, Memory>
+    ensures { IfOk result (λ moved_node. moved_node ≡ moved (λ _. here.now) node.now) }
+{
+    let by = Move::To(here.copy(alloc)?);
+    node_by(alloc, node, &by, DEEPEST)
+}
+
 /// Another origin in the place of one.
 fn move_origin(alloc: Global, origin: &Origin, by: &Move) -> Result<Origin, Memory>
     ensures { IfOk result (λ other. other ≡ move_by by.now origin.now) }

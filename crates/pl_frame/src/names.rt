@@ -3,14 +3,14 @@ ghost use Rattle.pl_base.specs.Files.{text_cmp};
 ghost use Rattle.pl_base.specs.Folding.{folded};
 ghost use Rattle.std.specs.FinMap as finite;
 ghost use Rattle.std.specs.Option.{option_map};
-ghost use Rattle.pl_eval.specs.LookUps.{found, member_of};
+ghost use Rattle.pl_eval.specs.LookUps.{found_behind, part_of};
 ghost use Rattle.pl_frame.specs.Names.{known_at, contexts_at};
 
-use crate::contexts::{parameters_at, variables_at};
 use crate::frame::Frame;
-use crate::members::{loop_named, member_in, parameter_member, variable_member};
-use pl_base::{ExactCopy, List, MarkedNode, Memory, Place, Text, Value};
-use pl_eval::{Names, RootMember};
+use crate::members::loop_named;
+use crate::parts::{part_of_parameters, part_of_variables};
+use pl_base::{List, Memory, Place, Text, Value};
+use pl_eval::{Names, RootPart, part_behind};
 use pl_expr::Function;
 use pl_literal::spells;
 use std::alloc::Global;
@@ -25,19 +25,11 @@ pub struct FrameNames<'f> {
 impl Names for FrameNames<'_> {
     ghost known = { λ names. known_at names.frame.now names.place.now };
 
-    fn find(&self, alloc: Global, root: &Text) -> Result<Option<MarkedNode>, Memory> {
+    fn part(&self, alloc: Global, root: &Text, path: &[Value]) -> Result<RootPart, Memory> {
         let found = loop_named(alloc, &self.frame.loops, root)?;
         match found {
-            Some(item) => Ok(Some(item.copy(alloc)?)),
-            None => context(alloc, self.frame, self.place, root),
-        }
-    }
-
-    fn member(&self, alloc: Global, root: &Text, at: &Value) -> Result<RootMember, Memory> {
-        let found = loop_named(alloc, &self.frame.loops, root)?;
-        match found {
-            Some(item) => member_in(alloc, &item.value, at),
-            None => context_member(alloc, self.frame, self.place, root, at),
+            Some(item) => part_behind(alloc, item, path),
+            None => context_part(alloc, self.frame, self.place, root, path),
         }
     }
 
@@ -52,43 +44,24 @@ impl Names for FrameNames<'_> {
     }
 }
 
-/// The value of a context, the case of its name aside.
-fn context(
+/// What a path finds in a context, the case of its name aside. Nothing else of it is copied.
+fn context_part(
     alloc: Global,
     frame: &Frame,
     place: &Place,
     root: &Text,
-) -> Result<Option<MarkedNode>, Memory>
+    path: &[Value],
+) -> Result<RootPart, Memory>
     ensures { IfOk result
-        (λ node. node ≡ finite.find text_cmp (folded root.now) (contexts_at frame.now place.now)) }
-{
-    if spells(root.as_str(), "parameters") {
-        return Ok(Some(parameters_at(alloc, frame, place)?));
-    }
-    if spells(root.as_str(), "variables") {
-        return Ok(Some(variables_at(alloc, frame, place)?));
-    }
-    Ok(None)
-}
-
-/// What an index finds in a context, whose other values aren't copied.
-fn context_member(
-    alloc: Global,
-    frame: &Frame,
-    place: &Place,
-    root: &Text,
-    at: &Value,
-) -> Result<RootMember, Memory>
-    ensures { IfOk result
-        (λ member. member ≡ member_of
-        (option_map (λ node. found node.value at.now)
+        (λ part. part ≡ part_of
+        (option_map (found_behind path.now)
         (finite.find text_cmp (folded root.now) (contexts_at frame.now place.now)))) }
 {
     if spells(root.as_str(), "parameters") {
-        return parameter_member(alloc, frame, place, at);
+        return part_of_parameters(alloc, frame, place, path);
     }
     if spells(root.as_str(), "variables") {
-        return variable_member(alloc, frame, place, at);
+        return part_of_variables(alloc, frame, place, path);
     }
-    Ok(RootMember::NoRoot)
+    Ok(RootPart::NoRoot)
 }

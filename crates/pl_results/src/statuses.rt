@@ -4,8 +4,8 @@ ghost use Rattle.pl_eval.specs.Statuses as statuses;
 ghost use Rattle.pl_results.specs.Members.{any_run, known_of, result_of, results_under};
 
 use crate::members::{Member, result_of};
-use pl_base::{List, MarkedNode, Memory, Outcome, Text, Value};
-use pl_eval::{Names, RootMember};
+use pl_base::{List, Memory, Outcome, Text, Value};
+use pl_eval::{Names, RootPart};
 use pl_expr::Function;
 use std::alloc::Global;
 
@@ -20,12 +20,8 @@ pub struct Statuses {
 impl Names for Statuses {
     ghost known = { λ one. known_of one.canceled one.members };
 
-    fn find(&self, _alloc: Global, _root: &Text) -> Result<Option<MarkedNode>, Memory> {
-        Ok(None)
-    }
-
-    fn member(&self, _alloc: Global, _root: &Text, _at: &Value) -> Result<RootMember, Memory> {
-        Ok(RootMember::NoRoot)
+    fn part(&self, _alloc: Global, _root: &Text, _path: &[Value]) -> Result<RootPart, Memory> {
+        Ok(RootPart::NoRoot)
     }
 
     fn status(&self, function: Function, names: &List<Text>) -> bool {

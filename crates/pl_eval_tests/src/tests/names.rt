@@ -1,13 +1,12 @@
-ghost use Rattle.std.specs.Prelude.{◌≡◌, List as list, ℕ, Bool, map, IfOk, Some};
-ghost use Rattle.pl_eval.specs.LookUps.{found, member_of};
+ghost use Rattle.std.specs.Prelude.{◌≡◌, List as list, ℕ, Bool, map, IfOk};
 ghost use Rattle.std.specs.List.{list_all, list_any};
 ghost use Rattle.std.specs.FinMap as finite;
 ghost use Rattle.pl_base.specs.declared.outcome.Outcome.{Outcome as Ended};
 ghost use Rattle.pl_eval.specs.Statuses.{went_well, went_wrong, was_run, result_named, results_named};
 ghost use Rattle.pl_base.specs.Folding.{folded};
 
-use pl_base::{ExactCopy, List, MarkedNode, MarkedPair, Memory, Outcome, Text, Value};
-use pl_eval::{Names, RootMember, find_member, is_named, place_of};
+use pl_base::{List, MarkedPair, Memory, Outcome, Text, Value};
+use pl_eval::{Names, RootPart, is_named, part_behind, place_of};
 use pl_expr::Function;
 use std::alloc::Global;
 
@@ -35,17 +34,10 @@ impl Names for MemNames {
       named = map (λ pair. (pair.name, pair.outcome)) names.named;
     } };
 
-    fn find(&self, alloc: Global, root: &Text) -> Result<Option<MarkedNode>, Memory> {
+    fn part(&self, alloc: Global, root: &Text, path: &[Value]) -> Result<RootPart, Memory> {
         match place_of(&self.roots, root) {
-            Some(place) => Ok(Some(self.roots.as_slice()[place].item.copy(alloc)?)),
-            None => Ok(None),
-        }
-    }
-
-    fn member(&self, alloc: Global, root: &Text, at: &Value) -> Result<RootMember, Memory> {
-        match self.find(alloc, root)? {
-            Some(node) => member_in(alloc, &node.value, at),
-            None => Ok(RootMember::NoRoot),
+            Some(place) => part_behind(alloc, &self.roots.as_slice()[place].item, path),
+            None => Ok(RootPart::NoRoot),
         }
     }
 
@@ -59,15 +51,6 @@ impl Names for MemNames {
             Function::Failed => one_named_wrong(&self.named, names),
             _ => !self.canceled && (names.is_empty() || one_named_run(&self.named, names)),
         }
-    }
-}
-
-fn member_in(alloc: Global, of: &Value, at: &Value) -> Result<RootMember, Memory>
-    ensures { IfOk result (λ member. member ≡ member_of (Some (found of.now at.now))) }
-{
-    match find_member(alloc, of, at)? {
-        Some(node) => Ok(RootMember::Found(node.copy(alloc)?)),
-        None => Ok(RootMember::Missing),
     }
 }
 

@@ -64,7 +64,15 @@ eq(missing, lt(1, 'x')) => V5
 eq(lt(1, 'x'), missing) => V1
 lt(length(1), missing) => V3
 replace(1, lower(parameters.long), missing) => V4
-contains(format('{'), missing) => V2";
+contains(format('{'), missing) => V2
+missing.a[lt(1, 'x')] => V5
+missing[lt(1, 'x')].a => V5
+missing[length(1)][lt(1, 'x')] => V5
+parameters.missing[lt(1, 'x')] => V1
+parameters.missing[length(1)][lt(1, 'x')] => V3
+parameters[lt(1, 'x')][missing] => V1
+parameters[missing][lt(1, 'x')] => V5
+parameters.list[0][missing.a] => V5";
 
 /// V5 at a name that stands for nothing, where it is looked at; and the first fault of several.
 #[test]

@@ -35,7 +35,12 @@ parameters.bare.x => Null@made
 parameters[format('na{0}', 'me')] => 'Ann'@2
 parameters[parameters.missing] => Null@made
 'abc'[0] => Null@made
-true.x => Null@made";
+true.x => Null@made
+parameters.object.three.at.deep => 'd'@34
+parameters['object'].three['at'].deep => 'd'@34
+parameters.object.four.at.deep => Null@made
+parameters.object.two.at.deep => Null@made
+parameters.object.three[parameters.missing.id] => Null@made";
 
 /// Properties without case, the first match of a name, and misses.
 #[test]
@@ -67,7 +72,11 @@ parameters.items[0].at.deep => 1@18
 parameters.items[4][0].id => 'inner'@26
 parameters.items[1].id => 'y'@20
 parameters.items[2].id => Null@22
-parameters.items[3].id => Null@made";
+parameters.items[3].id => Null@made
+parameters.items[9].at.deep => Null@made
+parameters.items[0].missing.deep => Null@made
+parameters.items[4][parameters.list[9]].id => 'inner'@26
+item[0].x => Null@made";
 
 /// An index over an array is a number from 0.
 #[test]

@@ -111,8 +111,3 @@ evaluate_argument-returns-in-Some g t c =
 pub evaluate_argument-returns-in_ok-make-in-None : goal.evaluate_argument-returns-in_ok-make-in-None
 evaluate_argument-returns-in_ok-make-in-None g t c =
     argument_missing (means (g.N.Names.known c.args.names.now) c.args.here.now) c.args.here.now c.args.arguments.now c.args.at c.in-None.ensures.value ∙ ap (λ (n : MarkedNode). Ok n) (sym c.in_ok-make-in-None.ensures)
-
-pub evaluate-returns-in_err-look_up-in_default : goal.evaluate-returns-in_err-look_up-in_default
-evaluate-returns-in_err-look_up-in_default g t c =
-    let p = err_from_is_err_and c.from_residual-in_err-look_up-in_default.result c.from_residual-in_err-look_up-in_default.ensures.1 in
-    rw (p.1, p.2) tt

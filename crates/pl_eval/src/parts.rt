@@ -1,0 +1,48 @@
+ghost use Rattle.std.specs.Prelude.{◌≡◌, IfOk, Some};
+ghost use Rattle.std.specs.Option.{option_copied};
+ghost use Rattle.pl_eval.specs.LookUps.{found_behind, part_of};
+
+use crate::look_ups::find_member;
+use pl_base::{ExactCopy, MarkedNode, Memory, Value};
+use std::alloc::Global;
+
+/// What a path of indices finds in the value of a root.
+#[derive(Drop)]
+pub enum RootPart {
+    /// There is no such root.
+    NoRoot,
+    /// One of the indices finds nothing.
+    Missing,
+    /// What the last index finds, or the root's value where the path is empty.
+    Found(MarkedNode),
+}
+
+/// What the indices of a path find in a node, each looked up in what the one before it found; the node itself where the
+/// path is empty, and None where one of them finds nothing.
+#[tactic(auto, using(crate::proofs::Finding::path_some, crate::proofs::Finding::path_none))]
+pub fn find_behind<'v>(
+    alloc: Global,
+    node: &'v MarkedNode,
+    path: &[Value],
+) -> Result<Option<&'v MarkedNode>, Memory>
+    ensures { IfOk result (λ found. option_copied found ≡ found_behind path.now node.now) }
+{
+    let mut node = node;
+    for at in path {
+        match find_member(alloc, &node.value, at)? {
+            Some(found) => node = found,
+            None => return Ok(None),
+        }
+    }
+    Ok(Some(node))
+}
+
+/// The part of a node that a path finds. Nothing else of the node is copied.
+pub fn part_behind(alloc: Global, node: &MarkedNode, path: &[Value]) -> Result<RootPart, Memory>
+    ensures { IfOk result (λ part. part ≡ part_of (Some (found_behind path.now node.now))) }
+{
+    match find_behind(alloc, node, path)? {
+        Some(found) => Ok(RootPart::Found(found.copy(alloc)?)),
+        None => Ok(RootPart::Missing),
+    }
+}
