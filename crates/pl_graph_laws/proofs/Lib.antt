@@ -1,0 +1,3 @@
+pub mod NotBoth
+pub mod OneCycle
+pub mod OneOrder
