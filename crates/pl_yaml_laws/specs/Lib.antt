@@ -1,2 +1,5 @@
 pub mod Breaks
+pub mod Lines
+pub mod PlainTexts
+pub mod SingleQuotes
 pub mod Texts

@@ -3,4 +3,4 @@
 
 mod laws;
 
-pub use laws::line_breaks_are_alike;
+pub use laws::{line_breaks_are_alike, plain_texts_are_themselves, single_quotes_hold_their_text};
