@@ -1,4 +1,5 @@
 pub mod Breaks
+pub mod Chomping
 pub mod Lines
 pub mod PlainTexts
 pub mod SingleQuotes

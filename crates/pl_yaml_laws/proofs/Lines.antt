@@ -1,13 +1,13 @@
 -- Lines that end behind a scalar, and texts of one line.
-use Rattle.std.proofs.Common.{◌≡◌, ℕ, suc, ◌+◌, Bool, true, false, not, ◌&&◌, ◌||◌, cond, Ok, List, [], ◌∷◌, ◌++◌, length, take, drop, codes, refl, ap, sym, ◌∙◌, arith, inl, inr}
+use Rattle.std.proofs.Common.{◌≡◌, ℕ, zero, suc, ◌+◌, Bool, true, false, not, ◌&&◌, ◌||◌, cond, Ok, List, [], ◌∷◌, ◌++◌, length, take, drop, codes, refl, ap, sym, ◌∙◌, arith, inl, inr}
 use Rattle.std.specs.Prelude.{◌==◌, nat_lt}
-use Rattle.std.specs.List.{slice_split, onto_first, position_or_len}
-use Rattle.std.proofs.lemmas.Bool.{cases_Bool, and_parts, or_parts, or_from, or_right, and_left, and_right, eq-eqb}
+use Rattle.std.specs.List.{list_all, slice_split, onto_first, position_or_len}
+use Rattle.std.proofs.lemmas.Bool.{cases_Bool, and_parts, and_from, or_parts, or_from, or_right, and_left, and_right, eq-eqb}
 use Rattle.std.proofs.lemmas.Bool.Decides.{nat_tests}
 use Rattle.std.proofs.lemmas.List.{drop-drop, drop_at, take_all}
 use Rattle.pl_base.specs.declared.place.FileKey.{FileKey}
 use Rattle.pl_base.specs.declared.node.Node.{Node}
-use Rattle.pl_line.specs.Rows.{Row, is_blank, is_control, indented, row_at, rows_from, rows_of}
+use Rattle.pl_line.specs.Rows.{Row, is_blank, is_control, indented, row_at, rows_from, rows_of, without_mark, without_return}
 use Rattle.pl_line.specs.Left.{behind, line_end, is_empty}
 use Rattle.pl_line.specs.Reading.{◌>>=◌}
 use Rattle.pl_line.specs.Scanning.{begins_with, ends_word}
@@ -15,7 +15,7 @@ use Rattle.pl_yaml.specs.Heads.{is_word, is_marker, is_start}
 use Rattle.pl_yaml.specs.Content.{stands, begins, content, lead, is_closed, closed}
 use Rattle.pl_yaml.specs.Nodes.{begun, inner, node, node_in}
 use Rattle.pl_yaml.specs.Spells.{whole_text, nothing_left, document}
-use Rattle.pl_yaml_laws.specs.Lines.{is_line, is_comment_or_blank, is_end}
+use Rattle.pl_yaml_laws.specs.Lines.{RowsAreLines, is_line, is_comment_or_blank, is_end}
 
 -- ---- behind a scalar
 
@@ -80,6 +80,37 @@ closed_test row front rest is over =
 
 pub is_over : (row : Row) (front rest : List ℕ) → row.text ≡ front ++ rest → row.whole ≡ true → is_end rest ≡ true → closed (length front) row ≡ Ok tt
 is_over row front rest is whole over = rw (closed_test row front rest is over, whole) refl
+
+-- ---- rows
+
+clean_front : (line : List ℕ) → is_line (take (position_or_len is_control line) line) ≡ true
+clean_front [] = refl
+clean_front (c ∷ cs) =
+    elim (cases_Bool (is_control c)) [
+      | inl is ↦ rw is refl
+      | inr isnt ↦
+          let more : 1 + position_or_len is_control cs ≡ suc (position_or_len is_control cs) = omega arith in
+          rw isnt (ap (λ n. is_line (take n (c ∷ cs))) more ∙ rw isnt (clean_front cs))
+    ]
+
+clean_behind : (n : ℕ) (text : List ℕ) → is_line text ≡ true → is_line (drop n text) ≡ true
+clean_behind zero text clean = clean
+clean_behind (suc n) [] clean = refl
+clean_behind (suc n) (c ∷ cs) clean = clean_behind n cs (and_parts (not (is_control c)) (is_line cs) clean).1
+
+row_clean : (number : ℕ) (line : List ℕ) → is_line (row_at number line).text ≡ true
+unfolding row_at
+row_clean number line =
+    let read : List ℕ = take (position_or_len is_control line) line in
+    clean_behind (position_or_len (λ c. not (c == 32)) read) read (clean_front line)
+
+rows_clean : (number : ℕ) (lines : List (List ℕ)) → list_all (λ row. is_line row.text) (rows_from number lines) ≡ true
+rows_clean number [] = refl
+rows_clean number (line ∷ []) = and_from _ _ (row_clean number line) refl
+rows_clean number (line ∷ (next ∷ lines)) = and_from _ _ (row_clean number (without_return line)) (rows_clean (number + 1) (next ∷ lines))
+
+pub rows_are_lines : RowsAreLines
+rows_are_lines text = rows_clean 1 (slice_split (λ c. c == 10) (without_mark text))
 
 -- ---- a text of one line
 

@@ -1,11 +1,15 @@
 -- What may stand behind a scalar on its line (YAML 1.2.2, sections 5.1, 6.2 and 6.6).
-use Rattle.std.specs.Prelude.{ℕ, Bool, true, ◌==◌, ◌&&◌, ◌||◌, not, List, [], ◌∷◌}
+use Rattle.std.specs.Prelude.{◌≡◌, ℕ, Bool, true, ◌==◌, ◌&&◌, ◌||◌, not, List, [], ◌∷◌}
 use Rattle.std.specs.List.{list_all}
-use Rattle.pl_line.specs.Rows.{is_blank, is_control}
+use Rattle.pl_line.specs.Rows.{is_blank, is_control, rows_of}
 
 -- no character is a line feed or another control character than tab
 abbrev pub is_line : List ℕ → Bool
 is_line = list_all (λ c. not (is_control c))
+
+-- Each row of a text is read up to a control character at most.
+abbrev pub RowsAreLines : Type 0
+RowsAreLines = (text : List ℕ) → list_all (λ row. is_line row.text) (rows_of text) ≡ true
 
 -- behind a blank: blanks, and perhaps a comment
 abbrev pub is_comment_or_blank : List ℕ → Bool

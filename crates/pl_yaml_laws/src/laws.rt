@@ -1,4 +1,6 @@
 ghost use Rattle.pl_yaml_laws.specs.Breaks.{LineBreaksAreAlike};
+ghost use Rattle.pl_yaml_laws.specs.Chomping.{ChompingChangesTheEnd, KeepingKeepsAll};
+ghost use Rattle.pl_yaml_laws.specs.Lines.{RowsAreLines};
 ghost use Rattle.pl_yaml_laws.specs.PlainTexts.{PlainTextIsItself, PlainValueIsItself};
 ghost use Rattle.pl_yaml_laws.specs.SingleQuotes.{QuotedReadsAsItsText, QuotedTextIsItsText, QuotedValueIsItsText};
 
@@ -23,4 +25,15 @@ pub fn single_quotes_hold_their_text()
 pub fn plain_texts_are_themselves()
     ensures value { PlainValueIsItself }
     ensures text { PlainTextIsItself }
+{}
+
+/// Block scalars with the indicators `-`, none and `+` over the same lines differ at their end alone:
+/// `-` gives the content, which ends with no line feed, `+` adds to it every line feed that stands
+/// there, and neither adds one of them, behind a content that isn't empty. What follows the scalar is
+/// the same, and so is the fault where one is refused (clause `ends`). `|+` keeps every line and every
+/// break (`keeps`). The rows of a text meet what the first clause asks of its rows (`rows`).
+pub fn chomping_changes_the_end()
+    ensures ends { ChompingChangesTheEnd }
+    ensures keeps { KeepingKeepsAll }
+    ensures rows { RowsAreLines }
 {}

@@ -3,4 +3,7 @@
 
 mod laws;
 
-pub use laws::{line_breaks_are_alike, plain_texts_are_themselves, single_quotes_hold_their_text};
+pub use laws::{
+    chomping_changes_the_end, line_breaks_are_alike, plain_texts_are_themselves,
+    single_quotes_hold_their_text,
+};
