@@ -1,5 +1,6 @@
 pub mod Breaks
 pub mod Chomping
+pub mod EmptyLines
 pub mod Lines
 pub mod PlainTexts
 pub mod SingleQuotes

@@ -1,5 +1,6 @@
 ghost use Rattle.pl_yaml_laws.specs.Breaks.{LineBreaksAreAlike};
 ghost use Rattle.pl_yaml_laws.specs.Chomping.{ChompingChangesTheEnd, KeepingKeepsAll};
+ghost use Rattle.pl_yaml_laws.specs.EmptyLines.{PassedOverBeforeItems, PassedOverBeforeNodes, PassedOverBeforePairs, PassedOverInDocuments};
 ghost use Rattle.pl_yaml_laws.specs.Lines.{RowsAreLines};
 ghost use Rattle.pl_yaml_laws.specs.PlainTexts.{PlainTextIsItself, PlainValueIsItself};
 ghost use Rattle.pl_yaml_laws.specs.SingleQuotes.{QuotedReadsAsItsText, QuotedTextIsItsText, QuotedValueIsItsText};
@@ -36,4 +37,15 @@ pub fn chomping_changes_the_end()
     ensures ends { ChompingChangesTheEnd }
     ensures keeps { KeepingKeepsAll }
     ensures rows { RowsAreLines }
+{}
+
+/// A comment line or an empty line changes nothing but the numbers of the lines behind it, where an
+/// entry or a node is to begin: before the first entry of a text (clause `text`), before the value of a
+/// key or a dash on later lines (`value`), and before the next entry of a sequence (`items`) or of a
+/// mapping (`pairs`). Rows keep their numbers, so the places of what is read are told by the rows alone.
+pub fn empty_lines_are_passed_over()
+    ensures text { PassedOverInDocuments }
+    ensures value { PassedOverBeforeNodes }
+    ensures items { PassedOverBeforeItems }
+    ensures pairs { PassedOverBeforePairs }
 {}
