@@ -1,0 +1,14 @@
+use Rattle.pl_yaml_laws.proofs.EmptyLines.{in_documents, before_nodes, before_items, before_pairs}
+use Rattle.pl_yaml_laws.proofs.laws.empty_lines_are_passed_over.Goals as goal
+
+pub returns-clause-text : goal.returns-clause-text
+returns-clause-text c = in_documents
+
+pub returns-clause-value : goal.returns-clause-value
+returns-clause-value c = before_nodes
+
+pub returns-clause-items : goal.returns-clause-items
+returns-clause-items c = before_items
+
+pub returns-clause-pairs : goal.returns-clause-pairs
+returns-clause-pairs c = before_pairs

@@ -1,0 +1,34 @@
+-- Comment lines and empty lines (YAML 1.2.2, sections 6.4 and 6.6).
+use Rattle.std.specs.Prelude.{◌≡◌, ℕ, suc, Bool, true, List, ◌∷◌}
+use Rattle.pl_base.specs.declared.place.FileKey.{FileKey}
+use Rattle.pl_base.specs.declared.node.Node.{Node}
+use Rattle.pl_base.specs.declared.node.NodePair.{NodePair}
+use Rattle.pl_line.specs.Rows.{Row}
+use Rattle.pl_line.specs.Left.{is_empty}
+use Rattle.pl_yaml.specs.Nodes.{Values, below, items, pairs, node}
+use Rattle.pl_yaml.specs.Spells.{document}
+
+-- a row of blanks, or of a comment behind blanks, read to its line's end
+abbrev pub IsPassedOver : Row → Type 0
+IsPassedOver row = (is_empty row ≡ true) × (row.whole ≡ true)
+
+-- Before the first entry of a text such a row changes nothing but the numbers that the rows behind it have,
+abbrev pub PassedOverInDocuments : Type 0
+PassedOverInDocuments = (file : FileKey) (row : Row) (rows : List Row) → IsPassedOver row → document file (row ∷ rows) ≡ document file rows
+
+-- nor where the value of a key or a dash is read on later lines,
+abbrev pub PassedOverBeforeNodes : Type 0
+PassedOverBeforeNodes =
+    (file : FileKey) (depth : ℕ) (own : Bool) (begun row : Row) (rows : List Row) → IsPassedOver row
+    → node file depth (below own begun) (row ∷ rows) ≡ node file depth (below own begun) rows
+
+-- nor before the next entry of a sequence or of a mapping, behind those that were read.
+abbrev pub PassedOverBeforeItems : Type 0
+PassedOverBeforeItems =
+    (file : FileKey) (values : Values) (parent column turns : ℕ) (before : List Node) (row : Row) (rows : List Row) → IsPassedOver row
+    → items file values parent column (suc turns) before (row ∷ rows) ≡ items file values parent column (suc turns) before rows
+
+abbrev pub PassedOverBeforePairs : Type 0
+PassedOverBeforePairs =
+    (file : FileKey) (values : Values) (column turns : ℕ) (before : List NodePair) (row : Row) (rows : List Row) → IsPassedOver row
+    → pairs file values column (suc turns) before (row ∷ rows) ≡ pairs file values column (suc turns) before rows

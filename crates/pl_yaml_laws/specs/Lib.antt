@@ -1,0 +1,7 @@
+pub mod Breaks
+pub mod Chomping
+pub mod EmptyLines
+pub mod Lines
+pub mod PlainTexts
+pub mod SingleQuotes
+pub mod Texts

@@ -1,0 +1,51 @@
+ghost use Rattle.pl_yaml_laws.specs.Breaks.{LineBreaksAreAlike};
+ghost use Rattle.pl_yaml_laws.specs.Chomping.{ChompingChangesTheEnd, KeepingKeepsAll};
+ghost use Rattle.pl_yaml_laws.specs.EmptyLines.{PassedOverBeforeItems, PassedOverBeforeNodes, PassedOverBeforePairs, PassedOverInDocuments};
+ghost use Rattle.pl_yaml_laws.specs.Lines.{RowsAreLines};
+ghost use Rattle.pl_yaml_laws.specs.PlainTexts.{PlainTextIsItself, PlainValueIsItself};
+ghost use Rattle.pl_yaml_laws.specs.SingleQuotes.{QuotedReadsAsItsText, QuotedTextIsItsText, QuotedValueIsItsText};
+
+/// A line feed and a carriage return before a line feed end a line alike: a text spells the same, its
+/// places and its faults included, without the carriage returns that stand before line feeds.
+pub fn line_breaks_are_alike()
+    ensures { LineBreaksAreAlike }
+{}
+
+/// A text in single quotes, each quote in it doubled, spells that text: at any column of a line,
+/// whatever stands behind it (clause `scalar`), as the value of a key or a dash on its line (`value`),
+/// and as a whole text of one line (`text`).
+pub fn single_quotes_hold_their_text()
+    ensures scalar { QuotedReadsAsItsText }
+    ensures value { QuotedValueIsItsText }
+    ensures text { QuotedTextIsItsText }
+{}
+
+/// A plain text that the rules of YAML allow on one line outside flow collections spells itself: as the
+/// value of a key or a dash on its line, where no line behind continues it (clause `value`), and as a
+/// whole text of one line, unless that is a marker of documents (`text`).
+pub fn plain_texts_are_themselves()
+    ensures value { PlainValueIsItself }
+    ensures text { PlainTextIsItself }
+{}
+
+/// Block scalars with the indicators `-`, none and `+` over the same lines differ at their end alone:
+/// `-` gives the content, which ends with no line feed, `+` adds to it every line feed that stands
+/// there, and neither adds one of them, behind a content that isn't empty. What follows the scalar is
+/// the same, and so is the fault where one is refused (clause `ends`). `|+` keeps every line and every
+/// break (`keeps`). The rows of a text meet what the first clause asks of its rows (`rows`).
+pub fn chomping_changes_the_end()
+    ensures ends { ChompingChangesTheEnd }
+    ensures keeps { KeepingKeepsAll }
+    ensures rows { RowsAreLines }
+{}
+
+/// A comment line or an empty line changes nothing but the numbers of the lines behind it, where an
+/// entry or a node is to begin: before the first entry of a text (clause `text`), before the value of a
+/// key or a dash on later lines (`value`), and before the next entry of a sequence (`items`) or of a
+/// mapping (`pairs`). Rows keep their numbers, so the places of what is read are told by the rows alone.
+pub fn empty_lines_are_passed_over()
+    ensures text { PassedOverInDocuments }
+    ensures value { PassedOverBeforeNodes }
+    ensures items { PassedOverBeforeItems }
+    ensures pairs { PassedOverBeforePairs }
+{}
