@@ -18,7 +18,7 @@ use Rattle.pl_params.specs.declared.given.Given.{Given}
 use Rattle.pl_directives.specs.declared.fault.ExpandFault.{ExpandFault}
 use Rattle.pl_directives.specs.declared.fault.ExpandProblem.TheVariants.{WrongKind}
 use Rattle.pl_directives.specs.Complaints.{refused}
-use Rattle.pl_directives.specs.Steps.{◌>>=◌}
+use Rattle.pl_reading.specs.Steps.{◌>>=◌}
 use Rattle.pl_calls.specs.declared.call.Call.{Call}
 
 -- A call: where its item stands, the text of its path, the borders that the path crossed, and the

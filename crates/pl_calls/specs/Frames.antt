@@ -11,7 +11,7 @@ use Rattle.pl_frame.specs.declared.frame.Parameter.{Parameter}
 use Rattle.pl_frame.specs.declared.frame.Variable.{Variable}
 use Rattle.pl_params.specs.declared.given.Given.{Given}
 use Rattle.pl_directives.specs.declared.fault.ExpandFault.{ExpandFault}
-use Rattle.pl_directives.specs.Steps.{◌>>=◌}
+use Rattle.pl_reading.specs.Steps.{◌>>=◌}
 use Rattle.pl_calls.specs.Calls.{given_across}
 use Rattle.pl_calls.specs.Parameters.{declared_by, bound_to}
 use Rattle.pl_calls.specs.Parts.{under}

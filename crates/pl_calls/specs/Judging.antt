@@ -13,7 +13,7 @@ use Rattle.pl_directives.specs.declared.fault.ExpandProblem.TheVariants.{WrongKi
 use Rattle.pl_directives.specs.declared.region.Form.{Form}
 use Rattle.pl_directives.specs.declared.region.Form.TheVariants.{Stages, Jobs, Steps, Variables}
 use Rattle.pl_directives.specs.Complaints.{refused}
-use Rattle.pl_directives.specs.Steps.{◌>>=◌}
+use Rattle.pl_reading.specs.Steps.{◌>>=◌}
 use Rattle.pl_calls.specs.Parts.{Body, body_of, under, key_place_of}
 
 abbrev pub form_key : Form → List ℕ

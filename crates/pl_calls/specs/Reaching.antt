@@ -18,7 +18,7 @@ use Rattle.pl_directives.specs.declared.fault.ExpandFault.{ExpandFault}
 use Rattle.pl_directives.specs.declared.fault.ExpandProblem.TheVariants.{FileMissing, TooManyFiles}
 use Rattle.pl_directives.specs.declared.fault.ExpandProblem.TheVariants.{UnknownAlias, BadFile}
 use Rattle.pl_directives.specs.Complaints.{refused, wanting}
-use Rattle.pl_directives.specs.Steps.{◌>>=◌}
+use Rattle.pl_reading.specs.Steps.{◌>>=◌}
 use Rattle.pl_calls.specs.Meant.{◌>>>◌}
 use Rattle.pl_calls.specs.declared.files.Parsed.{Parsed}
 use Rattle.pl_calls.specs.declared.files.Parsed.TheVariants.{Good, Bad}

@@ -13,7 +13,7 @@ use Rattle.pl_provenance.specs.Known.{IsKnown}
 use Rattle.pl_provenance.specs.Roots.{IsPairThrough, jobs_of}
 use Rattle.pl_provenance.specs.Written.{ArePairsWhereTold, IsWhereTold}
 use Rattle.pl_schema.specs.Pipelines.{pipeline_of}
-use Rattle.pl_schema.specs.declared.pipeline.Pipeline.{Pipeline}
+use Rattle.pl_schema_parts.specs.declared.pipeline.Pipeline.{Pipeline}
 use Rattle.pl_step_origins.proofs.Planned.{extend_same, jobs_hold, steps_hold}
 use Rattle.pl_compile.specs.Compiling.{Expands, texts_of}
 use Rattle.pl_compile.specs.Reading.{Texts, read_all}

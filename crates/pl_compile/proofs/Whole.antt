@@ -6,7 +6,7 @@ use Rattle.pl_base.specs.declared.expanded.Expanded.{Expanded}
 use Rattle.pl_base.specs.declared.place.FileKey.{FileKey}
 use Rattle.pl_plan.specs.declared.plan.Plan.{Plan}
 use Rattle.pl_schema.specs.Pipelines.{pipeline_of}
-use Rattle.pl_schema.specs.declared.pipeline.Pipeline.{Pipeline}
+use Rattle.pl_schema_parts.specs.declared.pipeline.Pipeline.{Pipeline}
 use Rattle.pl_compile.specs.Compiling.{Compiles, Expands, Plans, PlansTree, Reads}
 use Rattle.pl_compile.specs.Reading.{Texts}
 use Rattle.pl_compile.specs.declared.fault.CompileFault.{CompileFault}

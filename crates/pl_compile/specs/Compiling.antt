@@ -17,10 +17,10 @@ use Rattle.pl_plan.specs.Plans.{IsPlanOf}
 use Rattle.pl_plan.specs.declared.plan.Compiled.{Compiled}
 use Rattle.pl_plan.specs.declared.plan.Plan.{Plan}
 use Rattle.pl_plan.specs.declared.plan.Sources.{Sources}
-use Rattle.pl_schema.specs.Codes.{code_of as schema_code}
+use Rattle.pl_schema_parts.specs.Codes.{code_of as schema_code}
 use Rattle.pl_schema.specs.Pipelines.{pipeline_of}
-use Rattle.pl_schema.specs.declared.fault.SchemaCode.{SchemaCode}
-use Rattle.pl_schema.specs.declared.pipeline.Pipeline.{Pipeline}
+use Rattle.pl_schema_parts.specs.declared.fault.SchemaCode.{SchemaCode}
+use Rattle.pl_schema_parts.specs.declared.pipeline.Pipeline.{Pipeline}
 use Rattle.pl_compile.specs.Reading.{Texts, tree_of}
 use Rattle.pl_compile.specs.Refusals.{refusal_of}
 use Rattle.pl_compile.specs.declared.fault.CompileFault.{CompileFault}

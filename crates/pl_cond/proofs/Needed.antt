@@ -8,7 +8,7 @@ use Rattle.pl_expr.specs.declared.expr.Expr.{Expr, Root, Index, Project, Call}
 use Rattle.pl_expr.specs.declared.expr.Function.{Function}
 use Rattle.pl_eval.specs.LookUps.{projected}
 use Rattle.pl_eval.specs.Means.{Meaning, answer, called, indexed, means, rooted}
-use Rattle.pl_eval.specs.Steps.{◌>>=◌}
+use Rattle.pl_reading.specs.Steps.{◌>>=◌}
 use Rattle.pl_literal.specs.Booleans.{spells}
 use Rattle.pl_results.specs.Members.{all_results, members_of, named_results}
 use Rattle.pl_cond.specs.Contexts.{AllNeedNone, NeedsNone, here_in, known_at, roots_at}

@@ -13,7 +13,7 @@ use Rattle.pl_expr.specs.declared.expr.Function.{Function}
 use Rattle.pl_eval.specs.Known.{Known, root_of}
 use Rattle.pl_eval.specs.LookUps.{looked_up, projected}
 use Rattle.pl_eval.specs.Means.{Meaning, answer, called, indexed, means, rooted}
-use Rattle.pl_eval.specs.Steps.{◌>>=◌}
+use Rattle.pl_reading.specs.Steps.{◌>>=◌}
 use Rattle.pl_results.specs.Members.{all_results, known_of, named_results}
 use Rattle.pl_cond.specs.declared.context.Context.{Context}
 use Rattle.pl_cond.specs.declared.paths.Path.{Path}

@@ -6,13 +6,14 @@ use Rattle.std.specs.List.{AllByRecursion}
 use Rattle.std.proofs.lemmas.List.{length-append, length-map, length-replicate}
 use Rattle.std.proofs.lemmas.List.Elements.{All-from_recursion}
 use Rattle.pl_base.specs.declared.place.Place.{Place}
-use Rattle.pl_schema.specs.declared.pipeline.JobSpec.{JobSpec}
-use Rattle.pl_schema.specs.declared.pipeline.Pipeline.{Pipeline}
-use Rattle.pl_schema.specs.declared.pipeline.StageSpec.{StageSpec}
+use Rattle.pl_schema_parts.specs.declared.pipeline.JobSpec.{JobSpec}
+use Rattle.pl_schema_parts.specs.declared.pipeline.Pipeline.{Pipeline}
+use Rattle.pl_schema_parts.specs.declared.pipeline.StageSpec.{StageSpec}
 use Rattle.pl_depends.specs.declared.fault.PlanCode.{PlanCode}
 use Rattle.pl_depends.specs.declared.fault.PlanCode.TheVariants.{TooManyJobs, TooManyStages}
 use Rattle.pl_depends.specs.declared.fault.PlanCode.TheVariants.{TooManySteps}
-use Rattle.pl_depends.specs.Gives.{Fault, ◌>>=◌}
+use Rattle.pl_depends.specs.Gives.{Fault}
+use Rattle.pl_reading.specs.Steps.{◌>>=◌}
 use Rattle.pl_depends.specs.Graph.{job_waits}
 use Rattle.pl_depends.specs.Known.{names_known}
 use Rattle.pl_depends.specs.Places.{Finding, leg_count, leg_entries, places_under}

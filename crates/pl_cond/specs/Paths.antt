@@ -10,7 +10,7 @@ use Rattle.pl_expr.specs.declared.expr.Expr.{Expr}
 use Rattle.pl_eval.specs.Known.{Known, root_of, same_name}
 use Rattle.pl_eval.specs.LookUps.{found, looked_up, made}
 use Rattle.pl_eval.specs.Means.{Meaning, answer, means, rooted}
-use Rattle.pl_eval.specs.Steps.{◌>>=◌}
+use Rattle.pl_reading.specs.Steps.{◌>>=◌}
 use Rattle.pl_results.specs.declared.legs.Leg.{Leg}
 use Rattle.pl_results.specs.Parts.{in_order}
 use Rattle.pl_cond.specs.declared.paths.Path.{Path}

@@ -14,7 +14,7 @@ use Rattle.pl_results.specs.declared.members.PlanNode.{PlanNode}
 use Rattle.pl_results.specs.declared.members.PlanNode.TheVariants.{Stage, Job}
 use Rattle.pl_results.specs.declared.view.RunView.{RunView}
 use Rattle.pl_results.specs.Nodes.{jobs_of}
-use Rattle.pl_schema.specs.declared.pipeline.Variable.{Variable}
+use Rattle.pl_schema_parts.specs.declared.pipeline.Variable.{Variable}
 use Rattle.pl_cond.specs.declared.variables.Variable.{Variable as Evaluated}
 use Rattle.pl_cond.specs.Contexts.{here_in, known_at}
 use Rattle.pl_cond.specs.Placing.{placed}

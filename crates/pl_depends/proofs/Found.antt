@@ -15,8 +15,8 @@ use Rattle.std.proofs.lemmas.List.{at_drop_more, at_drop_all}
 use Rattle.std.proofs.lemmas.Slice.Eq.{slice_eq-Decides}
 use Rattle.pl_base.specs.Folding.{folded}
 use Rattle.pl_literal.specs.Booleans.{spells}
-use Rattle.pl_schema.specs.declared.pipeline.JobSpec.{JobSpec}
-use Rattle.pl_schema.specs.declared.pipeline.StageSpec.{StageSpec}
+use Rattle.pl_schema_parts.specs.declared.pipeline.JobSpec.{JobSpec}
+use Rattle.pl_schema_parts.specs.declared.pipeline.StageSpec.{StageSpec}
 use Rattle.pl_depends.specs.Places.{Finding, Entry, nowhere, also, places_of_one, places_under}
 use Rattle.pl_depends.specs.Places.{places_from, stage_entries, job_entries, leg_entries, leg_count}
 

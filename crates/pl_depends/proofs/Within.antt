@@ -11,9 +11,9 @@ use Rattle.std.proofs.lemmas.List.{length-map, get_or_default}
 use Rattle.std.proofs.lemmas.List.Elements.{All-from_recursion, All-contains}
 use Rattle.pl_graph.specs.Graph.{AreEdges, IsCycle}
 use Rattle.pl_literal.specs.Booleans.{spells}
-use Rattle.pl_schema.specs.declared.pipeline.DependSpec.{DependSpec}
-use Rattle.pl_schema.specs.declared.pipeline.JobSpec.{JobSpec}
-use Rattle.pl_schema.specs.declared.pipeline.StageSpec.{StageSpec}
+use Rattle.pl_schema_parts.specs.declared.pipeline.DependSpec.{DependSpec}
+use Rattle.pl_schema_parts.specs.declared.pipeline.JobSpec.{JobSpec}
+use Rattle.pl_schema_parts.specs.declared.pipeline.StageSpec.{StageSpec}
 use Rattle.pl_depends.specs.declared.graph.Waiting.{Waiting}
 use Rattle.pl_depends.specs.Places.{Finding, Entry, places_under, stage_entries, job_entries}
 use Rattle.pl_depends.specs.Graph.{AreBelow, IsGraph, places_named, the_one_before, stage_waits}

@@ -4,8 +4,8 @@ use Rattle.std.specs.Prelude.{◌≡◌, ℕ, ◌<◌, List, [], ◌∷◌, All,
 use Rattle.std.specs.Prelude.{flat_map, slice_index, slice_get}
 use Rattle.std.specs.Option.{option_map, option_or}
 use Rattle.pl_graph.specs.Graph.{IsCycle, IsCanonicalCycle, IsTopological}
-use Rattle.pl_schema.specs.declared.pipeline.JobSpec.{JobSpec}
-use Rattle.pl_schema.specs.declared.pipeline.StageSpec.{StageSpec}
+use Rattle.pl_schema_parts.specs.declared.pipeline.JobSpec.{JobSpec}
+use Rattle.pl_schema_parts.specs.declared.pipeline.StageSpec.{StageSpec}
 use Rattle.pl_depends.specs.declared.fault.PlanCode.TheVariants.{Cycle}
 use Rattle.pl_depends.specs.declared.graph.Waiting.{Waiting}
 use Rattle.pl_depends.specs.Gives.{Fault}

@@ -4,6 +4,7 @@ use Rattle.pl_base.specs.declared.place.Place.{Place}
 use Rattle.pl_depends.specs.declared.fault.PlanCode.{PlanCode}
 use Rattle.pl_depends.specs.declared.fault.PlanFault.{PlanFault}
 use Rattle.pl_depends.specs.declared.fault.PlanFault.TheVariants.{Refused, Memory}
+use Rattle.pl_reading.specs.Steps.{◌>>=◌}
 
 -- what is wrong, and where
 abbrev pub Fault : Type 0
@@ -47,11 +48,6 @@ Means (Err Memory) is_meant = Unit {0}
 Means (Err (Refused code place)) is_meant = is_meant (Err (code, place))
 
 -- ---- what is meant, one after the other: the first fault counts
-
-infixl 10 ◌>>=◌
-abbrev pub ◌>>=◌ : {A B : Type 0} → Result A Fault → (A → Result B Fault) → Result B Fault
-(Ok value) >>= next = next value
-(Err fault) >>= next = Err fault
 
 -- each is judged by itself
 abbrev pub each_passes : {X : Type 0} → (X → Result (Unit {0}) Fault) → List X →

@@ -1,11 +1,12 @@
 -- Names that are waited for: a stage waits for stages, and a job for jobs of its stage (Microsoft
 -- Learn, "Stages" and "Jobs", Specify dependencies).
 use Rattle.std.specs.Prelude.{List, Option, Some, None, Result, Ok, Err, is_some, if◌then◌else◌}
-use Rattle.pl_schema.specs.declared.pipeline.DependSpec.{DependSpec}
-use Rattle.pl_schema.specs.declared.pipeline.JobSpec.{JobSpec}
-use Rattle.pl_schema.specs.declared.pipeline.StageSpec.{StageSpec}
+use Rattle.pl_schema_parts.specs.declared.pipeline.DependSpec.{DependSpec}
+use Rattle.pl_schema_parts.specs.declared.pipeline.JobSpec.{JobSpec}
+use Rattle.pl_schema_parts.specs.declared.pipeline.StageSpec.{StageSpec}
 use Rattle.pl_depends.specs.declared.fault.PlanCode.TheVariants.{UnknownDependency}
-use Rattle.pl_depends.specs.Gives.{Fault, ◌>>=◌, each_passes}
+use Rattle.pl_depends.specs.Gives.{Fault, each_passes}
+use Rattle.pl_reading.specs.Steps.{◌>>=◌}
 use Rattle.pl_depends.specs.Places.{Finding, places_under, stage_entries, job_entries}
 
 -- one who has the name is there

@@ -10,10 +10,10 @@ use Rattle.pl_base.specs.declared.value.Value.{out-Value}
 use Rattle.pl_base.specs.declared.value.Value.TheOpen as layer
 use Rattle.pl_literal.specs.Booleans.{spells}
 use Rattle.pl_literal.specs.Items.{Opened}
-use Rattle.pl_schema.specs.declared.pipeline.JobSpec.{JobSpec}
-use Rattle.pl_schema.specs.declared.pipeline.LegSpec.{LegSpec}
-use Rattle.pl_schema.specs.declared.pipeline.LegSpec.TheVariants.{One, Parallel, Matrix}
-use Rattle.pl_schema.specs.declared.pipeline.StageSpec.{StageSpec}
+use Rattle.pl_schema_parts.specs.declared.pipeline.JobSpec.{JobSpec}
+use Rattle.pl_schema_parts.specs.declared.pipeline.LegSpec.{LegSpec}
+use Rattle.pl_schema_parts.specs.declared.pipeline.LegSpec.TheVariants.{One, Parallel, Matrix}
+use Rattle.pl_schema_parts.specs.declared.pipeline.StageSpec.{StageSpec}
 use Rattle.pl_depends.specs.declared.places.Places.{Places}
 
 -- where those who have a name stand; None where no one has it

@@ -27,7 +27,7 @@ use Rattle.pl_directives.specs.declared.progress.Counted.{Counted}
 use Rattle.pl_directives.specs.Complaints.{refused}
 use Rattle.pl_directives.specs.Scalars.{truth_at, counted_value_at}
 use Rattle.pl_directives.specs.Keys.{key_by}
-use Rattle.pl_directives.specs.Steps.{◌>>=◌}
+use Rattle.pl_reading.specs.Steps.{◌>>=◌}
 
 -- if: the value in its place where the condition is true
 abbrev pub branch : Bool → Action

@@ -20,7 +20,7 @@ use Rattle.pl_directives.specs.declared.fault.ExpandProblem.TheVariants.{BadDire
 use Rattle.pl_directives.specs.declared.keys.MadeKey.{MadeKey}
 use Rattle.pl_directives.specs.Complaints.{refused}
 use Rattle.pl_directives.specs.Scalars.{value_at}
-use Rattle.pl_directives.specs.Steps.{◌>>=◌}
+use Rattle.pl_reading.specs.Steps.{◌>>=◌}
 
 -- a list or mapping is no key
 abbrev pub key_from :

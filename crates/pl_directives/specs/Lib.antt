@@ -9,4 +9,3 @@ pub mod Manners
 pub mod Misfits
 pub mod Regions
 pub mod Scalars
-pub mod Steps

@@ -21,7 +21,7 @@ use Rattle.pl_directives.specs.declared.progress.Counted.{Counted}
 use Rattle.pl_directives.specs.declared.scalars.JoinedText.{JoinedText}
 use Rattle.pl_directives.specs.Complaints.{refused}
 use Rattle.pl_directives.specs.Counting.{counted}
-use Rattle.pl_directives.specs.Steps.{◌>>=◌}
+use Rattle.pl_reading.specs.Steps.{◌>>=◌}
 
 -- ---- expressions
 

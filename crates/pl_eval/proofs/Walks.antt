@@ -14,7 +14,7 @@ use Rattle.pl_expr.specs.declared.expr.Expr.{Expr}
 use Rattle.pl_eval.specs.declared.fault.EvalCode.{EvalCode}
 use Rattle.pl_eval.specs.declared.fault.EvalFault.{EvalFault}
 use Rattle.pl_eval.specs.declared.fault.EvalFault.TheVariants as faults
-use Rattle.pl_eval.specs.Steps.{◌>>=◌}
+use Rattle.pl_reading.specs.Steps.{◌>>=◌}
 use Rattle.pl_eval.specs.Gives.{Refuses}
 use Rattle.pl_eval.specs.Means.{Meaning, null, argument, filled, counted, up_to, all_true, any_true, first_filled, is_among, first_is_among, values}
 

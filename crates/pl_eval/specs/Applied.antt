@@ -13,7 +13,7 @@ use Rattle.pl_expr.specs.Conversions.{bool_of, cast_text, order_of, equals}
 use Rattle.pl_texts.specs.Matching.{begins, ends, holds}
 use Rattle.pl_eval.specs.Texts.{searched, lower_of, upper_of, trim_of, join_of, split_of, replace_of, format_of}
 use Rattle.pl_eval.specs.LookUps.{Opened}
-use Rattle.pl_eval.specs.Steps.{◌>>=◌}
+use Rattle.pl_reading.specs.Steps.{◌>>=◌}
 use Rattle.pl_eval.specs.declared.fault.EvalCode.{EvalCode}
 use Rattle.pl_eval.specs.declared.fault.EvalCode.TheVariants.{NotConvertible, NoLength}
 use Rattle.pl_eval.specs.declared.manner.BinaryFunction.{BinaryFunction}

@@ -5,5 +5,4 @@ pub mod Known
 pub mod LookUps
 pub mod Means
 pub mod Statuses
-pub mod Steps
 pub mod Texts

@@ -22,7 +22,7 @@ use Rattle.pl_eval.specs.declared.manner.Operation.TheVariants as operation
 use Rattle.pl_eval.specs.declared.manner.UnaryFunction.TheVariants as unary
 use Rattle.pl_eval.specs.declared.manner.BinaryFunction.TheVariants as binary
 use Rattle.pl_eval.specs.Statuses.{status_of}
-use Rattle.pl_eval.specs.Steps.{◌>>=◌}
+use Rattle.pl_reading.specs.Steps.{◌>>=◌}
 
 abbrev pub Meaning : Type 0
 Meaning = Result MarkedNode EvalCode

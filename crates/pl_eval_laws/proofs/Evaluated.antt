@@ -41,7 +41,7 @@ use Rattle.pl_eval.specs.Means.{Meaning, argument, first_filled}
 use Rattle.pl_eval.specs.Means.{answer, truth, told, contrary}
 use Rattle.pl_eval.specs.Means.{chosen, status, called_by, called, manner_of, rooted, indexed}
 use Rattle.pl_eval.specs.Means.{means}
-use Rattle.pl_eval.specs.Steps.{◌>>=◌}
+use Rattle.pl_reading.specs.Steps.{◌>>=◌}
 use Rattle.pl_eval_laws.proofs.Lists.{Has, has_map, has_next, each_found, each_at, each_map}
 use Rattle.pl_eval_laws.proofs.Lists.{each_filter_map}
 use Rattle.pl_eval_laws.proofs.Trees.{NodeFrom, PairFrom, OpenedFrom, null_node, truth_node}

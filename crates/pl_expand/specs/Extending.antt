@@ -30,7 +30,7 @@ use Rattle.pl_directives.specs.declared.region.Region.TheVariants.{Free, Quiet}
 use Rattle.pl_directives.specs.Complaints.{refused}
 use Rattle.pl_directives.specs.Contents.{begun}
 use Rattle.pl_directives.specs.Counting.{entered}
-use Rattle.pl_directives.specs.Steps.{◌>>=◌}
+use Rattle.pl_reading.specs.Steps.{◌>>=◌}
 use Rattle.pl_calls.specs.Calls.{path_text, pairs_from}
 use Rattle.pl_calls.specs.Frames.{framed_by}
 use Rattle.pl_calls.specs.Judging.{unless_at, stray, held, template_in}

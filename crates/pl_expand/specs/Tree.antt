@@ -59,7 +59,7 @@ use Rattle.pl_expanding.specs.Following.{Follow}
 use Rattle.pl_expanding.specs.Levels.{followed}
 use Rattle.pl_expand.specs.Extending.{extended, merged}
 use Rattle.pl_root.specs.Resources.{earliest}
-use Rattle.pl_directives.specs.Steps.{◌>>=◌}
+use Rattle.pl_reading.specs.Steps.{◌>>=◌}
 use Rattle.pl_root.specs.Keys.{repositories_of, root_complaints, root_key}
 use Rattle.pl_root.specs.Arguments.{parameters_by}
 use Rattle.pl_root.specs.Frames.{first_frame, second_frame}

@@ -8,7 +8,7 @@ use Rattle.pl_directives.specs.declared.fault.ExpandFault.{ExpandFault}
 use Rattle.pl_directives.specs.declared.region.Form.{Form}
 use Rattle.pl_directives.specs.declared.fault.ExpandProblem.TheVariants.{NestedTooDeep}
 use Rattle.pl_directives.specs.Complaints.{refused}
-use Rattle.pl_directives.specs.Steps.{◌>>=◌}
+use Rattle.pl_reading.specs.Steps.{◌>>=◌}
 use Rattle.pl_calls.specs.Calls.{Called, call_of}
 use Rattle.pl_calls.specs.Gives.{GivesUsed}
 use Rattle.pl_calls.specs.Meant.{◌>>>◌}

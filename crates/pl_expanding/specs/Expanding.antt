@@ -36,7 +36,7 @@ use Rattle.pl_directives.specs.Contents.{put_pair, finished, absorbed}
 use Rattle.pl_directives.specs.Counting.{entered}
 use Rattle.pl_directives.specs.Manners.{Facet, manner_of}
 use Rattle.pl_directives.specs.Regions.{under, inside, of_item, is_path}
-use Rattle.pl_directives.specs.Steps.{◌>>=◌}
+use Rattle.pl_reading.specs.Steps.{◌>>=◌}
 use Rattle.pl_calls.specs.Meant.{◌>>>◌, alone}
 use Rattle.pl_expanding.specs.Following.{Follow}
 use Rattle.pl_expanding.specs.Putting.{add_item, splice, spread}

@@ -25,7 +25,7 @@ use Rattle.pl_directives.specs.declared.region.Form.TheVariants.{Stages, Jobs, S
 use Rattle.pl_directives.specs.declared.region.Region.TheVariants.{Calls as InCalls}
 use Rattle.pl_directives.specs.Complaints.{refused}
 use Rattle.pl_directives.specs.Counting.{entered}
-use Rattle.pl_directives.specs.Steps.{◌>>=◌}
+use Rattle.pl_reading.specs.Steps.{◌>>=◌}
 use Rattle.pl_calls.specs.Calls.{Called, call_of}
 use Rattle.pl_calls.specs.Frames.{framed_by}
 use Rattle.pl_calls.specs.Judging.{template_in, body_in}

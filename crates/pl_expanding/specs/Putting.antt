@@ -16,7 +16,7 @@ use Rattle.pl_directives.specs.declared.region.Form.{Form}
 use Rattle.pl_directives.specs.declared.region.Region.{Region}
 use Rattle.pl_directives.specs.Contents.{add_items, object_of, with_count}
 use Rattle.pl_directives.specs.Regions.{call_form}
-use Rattle.pl_directives.specs.Steps.{◌>>=◌}
+use Rattle.pl_reading.specs.Steps.{◌>>=◌}
 use Rattle.pl_calls.specs.Meant.{◌>>>◌, alone}
 use Rattle.pl_expanding.specs.Following.{Follow}
 

@@ -10,7 +10,7 @@ use Rattle.pl_directives.specs.declared.region.Region.TheVariants.{Calls as InCa
 use Rattle.pl_directives.specs.declared.fault.ExpandProblem.TheVariants.{NestedTooDeep}
 use Rattle.pl_directives.specs.Complaints.{refused}
 use Rattle.pl_directives.specs.Counting.{entered}
-use Rattle.pl_directives.specs.Steps.{◌>>=◌}
+use Rattle.pl_reading.specs.Steps.{◌>>=◌}
 use Rattle.pl_calls.specs.Calls.{Called}
 use Rattle.pl_calls.specs.Judging.{template_in, body_in}
 use Rattle.pl_calls.specs.Meant.{◌>>>◌, alone}

@@ -20,7 +20,9 @@ use Rattle.pl_expr.specs.declared.expr.Function.TheVariants as functions
 use Rattle.pl_expr.specs.Numerals.{is_blank, skip, is_segment}
 use Rattle.pl_expr.specs.Trees.{depth_of, deepest, printed, literal, listed, dotted}
 use Rattle.pl_expr.specs.Functions.{name_of, least_of, most_of, stands_in, may_follow, at_most, takes, named, names}
-use Rattle.pl_expr.specs.Grammar.{Read, ◌>>=◌, begins_with, begins_name, is_name_byte, is_word, call_at, arguments_at, behind_argument, word_at, primary_by, primary_at, names_at, index_at, member_at, tail_at, begins_tail, tails_at, text_at, expression_at, inner_of, text_whole, parses}
+use Rattle.pl_expr.specs.Grammar.{Read, begins_name, is_name_byte, is_word, call_at, arguments_at, behind_argument, word_at, primary_by, primary_at, names_at, index_at, member_at, tail_at, begins_tail, tails_at, text_at, expression_at, inner_of, text_whole, parses}
+use Rattle.pl_reading.specs.Bytes.{begins_with}
+use Rattle.pl_reading.specs.Steps.{◌>>=◌}
 use Rattle.pl_expr.specs.Given.{IsName, AreNames, IsLiteral, AreGiven, IsGivenBy, IsGiven}
 use Rattle.pl_expr.proofs.Leaves.{Closed, at_end, at_index, at_bracket, at_paren, at_comma, at_star, closed_name, closed_behind, take_front, skip_front, front_word, root_read, literal_read, decimal_digits}
 use Rattle.pl_expr.proofs.Reading.{Continues, continues_end, continues_step, names_stop, text_is}

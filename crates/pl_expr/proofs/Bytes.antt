@@ -7,8 +7,9 @@ use Rattle.std.proofs.lemmas.List.Sums.{prefix_len_passes}
 use Rattle.std.proofs.lemmas.Bool.{false≢true, ne_eqb}
 use Rattle.std.proofs.lemmas.List.{length-map, append-nil}
 use Rattle.std.proofs.lemmas.Bool.Decides.{nat_tests}
-use Rattle.pl_expr.specs.Grammar.{begins_with, is_name_byte}
-use Rattle.pl_expr.specs.Numerals.{is_blank, skip, signed, is_segment, segments_of, number_of, goes_on, digits_of, more_runs, behind_more, runs_of, behind_runs, version_in}
+use Rattle.pl_expr.specs.Grammar.{is_name_byte}
+use Rattle.pl_reading.specs.Bytes.{begins_with, number_of, digits_of}
+use Rattle.pl_expr.specs.Numerals.{is_blank, skip, signed, is_segment, segments_of, goes_on, more_runs, behind_more, runs_of, behind_runs, version_in}
 
 pub boundary_behind_ascii : (bytes : List ℕ) (count : ℕ) → IsUtf8 bytes → count ≤ length bytes → (0 < count → get_or bytes (count - 1) 0 < 128) → IsCharBoundary bytes count
 boundary_behind_ascii bytes zero text within ascii = IsCharBoundary-start bytes text

@@ -13,9 +13,10 @@ use Rattle.pl_expr.specs.declared.expr.Expr.{Expr}
 use Rattle.pl_expr.specs.declared.expr.Expr.TheVariants.{Lit}
 use Rattle.pl_expr.specs.declared.expr.Mode.{Mode}
 use Rattle.pl_expr.specs.declared.scan.Front.TheVariants as front
-use Rattle.pl_expr.specs.Numerals.{is_blank, skip, digits_of, number_of, signed, goes_on, more_runs, behind_more, runs_of, behind_runs, is_segment, segments_of}
+use Rattle.pl_expr.specs.Numerals.{is_blank, skip, signed, goes_on, more_runs, behind_more, runs_of, behind_runs, is_segment, segments_of}
+use Rattle.pl_reading.specs.Bytes.{digits_of, number_of, begins_with}
 use Rattle.pl_expr.specs.Trees.{quoted, literal, dotted}
-use Rattle.pl_expr.specs.Grammar.{Read, begins_with, begins_name, is_name_byte, is_word, unquoted, with_byte, string_read, unsigned_at, signed_at, word_tree, word_at, front_of, primary_by, primary_at}
+use Rattle.pl_expr.specs.Grammar.{Read, begins_name, is_name_byte, is_word, unquoted, with_byte, string_read, unsigned_at, signed_at, word_tree, word_at, front_of, primary_by, primary_at}
 use Rattle.pl_expr.specs.Given.{IsName, IsNumber, IsVersion, IsLiteral}
 use Rattle.pl_expr.specs.Spelling.{AreDigits, AreRuns, IsLiteralText}
 use Rattle.pl_expr.specs.Spelling as rule

@@ -5,7 +5,8 @@ use Rattle.std.proofs.lemmas.List.{at_drop_more, drop_more, append-nil, take_all
 use Rattle.std.proofs.lemmas.List.Sums.{prefix_len_stops}
 use Rattle.std.proofs.lemmas.Bool.{and_parts, false≢true, ne_eqb}
 use Rattle.std.proofs.lemmas.Bool.Decides.{nat_tests}
-use Rattle.pl_expr.specs.Grammar.{begins_with, is_plain, unquoted, with_byte}
+use Rattle.pl_expr.specs.Grammar.{is_plain, unquoted, with_byte}
+use Rattle.pl_reading.specs.Bytes.{begins_with}
 use Rattle.pl_expr.specs.declared.expr.Expr.{Expr}
 use Rattle.pl_expr.specs.Trees.{quoted, listed, printed}
 

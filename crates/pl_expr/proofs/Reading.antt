@@ -11,9 +11,11 @@ use Rattle.pl_expr.specs.declared.expr.Mode.{Mode}
 use Rattle.pl_expr.specs.declared.fault.ExprCode.TheVariants.{NumberRange, BadChar}
 use Rattle.pl_expr.specs.declared.stop.Stop.{Stop}
 use Rattle.pl_expr.specs.declared.stop.Stop.TheVariants as stops
-use Rattle.pl_expr.specs.Numerals.{is_blank, skip, number_of, runs_of, behind_runs, segments_of}
+use Rattle.pl_expr.specs.Numerals.{is_blank, skip, runs_of, behind_runs, segments_of}
+use Rattle.pl_reading.specs.Bytes.{number_of, begins_with}
 use Rattle.pl_expr.specs.Trees.{depth_of}
-use Rattle.pl_expr.specs.Grammar.{Fault, Read, ◌>>=◌, stop, begins_with, is_word, word_of, behind_word, unsigned_at, names_at, begins_tail, tail_at, deep_fault, tails_at, text_at, expression_at, inner_of, behind_argument, arguments_at}
+use Rattle.pl_expr.specs.Grammar.{Fault, Read, stop, is_word, word_of, behind_word, unsigned_at, names_at, begins_tail, tail_at, deep_fault, tails_at, text_at, expression_at, inner_of, behind_argument, arguments_at}
+use Rattle.pl_reading.specs.Steps.{◌>>=◌}
 use Rattle.pl_expr.specs.Parsing.{Stops}
 use Rattle.pl_expr.proofs.Bytes.{segments_of_capped}
 

@@ -19,10 +19,12 @@ use Rattle.pl_expr.specs.declared.fault.ExprCode.TheVariants.{Fraction, BadChar,
 use Rattle.pl_expr.specs.declared.scan.Front.{Front}
 use Rattle.pl_expr.specs.declared.scan.Front.TheVariants as front
 use Rattle.pl_base.specs.Folding.{folded}
-use Rattle.pl_expr.specs.Numerals.{is_blank, skip, digits_of, number_of, signed, goes_on, more_runs, runs_of, behind_runs, is_segment, segments_of}
+use Rattle.pl_expr.specs.Numerals.{is_blank, skip, signed, goes_on, more_runs, runs_of, behind_runs, is_segment, segments_of}
+use Rattle.pl_reading.specs.Bytes.{digits_of, number_of, begins_with}
 use Rattle.pl_expr.specs.Trees.{depth_of, deepest}
 use Rattle.pl_expr.specs.Functions.{name_of, most_of, stands_in, takes, may_follow, named, names, all_functions}
-use Rattle.pl_expr.specs.Grammar.{Fault, Read, ◌>>=◌, stop, begins_with, begins_name, is_name_byte, is_word, word_of, behind_word, unquoted, string_read, number_read, version_read, unsigned_at, signed_at, number_at, word_tree, behind_argument, arguments_at, call_at, called, word_at, front_of, primary_by, primary_at, names_at, index_at, member_at, tail_at, begins_tail, deep_fault, tails_at, expression_at, text_at, text_whole, placed, parses}
+use Rattle.pl_expr.specs.Grammar.{Fault, Read, stop, begins_name, is_name_byte, is_word, word_of, behind_word, unquoted, string_read, number_read, version_read, unsigned_at, signed_at, number_at, word_tree, behind_argument, arguments_at, call_at, called, word_at, front_of, primary_by, primary_at, names_at, index_at, member_at, tail_at, begins_tail, deep_fault, tails_at, expression_at, text_at, text_whole, placed, parses}
+use Rattle.pl_reading.specs.Steps.{◌>>=◌}
 use Rattle.pl_expr.specs.Given.{IsName, AreNames, IsNumber, IsVersion, IsLiteral, AreGiven, IsGivenBy, IsGiven}
 use Rattle.pl_expr.proofs.Again.{layer_is, depth_index, depth_project, depth_call, depth_lit, depth_root}
 

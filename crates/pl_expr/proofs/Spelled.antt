@@ -16,10 +16,12 @@ use Rattle.pl_expr.specs.declared.expr.Mode.{Mode}
 use Rattle.pl_expr.specs.declared.fault.ExprCode.TheVariants.{Fraction, BadChar, BadCount, Trailing}
 use Rattle.pl_expr.specs.declared.scan.Front.{Front}
 use Rattle.pl_expr.specs.declared.scan.Front.TheVariants as front
-use Rattle.pl_expr.specs.Numerals.{is_blank, skip, digits_of, number_of, signed, goes_on, more_runs, behind_more, runs_of, behind_runs, segments_of}
+use Rattle.pl_expr.specs.Numerals.{is_blank, skip, signed, goes_on, more_runs, behind_more, runs_of, behind_runs, segments_of}
+use Rattle.pl_reading.specs.Bytes.{digits_of, number_of, begins_with}
 use Rattle.pl_expr.specs.Trees.{depth_of, is_projection, quoted, dotted}
 use Rattle.pl_expr.specs.Functions.{most_of, takes, may_follow, named}
-use Rattle.pl_expr.specs.Grammar.{Fault, Read, ◌>>=◌, stop, begins_with, begins_name, is_name_byte, is_word, word_of, behind_word, unquoted, with_byte, string_read, number_read, version_read, unsigned_at, signed_at, number_at, word_tree, behind_argument, arguments_at, call_at, called, word_at, front_of, primary_by, primary_at, names_at, index_at, member_at, tail_at, begins_tail, deep_fault, tails_at, expression_at, text_at, text_whole, parses}
+use Rattle.pl_expr.specs.Grammar.{Fault, Read, stop, begins_name, is_name_byte, is_word, word_of, behind_word, unquoted, with_byte, string_read, number_read, version_read, unsigned_at, signed_at, number_at, word_tree, behind_argument, arguments_at, call_at, called, word_at, front_of, primary_by, primary_at, names_at, index_at, member_at, tail_at, begins_tail, deep_fault, tails_at, expression_at, text_at, text_whole, parses}
+use Rattle.pl_reading.specs.Steps.{◌>>=◌}
 use Rattle.pl_expr.specs.Given.{IsName, AreNames}
 use Rattle.pl_expr.specs.Spelling.{AreBlanks, AreDigits, AreRuns, IsApart, IsLiteralText, IsText, IsExpression, IsPrimary, AreArguments}
 use Rattle.pl_expr.specs.Spelling as rule

@@ -23,9 +23,11 @@ use Rattle.pl_expr.specs.declared.fault.ExprCode.TheVariants.{BadChar, UnclosedS
 use Rattle.pl_expr.specs.declared.scan.Front.{Front}
 use Rattle.pl_expr.specs.declared.scan.Front.TheVariants as front
 use Rattle.pl_base.specs.Folding.{folded}
-use Rattle.pl_expr.specs.Numerals.{is_blank, skip, digits_of, number_of, signed, goes_on, runs_of, behind_runs, segments_of}
+use Rattle.pl_expr.specs.Numerals.{is_blank, skip, signed, goes_on, runs_of, behind_runs, segments_of}
+use Rattle.pl_reading.specs.Bytes.{digits_of, number_of, begins_with}
 use Rattle.pl_expr.specs.Functions.{most_of, may_follow, takes, named}
 use Rattle.pl_expr.specs.Trees.{depth_of, is_projection}
+use Rattle.pl_reading.specs.Steps.{◌>>=◌}
 
 -- ---- what reading gives
 
@@ -37,19 +39,10 @@ Fault = ExprCode × ℕ
 abbrev pub Read : Type 0 → Type 0
 Read A = Result (A × List ℕ) Fault
 
-infixl 10 ◌>>=◌
-abbrev pub ◌>>=◌ : {A B : Type 0} → Result A Fault → (A → Result B Fault) → Result B Fault
-(Ok value) >>= next = next value
-(Err fault) >>= next = Err fault
-
 abbrev pub stop : {A : Type 0} → ExprCode → List ℕ → Result A Fault
 stop code bytes = Err (code, length bytes)
 
 -- ---- bytes and names
-
-abbrev pub begins_with : ℕ → List ℕ → Bool
-begins_with byte [] = false
-begins_with byte (first ∷ bytes) = first == byte
 
 -- a letter or `_` begins a name, and digits may follow
 abbrev pub begins_name : ℕ → Bool

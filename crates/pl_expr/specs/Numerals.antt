@@ -3,6 +3,7 @@ use Rattle.std.specs.Prelude.{ℕ, zero, suc, ◌+◌, ◌-◌, ◌*◌, ◌^◌
 use Rattle.std.specs.List.{prefix_len, list_all}
 use Rattle.std.specs.Char.{is_ascii_digit}
 use Rattle.std.specs.Str.Parse.{starts_with_minus, without_leading_sign}
+use Rattle.pl_reading.specs.Bytes.{digits_of, number_of}
 
 -- a space, a tab or a line feed
 abbrev pub is_blank : ℕ → Bool
@@ -11,14 +12,6 @@ is_blank byte = (byte == 32) || ((byte == 9) || (byte == 10))
 -- what stands behind the first bytes that pass the test
 abbrev pub skip : (ℕ → Bool) → List ℕ → List ℕ
 skip test bytes = drop (prefix_len test bytes) bytes
-
--- the digits that the bytes begin with
-abbrev pub digits_of : List ℕ → List ℕ
-digits_of bytes = take_while is_ascii_digit bytes
-
--- the number that decimal digits write
-abbrev pub number_of : List ℕ → ℕ
-number_of digits = fold (λ number digit. number * 10 + (digit - 48)) 0 digits
 
 -- the number with its sign, where 64 bits hold it
 abbrev pub signed : Bool → ℕ → Option ℤ

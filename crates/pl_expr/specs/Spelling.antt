@@ -9,7 +9,8 @@ use Rattle.pl_expr.specs.declared.expr.Expr.{Expr}
 use Rattle.pl_expr.specs.declared.expr.Expr.TheVariants.{Lit, Index, Project, Call}
 use Rattle.pl_expr.specs.declared.expr.Function.{Function}
 use Rattle.pl_expr.specs.declared.expr.Mode.{Mode}
-use Rattle.pl_expr.specs.Numerals.{is_blank, number_of, signed, segments_of}
+use Rattle.pl_expr.specs.Numerals.{is_blank, signed, segments_of}
+use Rattle.pl_reading.specs.Bytes.{number_of}
 use Rattle.pl_expr.specs.Functions.{takes, named}
 use Rattle.pl_expr.specs.Grammar.{word_tree}
 use Rattle.pl_expr.specs.Given.{IsName, AreNames}

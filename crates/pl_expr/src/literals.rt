@@ -1,5 +1,6 @@
 ghost use Rattle.std.specs.Prelude.{◌≡◌, ◌≤◌, true, drop, length, IfOk, Err};
-ghost use Rattle.pl_expr.specs.Grammar.{begins_with, string_read, unquoted, unsigned_at, signed_at, number_at, word_tree, stop};
+ghost use Rattle.pl_expr.specs.Grammar.{string_read, unquoted, unsigned_at, signed_at, number_at, word_tree, stop};
+ghost use Rattle.pl_reading.specs.Bytes.{begins_with};
 ghost use Rattle.pl_expr.specs.Parsing.{Gives};
 
 use crate::conversions::same_folded;

@@ -2,7 +2,8 @@ ghost use Rattle.std.specs.Prelude.{◌≡◌, ◌<◌, ◌≤◌, ◌+◌, ◌*
 ghost use Rattle.std.specs.List.{prefix_len};
 ghost use Rattle.std.specs.Char.{is_ascii_digit};
 ghost use Rattle.std.specs.Str.Parse.{starts_with_minus, without_leading_sign};
-ghost use Rattle.pl_expr.specs.Numerals.{is_blank, skip, digits_of, number_of, signed, number_in, goes_on, runs_of, behind_runs, segments_of, version_in};
+ghost use Rattle.pl_expr.specs.Numerals.{is_blank, skip, signed, number_in, goes_on, runs_of, behind_runs, segments_of, version_in};
+ghost use Rattle.pl_reading.specs.Bytes.{digits_of, number_of};
 
 use pl_base::{List, Memory};
 use std::alloc::Global;

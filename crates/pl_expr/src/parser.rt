@@ -1,5 +1,6 @@
 ghost use Rattle.std.specs.Prelude.{◌≡◌, ◌≤◌, ◌<◌, ◌+◌, ◌-◌, ◌^◌, ◌&&◌, true, [], nat_lt, drop, length, IfOk};
-ghost use Rattle.pl_expr.specs.Grammar.{begins_with, is_word, text_at, inner_of, primary_at, word_at, call_at, arguments_at, behind_argument, tails_at, tail_at, member_at, index_at, names_at, begins_tail, deep_fault, text_whole, parses};
+ghost use Rattle.pl_expr.specs.Grammar.{is_word, text_at, inner_of, primary_at, word_at, call_at, arguments_at, behind_argument, tails_at, tail_at, member_at, index_at, names_at, begins_tail, deep_fault, text_whole, parses};
+ghost use Rattle.pl_reading.specs.Bytes.{begins_with};
 ghost use Rattle.pl_expr.specs.Parsing.{Gives, Answers};
 
 use crate::expr::{Expr, Function, Mode};

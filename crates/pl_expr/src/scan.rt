@@ -1,6 +1,7 @@
 ghost use Rattle.std.specs.Prelude.{◌≡◌, ◌<◌, ◌≤◌, ◌+◌, true, false, length, take, drop, slice_index, IfOk, IfNone, IfSome, OnSome, MatchOption, option_map};
 ghost use Rattle.std.specs.List.{prefix_len};
-ghost use Rattle.pl_expr.specs.Grammar.{begins_with, front_of, is_word, is_name_byte, begins_name, word_of, behind_word, unquoted, is_plain};
+ghost use Rattle.pl_expr.specs.Grammar.{front_of, is_word, is_name_byte, begins_name, word_of, behind_word, unquoted, is_plain};
+ghost use Rattle.pl_reading.specs.Bytes.{begins_with};
 
 use crate::numerals::split_ascii;
 use pl_base::{Memory, Text};

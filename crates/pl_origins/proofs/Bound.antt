@@ -44,7 +44,8 @@ use Rattle.pl_params.specs.Judging.{allows, judged_read, judged}
 use Rattle.pl_params.specs.Kinds.{number_from, boolean_from, is_item, items_from, value_as}
 use Rattle.pl_params.specs.Kinds.{with_value, read_as}
 use Rattle.pl_params.specs.Nodes.{under}
-use Rattle.pl_params.specs.Steps.{in_turn, ◌>>=◌}
+use Rattle.pl_params.specs.Steps.{in_turn}
+use Rattle.pl_reading.specs.Steps.{◌>>=◌}
 use Rattle.pl_calls.specs.Parameters.{parameter_told, declared_by, bound_to}
 use Rattle.pl_calls.specs.Parts.{Body}
 use Rattle.pl_eval_laws.proofs.Leads.{Opened}

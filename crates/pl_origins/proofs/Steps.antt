@@ -3,7 +3,7 @@ use Rattle.std.proofs.Common.{Result, Ok, Err, List}
 use Rattle.std.specs.Prelude.{IfOk}
 use Rattle.pl_base.specs.declared.place.FileKey.{FileKey}
 use Rattle.pl_directives.specs.declared.fault.ExpandFault.{ExpandFault}
-use Rattle.pl_directives.specs.Steps.{◌>>=◌}
+use Rattle.pl_reading.specs.Steps.{◌>>=◌}
 use Rattle.pl_calls.specs.Meant.{◌>>>◌, alone}
 
 -- of what a step gives, with the files that were called by then

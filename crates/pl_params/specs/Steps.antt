@@ -1,11 +1,7 @@
 -- Steps one after the other: the first complaint ends them.
 use Rattle.std.specs.Prelude.{List, [], ◌∷◌, ◌++◌, Result, Ok, Err}
 use Rattle.pl_params.specs.declared.fault.Complaint.{Complaint}
-
-infixl 10 ◌>>=◌
-abbrev pub ◌>>=◌ : {A B : Type 0} → Result A Complaint → (A → Result B Complaint) → Result B Complaint
-(Ok value) >>= next = next value
-(Err complaint) >>= next = Err complaint
+use Rattle.pl_reading.specs.Steps.{◌>>=◌}
 
 -- Each item makes one more behind those that are there.
 abbrev pub in_turn : {X Y : Type 0} → (List Y → X → Result Y Complaint) → List Y → List X → Result (List Y) Complaint

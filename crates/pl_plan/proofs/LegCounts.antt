@@ -10,12 +10,13 @@ use Rattle.pl_base.specs.declared.value.Value.{out-Value}
 use Rattle.pl_base.specs.declared.value.Value.TheOpen as layer
 use Rattle.pl_base.specs.declared.value.MarkedNode.{MarkedNode}
 use Rattle.pl_literal.specs.Items.{Opened}
-use Rattle.pl_schema.specs.declared.pipeline.JobSpec.{JobSpec}
-use Rattle.pl_schema.specs.declared.pipeline.LegSpec.{LegSpec}
-use Rattle.pl_schema.specs.declared.pipeline.LegSpec.TheVariants.{One, Parallel, Matrix}
-use Rattle.pl_schema.specs.declared.pipeline.StageSpec.{StageSpec}
-use Rattle.pl_schema.specs.Names.{is_taken}
-use Rattle.pl_depends.specs.Gives.{Fault, ◌>>=◌, each_passes, in_turn}
+use Rattle.pl_schema_parts.specs.declared.pipeline.JobSpec.{JobSpec}
+use Rattle.pl_schema_parts.specs.declared.pipeline.LegSpec.{LegSpec}
+use Rattle.pl_schema_parts.specs.declared.pipeline.LegSpec.TheVariants.{One, Parallel, Matrix}
+use Rattle.pl_schema_parts.specs.declared.pipeline.StageSpec.{StageSpec}
+use Rattle.pl_schema_parts.specs.Names.{is_taken}
+use Rattle.pl_depends.specs.Gives.{Fault, each_passes, in_turn}
+use Rattle.pl_reading.specs.Steps.{◌>>=◌}
 use Rattle.pl_depends.specs.Places.{leg_count, pair_count}
 use Rattle.pl_plan.specs.declared.legs.Leg.{Leg}
 use Rattle.pl_plan.specs.Legs.{only_leg, first_slices, leg_names, matrix_leg, matrix_of, legs_in}

@@ -11,8 +11,8 @@ use Rattle.std.proofs.lemmas.List.{length-replicate}
 use Rattle.std.proofs.lemmas.List.Elements.{Contains-append_left, Contains-append_right}
 use Rattle.std.proofs.lemmas.List.Elements.{Contains-append_cases, Contains-push_cases}
 use Rattle.pl_literal.specs.Booleans.{spells}
-use Rattle.pl_schema.specs.declared.pipeline.DependSpec.{DependSpec}
-use Rattle.pl_schema.specs.declared.pipeline.JobSpec.{JobSpec}
+use Rattle.pl_schema_parts.specs.declared.pipeline.DependSpec.{DependSpec}
+use Rattle.pl_schema_parts.specs.declared.pipeline.JobSpec.{JobSpec}
 use Rattle.pl_depends.specs.Graph.{places_named, job_waits, waiting_job, edges_of_one, edges_from}
 use Rattle.pl_depends.specs.Places.{Finding, places_under, places_from, leg_count, job_entries}
 use Rattle.pl_depends.specs.Places.{leg_entries}

@@ -10,9 +10,10 @@ use Rattle.std.proofs.lemmas.List.Folds.{list_any-append}
 use Rattle.std.proofs.lemmas.List.{at_drop_more}
 use Rattle.pl_base.specs.declared.value.MarkedPair.{MarkedPair}
 use Rattle.pl_literal.specs.Booleans.{spells}
-use Rattle.pl_schema.specs.declared.pipeline.Variable.{Variable}
-use Rattle.pl_schema.specs.Names.{is_taken}
-use Rattle.pl_depends.specs.Gives.{Fault, ◌>>=◌, in_turn}
+use Rattle.pl_schema_parts.specs.declared.pipeline.Variable.{Variable}
+use Rattle.pl_schema_parts.specs.Names.{is_taken}
+use Rattle.pl_depends.specs.Gives.{Fault, in_turn}
+use Rattle.pl_reading.specs.Steps.{◌>>=◌}
 use Rattle.pl_depends.specs.Places.{Finding, also, nowhere}
 use Rattle.pl_plan.specs.declared.legs.Leg.{Leg}
 use Rattle.pl_plan.specs.Legs.{leg_names, leg_variables, matrix_leg, named_leg, or_bad_leg}

@@ -6,10 +6,10 @@ use Rattle.std.specs.Prelude.{flat_map, replicate}
 use Rattle.std.specs.List.{AllByRecursion}
 use Rattle.std.proofs.lemmas.List.{length-replicate, map-append}
 use Rattle.std.proofs.lemmas.List.Elements.{All-from_recursion, recursion_from_All}
-use Rattle.pl_schema.specs.declared.pipeline.JobSpec.{JobSpec}
-use Rattle.pl_schema.specs.declared.pipeline.Pipeline.{Pipeline}
-use Rattle.pl_schema.specs.declared.pipeline.PoolSpec.{PoolSpec}
-use Rattle.pl_schema.specs.declared.pipeline.StageSpec.{StageSpec}
+use Rattle.pl_schema_parts.specs.declared.pipeline.JobSpec.{JobSpec}
+use Rattle.pl_schema_parts.specs.declared.pipeline.Pipeline.{Pipeline}
+use Rattle.pl_schema_parts.specs.declared.pipeline.PoolSpec.{PoolSpec}
+use Rattle.pl_schema_parts.specs.declared.pipeline.StageSpec.{StageSpec}
 use Rattle.pl_depends.specs.Cycles.{IsAcyclic, HasNoCircle}
 use Rattle.pl_depends.specs.Graph.{AreBelow, edges_of_one, edges_from, stage_graph, waiting_stages}
 use Rattle.pl_depends.specs.Graph.{job_graph, job_waits, stage_waits}

@@ -8,12 +8,13 @@ use Rattle.std.proofs.lemmas.List.{at_drop_more, at_drop_all, length-map, length
 use Rattle.std.proofs.lemmas.List.{get_or-replicate}
 use Rattle.std.proofs.lemmas.Option.{slice_get-map, slice_get-get_or, slice_get_past}
 use Rattle.pl_base.specs.declared.place.Place.{Place}
-use Rattle.pl_schema.specs.declared.pipeline.JobSpec.{JobSpec}
-use Rattle.pl_schema.specs.declared.pipeline.StageSpec.{StageSpec}
+use Rattle.pl_schema_parts.specs.declared.pipeline.JobSpec.{JobSpec}
+use Rattle.pl_schema_parts.specs.declared.pipeline.StageSpec.{StageSpec}
 use Rattle.pl_depends.specs.declared.fault.PlanCode.{PlanCode}
 use Rattle.pl_depends.specs.declared.fault.PlanFault.{PlanFault}
 use Rattle.pl_depends.specs.declared.fault.PlanFault.TheVariants.{Refused, Memory}
-use Rattle.pl_depends.specs.Gives.{Fault, Refuses, ◌>>=◌}
+use Rattle.pl_depends.specs.Gives.{Fault, Refuses}
+use Rattle.pl_reading.specs.Steps.{◌>>=◌}
 use Rattle.pl_plan.specs.Limits.{at_most, left_by, left_over, seats_in}
 
 none_spent : (code : PlanCode) (left : ℕ) → left_over code left [] ≡ Ok left

@@ -7,10 +7,10 @@ use Rattle.pl_base.specs.declared.value.Value.{out-Value}
 use Rattle.pl_base.specs.declared.value.Value.TheOpen as layer
 use Rattle.pl_graph.specs.Graph.{AreEdges, IsCycle}
 use Rattle.pl_literal.specs.Items.{Opened}
-use Rattle.pl_schema.specs.declared.pipeline.LegSpec.{LegSpec}
-use Rattle.pl_schema.specs.declared.pipeline.LegSpec.TheVariants.{One, Parallel, Matrix}
-use Rattle.pl_schema.specs.declared.pipeline.Pipeline.{Pipeline}
-use Rattle.pl_schema.specs.declared.pipeline.StageSpec.{StageSpec}
+use Rattle.pl_schema_parts.specs.declared.pipeline.LegSpec.{LegSpec}
+use Rattle.pl_schema_parts.specs.declared.pipeline.LegSpec.TheVariants.{One, Parallel, Matrix}
+use Rattle.pl_schema_parts.specs.declared.pipeline.Pipeline.{Pipeline}
+use Rattle.pl_schema_parts.specs.declared.pipeline.StageSpec.{StageSpec}
 use Rattle.pl_depends.specs.Graph.{edges_of_one}
 use Rattle.pl_uses.specs.Uses.{key_cmp}
 use Rattle.pl_plan.specs.declared.plan.Plan.{Plan}

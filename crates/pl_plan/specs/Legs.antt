@@ -13,16 +13,17 @@ use Rattle.pl_base.specs.declared.value.MarkedNode.{MarkedNode}
 use Rattle.pl_base.specs.declared.value.MarkedPair.{MarkedPair}
 use Rattle.pl_expr.specs.Grammar.{is_name_byte}
 use Rattle.pl_literal.specs.Items.{Opened}
-use Rattle.pl_schema.specs.declared.pipeline.JobSpec.{JobSpec}
-use Rattle.pl_schema.specs.declared.pipeline.LegSpec.{LegSpec}
-use Rattle.pl_schema.specs.declared.pipeline.LegSpec.TheVariants.{One, Parallel, Matrix}
-use Rattle.pl_schema.specs.declared.pipeline.StageSpec.{StageSpec}
-use Rattle.pl_schema.specs.declared.pipeline.Variable.{Variable}
-use Rattle.pl_schema.specs.Names.{is_taken}
-use Rattle.pl_schema.specs.Variables.{variable_in}
+use Rattle.pl_schema_parts.specs.declared.pipeline.JobSpec.{JobSpec}
+use Rattle.pl_schema_parts.specs.declared.pipeline.LegSpec.{LegSpec}
+use Rattle.pl_schema_parts.specs.declared.pipeline.LegSpec.TheVariants.{One, Parallel, Matrix}
+use Rattle.pl_schema_parts.specs.declared.pipeline.StageSpec.{StageSpec}
+use Rattle.pl_schema_parts.specs.declared.pipeline.Variable.{Variable}
+use Rattle.pl_schema_parts.specs.Names.{is_taken}
+use Rattle.pl_schema_parts.specs.Variables.{variable_in}
 use Rattle.pl_depends.specs.declared.fault.PlanCode.TheVariants.{BadLeg}
 use Rattle.pl_plan.specs.declared.legs.Leg.{Leg}
-use Rattle.pl_depends.specs.Gives.{Fault, ◌>>=◌, each_passes, in_turn}
+use Rattle.pl_depends.specs.Gives.{Fault, each_passes, in_turn}
+use Rattle.pl_reading.specs.Steps.{◌>>=◌}
 
 -- a job that isn't cut
 abbrev pub only_leg : Leg

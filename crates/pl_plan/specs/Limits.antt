@@ -2,12 +2,13 @@
 use Rattle.std.specs.Prelude.{ℕ, ◌-◌, List, map, length, replicate, flat_map, slice_get, Option}
 use Rattle.std.specs.Prelude.{Some, None, Result, Ok, Err}
 use Rattle.pl_base.specs.declared.place.Place.{Place}
-use Rattle.pl_schema.specs.declared.pipeline.JobSpec.{JobSpec}
-use Rattle.pl_schema.specs.declared.pipeline.StageSpec.{StageSpec}
+use Rattle.pl_schema_parts.specs.declared.pipeline.JobSpec.{JobSpec}
+use Rattle.pl_schema_parts.specs.declared.pipeline.StageSpec.{StageSpec}
 use Rattle.pl_depends.specs.declared.fault.PlanCode.{PlanCode}
 use Rattle.pl_depends.specs.declared.fault.PlanCode.TheVariants.{TooManyStages, TooManyJobs}
 use Rattle.pl_depends.specs.declared.fault.PlanCode.TheVariants.{TooManySteps}
-use Rattle.pl_depends.specs.Gives.{Fault, ◌>>=◌}
+use Rattle.pl_depends.specs.Gives.{Fault}
+use Rattle.pl_reading.specs.Steps.{◌>>=◌}
 use Rattle.pl_depends.specs.Places.{leg_count}
 
 -- how many more may follow, where these are no more than may stand there; the first one too many is

@@ -3,9 +3,9 @@
 -- dependencies; "Define variables"; "Approvals and checks"). The clauses leave one plan.
 use Rattle.std.specs.Prelude.{◌≡◌, ℕ, List, ◌++◌, All, Contains, map, flat_map, Option, unwrap_or}
 use Rattle.std.specs.List.{AllZip, enumerate_from}
-use Rattle.pl_schema.specs.declared.pipeline.JobSpec.{JobSpec}
-use Rattle.pl_schema.specs.declared.pipeline.Pipeline.{Pipeline}
-use Rattle.pl_schema.specs.declared.pipeline.StageSpec.{StageSpec}
+use Rattle.pl_schema_parts.specs.declared.pipeline.JobSpec.{JobSpec}
+use Rattle.pl_schema_parts.specs.declared.pipeline.Pipeline.{Pipeline}
+use Rattle.pl_schema_parts.specs.declared.pipeline.StageSpec.{StageSpec}
 use Rattle.pl_plan.specs.declared.legs.Leg.{Leg}
 use Rattle.pl_plan.specs.declared.plan.Plan.{Plan}
 use Rattle.pl_plan.specs.declared.plan.PlanJob.{PlanJob}

@@ -5,18 +5,19 @@ use Rattle.std.specs.Prelude.{Some, unwrap_or, Result, Ok, Err}
 use Rattle.std.specs.Option.{option_or}
 use Rattle.pl_base.specs.declared.outcome.Behaviour.{Behaviour}
 use Rattle.pl_base.specs.declared.outcome.Behaviour.TheVariants.{RunLatest}
-use Rattle.pl_schema.specs.declared.pipeline.JobSpec.{JobSpec}
-use Rattle.pl_schema.specs.declared.pipeline.Pipeline.{Pipeline}
-use Rattle.pl_schema.specs.declared.pipeline.PoolSpec.{PoolSpec}
-use Rattle.pl_schema.specs.declared.pipeline.StageSpec.{StageSpec}
-use Rattle.pl_schema.specs.declared.pipeline.StepSpec.{StepSpec}
+use Rattle.pl_schema_parts.specs.declared.pipeline.JobSpec.{JobSpec}
+use Rattle.pl_schema_parts.specs.declared.pipeline.Pipeline.{Pipeline}
+use Rattle.pl_schema_parts.specs.declared.pipeline.PoolSpec.{PoolSpec}
+use Rattle.pl_schema_parts.specs.declared.pipeline.StageSpec.{StageSpec}
+use Rattle.pl_schema_parts.specs.declared.pipeline.StepSpec.{StepSpec}
 use Rattle.pl_plan.specs.declared.legs.Leg.{Leg}
 use Rattle.pl_plan.specs.declared.plan.Plan.{Plan}
 use Rattle.pl_plan.specs.declared.plan.PlanJob.{PlanJob}
 use Rattle.pl_plan.specs.declared.plan.PlanStage.{PlanStage}
 use Rattle.pl_plan.specs.declared.plan.PlanStep.{PlanStep}
 use Rattle.pl_depends.specs.Cycles.{FirstCycle}
-use Rattle.pl_depends.specs.Gives.{Fault, ◌>>=◌}
+use Rattle.pl_depends.specs.Gives.{Fault}
+use Rattle.pl_reading.specs.Steps.{◌>>=◌}
 use Rattle.pl_depends.specs.Graph.{stage_waits, job_waits}
 use Rattle.pl_depends.specs.Known.{names_known}
 use Rattle.pl_plan.specs.Legs.{legs_of, all_legs_judged}

@@ -1,5 +1,5 @@
 ghost use Rattle.std.specs.Prelude.{◌≡◌, Result};
-ghost use Rattle.pl_schema.specs.declared.pipeline.Pipeline.{Pipeline};
+ghost use Rattle.pl_schema_parts.specs.declared.pipeline.Pipeline.{Pipeline};
 ghost use Rattle.pl_depends.specs.Gives.{Fault};
 ghost use Rattle.pl_plan.specs.Planned.{IsPlanned};
 ghost use Rattle.pl_plan.specs.Plans.{IsPlanOf};

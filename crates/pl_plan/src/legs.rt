@@ -2,7 +2,7 @@ ghost use Rattle.std.specs.Prelude.{◌≡◌, ◌∷◌, [], IfOk};
 ghost use Rattle.std.specs.List.{list_all};
 ghost use Rattle.pl_base.specs.declared.value.Value.{out-Value};
 ghost use Rattle.pl_expr.specs.Grammar.{is_name_byte};
-ghost use Rattle.pl_schema.specs.Names.{is_taken};
+ghost use Rattle.pl_schema_parts.specs.Names.{is_taken};
 ghost use Rattle.pl_depends.specs.declared.fault.PlanCode.TheVariants.{BadLeg};
 ghost use Rattle.pl_depends.specs.Gives.{Faults, Gives, each_passes, in_turn};
 ghost use Rattle.pl_plan.specs.Legs as spec;

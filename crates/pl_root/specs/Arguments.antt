@@ -27,7 +27,7 @@ use Rattle.pl_directives.specs.declared.fault.ExpandFault.{ExpandFault}
 use Rattle.pl_directives.specs.declared.fault.ExpandProblem.TheVariants.{BadFile}
 use Rattle.pl_directives.specs.Complaints.{refused}
 use Rattle.pl_calls.specs.Parameters.{declared_by, bound_to}
-use Rattle.pl_directives.specs.Steps.{◌>>=◌}
+use Rattle.pl_reading.specs.Steps.{◌>>=◌}
 
 -- ---- its parameters
 

@@ -7,23 +7,24 @@ use Rattle.pl_base.specs.declared.value.MarkedPair.{MarkedPair}
 use Rattle.pl_literal.specs.declared.items.ItemKind.{ItemKind}
 use Rattle.pl_literal.specs.declared.items.ItemKind.TheVariants as item
 use Rattle.pl_literal.specs.Items.{kind_of_key}
-use Rattle.pl_schema.specs.declared.fault.SchemaCode.TheVariants.{FirstKey}
-use Rattle.pl_schema.specs.declared.legs.Legs.{Legs}
-use Rattle.pl_schema.specs.declared.pipeline.JobSpec.{JobSpec}
-use Rattle.pl_schema.specs.declared.pipeline.LegSpec.TheVariants.{One}
-use Rattle.pl_schema.specs.declared.pipeline.StepSpec.{StepSpec}
-use Rattle.pl_schema.specs.declared.variables.Variables.{Variables}
-use Rattle.pl_schema.specs.Gives.{Fault}
-use Rattle.pl_schema.specs.Legs.{legs_in}
-use Rattle.pl_schema.specs.Names.{is_taken, name_in}
-use Rattle.pl_schema.specs.Pools.{pool_in, environment_in}
-use Rattle.pl_schema.specs.Rows.{reads, passed}
-use Rattle.pl_schema.specs.Rows.{◌>>=◌, at_node, Row, sets, has, read_object, in_turn}
-use Rattle.pl_schema.specs.Rows.{some_items}
-use Rattle.pl_schema.specs.Scalars.{pairs_in, items_in, truth_in, limited_in, condition_in}
-use Rattle.pl_schema.specs.Scalars.{depends_in}
-use Rattle.pl_schema.specs.Steps.{steps_in}
-use Rattle.pl_schema.specs.Variables.{variables_in}
+use Rattle.pl_schema_parts.specs.declared.fault.SchemaCode.TheVariants.{FirstKey}
+use Rattle.pl_schema_parts.specs.declared.legs.Legs.{Legs}
+use Rattle.pl_schema_parts.specs.declared.pipeline.JobSpec.{JobSpec}
+use Rattle.pl_schema_parts.specs.declared.pipeline.LegSpec.TheVariants.{One}
+use Rattle.pl_schema_parts.specs.declared.pipeline.StepSpec.{StepSpec}
+use Rattle.pl_schema_parts.specs.declared.variables.Variables.{Variables}
+use Rattle.pl_schema_parts.specs.Gives.{Fault}
+use Rattle.pl_schema_parts.specs.Legs.{legs_in}
+use Rattle.pl_schema_parts.specs.Names.{is_taken, name_in}
+use Rattle.pl_schema_parts.specs.Pools.{pool_in, environment_in}
+use Rattle.pl_schema_parts.specs.Rows.{reads, passed}
+use Rattle.pl_schema_parts.specs.Rows.{at_node, Row, sets, has, read_object, in_turn}
+use Rattle.pl_reading.specs.Steps.{◌>>=◌}
+use Rattle.pl_schema_parts.specs.Rows.{some_items}
+use Rattle.pl_schema_parts.specs.Scalars.{pairs_in, items_in, truth_in, limited_in, condition_in}
+use Rattle.pl_schema_parts.specs.Scalars.{depends_in}
+use Rattle.pl_schema_parts.specs.Steps.{steps_in}
+use Rattle.pl_schema_parts.specs.Variables.{variables_in}
 
 -- a job before its first key
 abbrev pub new_job : Bool → Place → JobSpec

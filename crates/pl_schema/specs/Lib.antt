@@ -1,12 +1,3 @@
-pub mod Codes
-pub mod Gives
 pub mod Jobs
-pub mod Legs
-pub mod Names
 pub mod Pipelines
-pub mod Pools
-pub mod Rows
-pub mod Scalars
 pub mod Stages
-pub mod Steps
-pub mod Variables

@@ -7,28 +7,29 @@ use Rattle.pl_base.specs.declared.place.FileKey.{FileKey}
 use Rattle.pl_base.specs.declared.place.Place.{Place}
 use Rattle.pl_base.specs.declared.value.MarkedNode.{MarkedNode}
 use Rattle.pl_base.specs.declared.value.MarkedPair.{MarkedPair}
-use Rattle.pl_schema.specs.declared.fault.SchemaCode.TheVariants.{TwoForms}
-use Rattle.pl_schema.specs.declared.legs.Legs.{Legs}
-use Rattle.pl_schema.specs.declared.pipeline.JobSpec.{JobSpec}
-use Rattle.pl_schema.specs.declared.pipeline.Pipeline.{Pipeline}
-use Rattle.pl_schema.specs.declared.pipeline.RepoRef.{RepoRef}
-use Rattle.pl_schema.specs.declared.pipeline.StageSpec.{StageSpec}
-use Rattle.pl_schema.specs.declared.pipeline.StepSpec.{StepSpec}
+use Rattle.pl_schema_parts.specs.declared.fault.SchemaCode.TheVariants.{TwoForms}
+use Rattle.pl_schema_parts.specs.declared.legs.Legs.{Legs}
+use Rattle.pl_schema_parts.specs.declared.pipeline.JobSpec.{JobSpec}
+use Rattle.pl_schema_parts.specs.declared.pipeline.Pipeline.{Pipeline}
+use Rattle.pl_schema_parts.specs.declared.pipeline.RepoRef.{RepoRef}
+use Rattle.pl_schema_parts.specs.declared.pipeline.StageSpec.{StageSpec}
+use Rattle.pl_schema_parts.specs.declared.pipeline.StepSpec.{StepSpec}
 use Rattle.pl_schema.specs.declared.root.Form.{Form}
 use Rattle.pl_schema.specs.declared.root.Form.TheVariants.{Nothing, Stages, Jobs, Steps}
 use Rattle.pl_schema.specs.declared.root.Root.{Root}
-use Rattle.pl_schema.specs.declared.variables.Variables.{Variables}
-use Rattle.pl_schema.specs.Gives.{Fault}
+use Rattle.pl_schema_parts.specs.declared.variables.Variables.{Variables}
+use Rattle.pl_schema_parts.specs.Gives.{Fault}
 use Rattle.pl_schema.specs.Jobs.{new_job, jobs_in}
-use Rattle.pl_schema.specs.Legs.{no_legs, legs_in}
-use Rattle.pl_schema.specs.Pools.{pool_in}
-use Rattle.pl_schema.specs.Rows.{reads, passed}
-use Rattle.pl_schema.specs.Rows.{◌>>=◌, Row, Reading, sets, alone, only_if, has}
-use Rattle.pl_schema.specs.Rows.{read_object}
-use Rattle.pl_schema.specs.Scalars.{pairs_in, truth_in, behaviour_in}
+use Rattle.pl_schema_parts.specs.Legs.{no_legs, legs_in}
+use Rattle.pl_schema_parts.specs.Pools.{pool_in}
+use Rattle.pl_schema_parts.specs.Rows.{reads, passed}
+use Rattle.pl_schema_parts.specs.Rows.{Row, Reading, sets, alone, only_if, has}
+use Rattle.pl_reading.specs.Steps.{◌>>=◌}
+use Rattle.pl_schema_parts.specs.Rows.{read_object}
+use Rattle.pl_schema_parts.specs.Scalars.{pairs_in, truth_in, behaviour_in}
 use Rattle.pl_schema.specs.Stages.{new_stage, stages_in}
-use Rattle.pl_schema.specs.Steps.{steps_in}
-use Rattle.pl_schema.specs.Variables.{variables_in}
+use Rattle.pl_schema_parts.specs.Steps.{steps_in}
+use Rattle.pl_schema_parts.specs.Variables.{variables_in}
 
 -- the root before its first key
 abbrev pub new_root : Root

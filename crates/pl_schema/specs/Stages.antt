@@ -5,18 +5,19 @@ use Rattle.pl_base.specs.declared.place.Place.{Place}
 use Rattle.pl_base.specs.declared.value.MarkedNode.{MarkedNode}
 use Rattle.pl_base.specs.declared.value.MarkedPair.{MarkedPair}
 use Rattle.pl_literal.specs.Items.{is}
-use Rattle.pl_schema.specs.declared.fault.SchemaCode.TheVariants.{FirstKey}
-use Rattle.pl_schema.specs.declared.pipeline.StageSpec.{StageSpec}
-use Rattle.pl_schema.specs.declared.variables.Variables.{Variables}
-use Rattle.pl_schema.specs.Gives.{Fault}
+use Rattle.pl_schema_parts.specs.declared.fault.SchemaCode.TheVariants.{FirstKey}
+use Rattle.pl_schema_parts.specs.declared.pipeline.StageSpec.{StageSpec}
+use Rattle.pl_schema_parts.specs.declared.variables.Variables.{Variables}
+use Rattle.pl_schema_parts.specs.Gives.{Fault}
 use Rattle.pl_schema.specs.Jobs.{jobs_in}
-use Rattle.pl_schema.specs.Names.{is_taken, name_in}
-use Rattle.pl_schema.specs.Pools.{pool_in}
-use Rattle.pl_schema.specs.Rows.{reads, passed}
-use Rattle.pl_schema.specs.Rows.{◌>>=◌, at_node, Row, has, read_object, in_turn}
-use Rattle.pl_schema.specs.Rows.{some_items}
-use Rattle.pl_schema.specs.Scalars.{pairs_in, items_in, condition_in, behaviour_in, depends_in}
-use Rattle.pl_schema.specs.Variables.{variables_in}
+use Rattle.pl_schema_parts.specs.Names.{is_taken, name_in}
+use Rattle.pl_schema_parts.specs.Pools.{pool_in}
+use Rattle.pl_schema_parts.specs.Rows.{reads, passed}
+use Rattle.pl_schema_parts.specs.Rows.{at_node, Row, has, read_object, in_turn}
+use Rattle.pl_reading.specs.Steps.{◌>>=◌}
+use Rattle.pl_schema_parts.specs.Rows.{some_items}
+use Rattle.pl_schema_parts.specs.Scalars.{pairs_in, items_in, condition_in, behaviour_in, depends_in}
+use Rattle.pl_schema_parts.specs.Variables.{variables_in}
 
 -- a stage before its first key
 abbrev pub new_stage : Place → StageSpec

@@ -1,22 +1,17 @@
 ghost use Rattle.std.specs.Prelude.{◌≡◌, [], true, IfOk};
-ghost use Rattle.pl_schema.specs.Gives.{Gives, Makes};
-ghost use Rattle.pl_schema.specs.Names.{is_taken, taken};
-ghost use Rattle.pl_schema.specs.Rows.{read_pair, in_order, in_turn};
+ghost use Rattle.pl_schema_parts.specs.Gives.{Gives, Makes};
+ghost use Rattle.pl_schema_parts.specs.Names.{is_taken, taken};
+ghost use Rattle.pl_schema_parts.specs.Rows.{read_pair, in_order, in_turn};
 ghost use Rattle.pl_schema.specs.Jobs as spec;
 
-use crate::fault::{SchemaCode, SchemaFault};
-use crate::legs::legs_in;
-use crate::lists::depends_in;
-use crate::names::{Names, name_in, no_names, take};
-use crate::pipeline::{JobSpec, LegSpec};
-use crate::pools::{environment_in, pool_in};
-use crate::rows::{at_key, at_node, has};
-use crate::scalars::{condition_in, items_in, limited_in, pairs_in, truth_in};
-use crate::steps::steps_in;
 use crate::strategy::strategy_in;
-use crate::variables::variables_in;
 use pl_base::{ExactCopy, List, MarkedNode, MarkedPair, Memory, Place, Text};
 use pl_literal::{ItemKind, kind_of_key};
+use pl_schema_parts::{
+    JobSpec, LegSpec, Names, SchemaCode, SchemaFault, at_key, at_node, condition_in, depends_in,
+    environment_in, has, items_in, legs_in, limited_in, name_in, no_names, pairs_in, pool_in,
+    steps_in, take, truth_in, variables_in,
+};
 use std::alloc::Global;
 
 /// How long a job may take at most, in minutes.

@@ -1,21 +1,18 @@
 ghost use Rattle.std.specs.Prelude.{◌≡◌, IfOk, OnOk, [], ◌∷◌, ◌++◌, map};
-ghost use Rattle.pl_schema.specs.Gives.{Gives, Makes};
-ghost use Rattle.pl_schema.specs.Rows.{read_pair, in_order};
+ghost use Rattle.pl_schema_parts.specs.Gives.{Gives, Makes};
+ghost use Rattle.pl_schema_parts.specs.Rows.{read_pair, in_order};
 ghost use Rattle.pl_schema.specs.Pipelines as spec;
 
-use crate::fault::{SchemaCode, SchemaFault};
 use crate::jobs::{jobs_in, new_job};
-use crate::legs::{Legs, legs_in, no_legs};
-use crate::pipeline::{JobSpec, Pipeline, PoolSpec, RepoRef, StageSpec, StepSpec, Variable};
-use crate::pools::pool_in;
-use crate::rows::{at_key, at_node, has};
-use crate::scalars::{behaviour_in, pairs_in, truth_in};
 use crate::stages::{new_stage, stages_in};
-use crate::steps::steps_in;
-use crate::variables::variables_in;
 use pl_base::{
     Behaviour, ExactCopy, Expanded, FileKey, List, MarkedNode, MarkedPair, Memory, Place,
     Repository, Text,
+};
+use pl_schema_parts::{
+    JobSpec, Legs, Pipeline, PoolSpec, RepoRef, SchemaCode, SchemaFault, StageSpec, StepSpec,
+    Variable, at_key, at_node, behaviour_in, has, legs_in, no_legs, pairs_in, pool_in, steps_in,
+    truth_in, variables_in,
 };
 use std::alloc::Global;
 

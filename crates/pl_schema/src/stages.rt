@@ -1,19 +1,15 @@
 ghost use Rattle.std.specs.Prelude.{◌≡◌, [], IfOk};
-ghost use Rattle.pl_schema.specs.Gives.{Gives, Makes};
-ghost use Rattle.pl_schema.specs.Names.{is_taken, taken};
-ghost use Rattle.pl_schema.specs.Rows.{read_pair, in_order, in_turn};
+ghost use Rattle.pl_schema_parts.specs.Gives.{Gives, Makes};
+ghost use Rattle.pl_schema_parts.specs.Names.{is_taken, taken};
+ghost use Rattle.pl_schema_parts.specs.Rows.{read_pair, in_order, in_turn};
 ghost use Rattle.pl_schema.specs.Stages as spec;
 
-use crate::fault::{SchemaCode, SchemaFault};
 use crate::jobs::jobs_in;
-use crate::lists::depends_in;
-use crate::names::{Names, name_in, no_names, take};
-use crate::pipeline::StageSpec;
-use crate::pools::pool_in;
-use crate::rows::{at_key, at_node, has};
-use crate::scalars::{behaviour_in, condition_in, items_in, pairs_in};
-use crate::variables::variables_in;
 use pl_base::{ExactCopy, List, MarkedNode, MarkedPair, Memory, Place, Text};
+use pl_schema_parts::{
+    Names, SchemaCode, SchemaFault, StageSpec, at_key, at_node, behaviour_in, condition_in,
+    depends_in, has, items_in, name_in, no_names, pairs_in, pool_in, take, variables_in,
+};
 use std::alloc::Global;
 
 /// The stages of a pipeline, of which there must be one.

@@ -1,15 +1,13 @@
 ghost use Rattle.std.specs.Prelude.{[], codes};
-ghost use Rattle.pl_schema.specs.Gives.{Gives};
-ghost use Rattle.pl_schema.specs.Rows.{read_pair, in_order};
-ghost use Rattle.pl_schema.specs.Steps.{steps_in};
+ghost use Rattle.pl_schema_parts.specs.Gives.{Gives};
+ghost use Rattle.pl_schema_parts.specs.Rows.{read_pair, in_order};
+ghost use Rattle.pl_schema_parts.specs.Steps.{steps_in};
 ghost use Rattle.pl_schema.specs.Jobs.{held_row, deploy_in, run_once_in, strategy_in};
 
-use crate::fault::{SchemaCode, SchemaFault};
-use crate::pipeline::StepSpec;
-use crate::rows::{at_key, at_node, has};
-use crate::scalars::pairs_in;
-use crate::steps::steps_in;
 use pl_base::{List, MarkedNode, MarkedPair};
+use pl_schema_parts::{
+    SchemaCode, SchemaFault, StepSpec, at_key, at_node, has, pairs_in, steps_in,
+};
 use std::alloc::Global;
 
 /// The steps of a deployment, under `runOnce`, `deploy` and `steps` of its strategy.

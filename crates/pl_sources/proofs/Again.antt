@@ -8,7 +8,7 @@ use Rattle.pl_base.specs.declared.place.FileKey.{FileKey}
 use Rattle.pl_compile.proofs.Reading.{read_at}
 use Rattle.pl_compile.specs.Compiling.{IsCompiledOf, sources_of}
 use Rattle.pl_compile.specs.Reading.{Read, Texts, read_all}
-use Rattle.pl_directives.specs.Steps.{◌>>=◌}
+use Rattle.pl_reading.specs.Steps.{◌>>=◌}
 use Rattle.pl_directives.specs.declared.fault.ExpandFault.{ExpandFault}
 use Rattle.pl_root.specs.Reading.{parsed}
 use Rattle.pl_expand.specs.Tree.{expansion, tree_of as rooted}

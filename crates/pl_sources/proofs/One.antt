@@ -11,7 +11,7 @@ use Rattle.pl_plan.proofs.OneAnswer.{one_answer}
 use Rattle.pl_plan.specs.Plans.{IsPlanOf}
 use Rattle.pl_plan.specs.declared.plan.Compiled.{Compiled}
 use Rattle.pl_schema.specs.Pipelines.{pipeline_of}
-use Rattle.pl_schema.specs.declared.pipeline.Pipeline.{Pipeline}
+use Rattle.pl_schema_parts.specs.declared.pipeline.Pipeline.{Pipeline}
 use Rattle.pl_sources.specs.Again.{CompilesToOne}
 
 module _ (texts : Texts) (root : FileKey) (arguments : List Argument) (compiled : Compiled)

@@ -27,28 +27,28 @@ use Rattle.pl_plan.specs.Plans.{plan_stages, plan_step}
 use Rattle.pl_plan.specs.declared.legs.Leg.{Leg}
 use Rattle.pl_plan.specs.declared.plan.Plan.{Plan}
 use Rattle.pl_provenance.specs.Roots.{jobs_of, pairs_of}
-use Rattle.pl_schema.specs.declared.legs.Legs.{Legs}
-use Rattle.pl_schema.specs.declared.pipeline.JobSpec.{JobSpec}
-use Rattle.pl_schema.specs.declared.pipeline.Pipeline.{Pipeline}
-use Rattle.pl_schema.specs.declared.pipeline.PoolSpec.{PoolSpec}
-use Rattle.pl_schema.specs.declared.pipeline.StageSpec.{StageSpec}
-use Rattle.pl_schema.specs.declared.pipeline.StepSpec.{StepSpec}
+use Rattle.pl_schema_parts.specs.declared.legs.Legs.{Legs}
+use Rattle.pl_schema_parts.specs.declared.pipeline.JobSpec.{JobSpec}
+use Rattle.pl_schema_parts.specs.declared.pipeline.Pipeline.{Pipeline}
+use Rattle.pl_schema_parts.specs.declared.pipeline.PoolSpec.{PoolSpec}
+use Rattle.pl_schema_parts.specs.declared.pipeline.StageSpec.{StageSpec}
+use Rattle.pl_schema_parts.specs.declared.pipeline.StepSpec.{StepSpec}
 use Rattle.pl_schema.specs.declared.root.Form.{Form}
 use Rattle.pl_schema.specs.declared.root.Form.TheVariants.{Nothing, Stages, Jobs, Steps}
 use Rattle.pl_schema.specs.declared.root.Root.{Root}
-use Rattle.pl_schema.specs.Gives.{Fault}
+use Rattle.pl_schema_parts.specs.Gives.{Fault}
 use Rattle.pl_schema.specs.Jobs.{jobs_in}
-use Rattle.pl_schema.specs.Legs.{legs_in}
+use Rattle.pl_schema_parts.specs.Legs.{legs_in}
 use Rattle.pl_schema.specs.Pipelines.{forms, has_form, has_some_form, new_root, pipeline_from}
 use Rattle.pl_schema.specs.Pipelines.{pipeline_of}
 use Rattle.pl_schema.specs.Pipelines.{root_in, root_row, root_variables, stages_of}
-use Rattle.pl_schema.specs.Pools.{pool_in}
-use Rattle.pl_schema.specs.Rows.{has, sets}
-use Rattle.pl_schema.specs.Scalars.{behaviour_in, pairs_from, pairs_in, truth_in}
+use Rattle.pl_schema_parts.specs.Pools.{pool_in}
+use Rattle.pl_schema_parts.specs.Rows.{has, sets}
+use Rattle.pl_schema_parts.specs.Scalars.{behaviour_in, pairs_from, pairs_in, truth_in}
 use Rattle.pl_schema.specs.Stages.{stages_in}
-use Rattle.pl_schema.specs.Steps.{steps_in}
-use Rattle.pl_schema.specs.Variables.{variables_in}
-use Rattle.pl_schema.specs.declared.fault.SchemaCode.TheVariants.{TwoForms}
+use Rattle.pl_schema_parts.specs.Steps.{steps_in}
+use Rattle.pl_schema_parts.specs.Variables.{variables_in}
+use Rattle.pl_schema_parts.specs.declared.fault.SchemaCode.TheVariants.{TwoForms}
 use Rattle.pl_uses.specs.Pools.{pool_of}
 use Rattle.pl_step_origins.specs.Steps.{AreStepsFrom, IsJobFrom, IsStageFrom, IsStepFrom}
 use Rattle.pl_step_origins.specs.Steps.{PlansExtendTheSame, StepsStandInTheTree, job_origins}

@@ -14,11 +14,12 @@ use Rattle.pl_eval_laws.proofs.Trees.{Any, NodeFrom, OpenedFrom, PairFrom}
 use Rattle.pl_eval_laws.proofs.Trees.{node_parts}
 use Rattle.pl_eval_laws.proofs.Trees.{value_parts}
 use Rattle.pl_literal.specs.Items.{is}
-use Rattle.pl_schema.specs.declared.fault.SchemaCode.{SchemaCode}
-use Rattle.pl_schema.specs.Gives.{Fault}
-use Rattle.pl_schema.specs.Rows.{◌>>=◌, Reading, Row, at_key, ignored, in_order, in_turn, only_if}
-use Rattle.pl_schema.specs.Rows.{alone, read_object, read_pair, sets, some_items}
-use Rattle.pl_schema.specs.Scalars.{items_from, items_in, pairs_from, pairs_in}
+use Rattle.pl_schema_parts.specs.declared.fault.SchemaCode.{SchemaCode}
+use Rattle.pl_schema_parts.specs.Gives.{Fault}
+use Rattle.pl_schema_parts.specs.Rows.{Reading, Row, at_key, ignored, in_order, in_turn, only_if}
+use Rattle.pl_reading.specs.Steps.{◌>>=◌}
+use Rattle.pl_schema_parts.specs.Rows.{alone, read_object, read_pair, sets, some_items}
+use Rattle.pl_schema_parts.specs.Scalars.{items_from, items_in, pairs_from, pairs_in}
 
 -- ---- one step behind another
 

@@ -10,24 +10,25 @@ use Rattle.pl_eval_laws.proofs.Trees.{Any, NodeFrom, PairFrom, pair_parts}
 use Rattle.pl_literal.specs.declared.items.ItemKind.{ItemKind}
 use Rattle.pl_literal.specs.declared.items.ItemKind.TheVariants as item
 use Rattle.pl_literal.specs.Items.{is, kind_of_key}
-use Rattle.pl_schema.specs.declared.pipeline.JobSpec.{JobSpec}
-use Rattle.pl_schema.specs.declared.pipeline.StageSpec.{StageSpec}
-use Rattle.pl_schema.specs.declared.pipeline.StepSpec.{StepSpec}
-use Rattle.pl_schema.specs.Gives.{Fault}
+use Rattle.pl_schema_parts.specs.declared.pipeline.JobSpec.{JobSpec}
+use Rattle.pl_schema_parts.specs.declared.pipeline.StageSpec.{StageSpec}
+use Rattle.pl_schema_parts.specs.declared.pipeline.StepSpec.{StepSpec}
+use Rattle.pl_schema_parts.specs.Gives.{Fault}
 use Rattle.pl_schema.specs.Jobs.{deploy_in, deployment_of, deployment_row, held_row, holding}
 use Rattle.pl_schema.specs.Jobs.{is_whole_deployment, job_by, job_from, job_in, job_of, job_row}
 use Rattle.pl_schema.specs.Jobs.{job_names, jobs_in, minutes_in, new_job, run_once_in, strategy_in}
 use Rattle.pl_schema.specs.Jobs.{job_legs, job_variables}
-use Rattle.pl_schema.specs.Legs.{legs_in}
-use Rattle.pl_schema.specs.Names.{is_taken, name_in}
-use Rattle.pl_schema.specs.Pools.{environment_in, pool_in}
-use Rattle.pl_schema.specs.Rows.{◌>>=◌, has, in_order, some_items}
-use Rattle.pl_schema.specs.Scalars.{behaviour_in, condition_in, depends_in, items_in, pairs_in}
-use Rattle.pl_schema.specs.Scalars.{truth_in}
+use Rattle.pl_schema_parts.specs.Legs.{legs_in}
+use Rattle.pl_schema_parts.specs.Names.{is_taken, name_in}
+use Rattle.pl_schema_parts.specs.Pools.{environment_in, pool_in}
+use Rattle.pl_schema_parts.specs.Rows.{has, in_order, some_items}
+use Rattle.pl_reading.specs.Steps.{◌>>=◌}
+use Rattle.pl_schema_parts.specs.Scalars.{behaviour_in, condition_in, depends_in, items_in, pairs_in}
+use Rattle.pl_schema_parts.specs.Scalars.{truth_in}
 use Rattle.pl_schema.specs.Stages.{new_stage, stage_from, stage_in, stage_names, stage_of}
 use Rattle.pl_schema.specs.Stages.{stage_row, stage_variables, stages_in}
-use Rattle.pl_schema.specs.Steps.{is_step_key, step_from, step_in, step_names, step_pair, steps_in}
-use Rattle.pl_schema.specs.Variables.{variables_in}
+use Rattle.pl_schema_parts.specs.Steps.{is_step_key, step_from, step_in, step_names, step_pair, steps_in}
+use Rattle.pl_schema_parts.specs.Variables.{variables_in}
 use Rattle.pl_step_origins.proofs.Reading.{◌also◌, KeepsAt, chosen, items_give}
 use Rattle.pl_step_origins.proofs.Reading.{object_keeps, pairs_give, passed_keeps, plain}
 use Rattle.pl_step_origins.proofs.Reading.{some_give, taken, then_any, then_ok, turn_gives}

@@ -13,7 +13,7 @@ use Rattle.pl_plan.specs.declared.plan.PlanStage.{PlanStage}
 use Rattle.pl_plan.specs.declared.plan.PlanStep.{PlanStep}
 use Rattle.pl_provenance.specs.Roots.{jobs_of}
 use Rattle.pl_schema.specs.Pipelines.{pipeline_of}
-use Rattle.pl_schema.specs.declared.pipeline.Pipeline.{Pipeline}
+use Rattle.pl_schema_parts.specs.declared.pipeline.Pipeline.{Pipeline}
 
 -- what is asked of the mapping of each step, of its keys and of each node in it
 abbrev pub IsStepFrom : (Origin → Type 0) → PlanStep → Type 0

@@ -4,7 +4,7 @@ use Rattle.std.proofs.Common.{◌≡◌, Result, Ok, Err, List, refl, ap, ◌∙
 use Rattle.std.specs.Prelude.{IfOk}
 use Rattle.pl_base.specs.declared.place.FileKey.{FileKey}
 use Rattle.pl_directives.specs.declared.fault.ExpandFault.{ExpandFault}
-use Rattle.pl_directives.specs.Steps.{◌>>=◌}
+use Rattle.pl_reading.specs.Steps.{◌>>=◌}
 use Rattle.pl_calls.specs.Meant.{◌>>>◌, alone}
 use Rattle.pl_origins.proofs.Steps.{Used}
 

@@ -21,7 +21,7 @@ use Rattle.pl_directives.specs.declared.region.Form.TheVariants.{Variables as In
 use Rattle.pl_directives.specs.declared.region.Region.TheVariants.{Free, Calls}
 use Rattle.pl_directives.specs.Contents.{begun, with_chain, with_count}
 use Rattle.pl_directives.specs.Counting.{entered}
-use Rattle.pl_directives.specs.Steps.{◌>>=◌}
+use Rattle.pl_reading.specs.Steps.{◌>>=◌}
 use Rattle.pl_calls.specs.Meant.{◌>>>◌}
 use Rattle.pl_calls.specs.Parts.{Body, body_of, under}
 use Rattle.pl_calls.specs.Reaching.{Opens, opens as opens_of, target, same_file, called_then}

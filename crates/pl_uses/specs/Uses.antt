@@ -17,10 +17,10 @@ use Rattle.pl_base.specs.declared.value.Value.TheOpen as layer
 use Rattle.pl_base.specs.declared.value.MarkedPair.{MarkedPair}
 use Rattle.pl_expr.specs.Conversions.{text_of}
 use Rattle.pl_literal.specs.Items.{Opened, is}
-use Rattle.pl_schema.specs.declared.pipeline.JobSpec.{JobSpec}
-use Rattle.pl_schema.specs.declared.pipeline.Pipeline.{Pipeline}
-use Rattle.pl_schema.specs.declared.pipeline.StageSpec.{StageSpec}
-use Rattle.pl_schema.specs.declared.pipeline.StepSpec.{StepSpec}
+use Rattle.pl_schema_parts.specs.declared.pipeline.JobSpec.{JobSpec}
+use Rattle.pl_schema_parts.specs.declared.pipeline.Pipeline.{Pipeline}
+use Rattle.pl_schema_parts.specs.declared.pipeline.StageSpec.{StageSpec}
+use Rattle.pl_schema_parts.specs.declared.pipeline.StepSpec.{StepSpec}
 use Rattle.pl_uses.specs.declared.uses.Uses.{Uses}
 use Rattle.pl_uses.specs.Pools.{pool_of, pool_name}
 

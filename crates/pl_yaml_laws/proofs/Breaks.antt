@@ -8,7 +8,7 @@ use Rattle.std.proofs.lemmas.Bool.{cases_Bool, and_parts, and_from}
 use Rattle.std.proofs.lemmas.Bool.Decides.{nat_tests}
 use Rattle.std.proofs.lemmas.List.{length-append}
 use Rattle.pl_line.specs.Rows.{Row, row_at, rows_from, rows_of, without_return, is_return, without_mark}
-use Rattle.pl_line.specs.Scanning.{begins_with}
+use Rattle.pl_reading.specs.Bytes.{begins_with}
 use Rattle.pl_yaml_laws.specs.Texts.{IsText}
 use Rattle.pl_yaml_laws.specs.Breaks.{with_line_feeds, LineBreaksAreAlike}
 use Rattle.pl_yaml_laws.proofs.Texts.{same_rows}

@@ -9,9 +9,10 @@ use Rattle.pl_base.specs.declared.place.FileKey.{FileKey}
 use Rattle.pl_base.specs.declared.node.Node.{Node}
 use Rattle.pl_base.specs.declared.node.NodeBody.TheVariants.{Scalar}
 use Rattle.pl_line.specs.declared.line_fault.Fault.{Fault}
-use Rattle.pl_line.specs.Rows.{Row, is_blank, is_control}
+use Rattle.pl_line.specs.Rows.{Row, is_control}
+use Rattle.pl_reading.specs.Bytes.{is_blank}
 use Rattle.pl_line.specs.Left.{is_bare}
-use Rattle.pl_line.specs.Reading.{◌>>=◌}
+use Rattle.pl_reading.specs.Steps.{◌>>=◌}
 use Rattle.pl_line.specs.Trees.{node_at}
 use Rattle.pl_yaml.specs.Reading.{Read, has_row}
 use Rattle.pl_yaml.specs.Content.{closed}

@@ -3,7 +3,7 @@ use Rattle.std.proofs.Common.{◌≡◌, true, cond, Ok, List, ◌∷◌, refl, 
 use Rattle.std.proofs.lemmas.Bool.{or_left}
 use Rattle.pl_line.specs.Rows.{Row}
 use Rattle.pl_line.specs.Left.{line_end, is_empty}
-use Rattle.pl_line.specs.Reading.{◌>>=◌}
+use Rattle.pl_reading.specs.Steps.{◌>>=◌}
 use Rattle.pl_yaml.specs.Reading.{many, many_step}
 use Rattle.pl_yaml.specs.Heads.{is_start}
 use Rattle.pl_yaml.specs.Content.{begins, stands, content, lead}

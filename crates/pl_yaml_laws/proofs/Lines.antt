@@ -7,10 +7,11 @@ use Rattle.std.proofs.lemmas.Bool.Decides.{nat_tests}
 use Rattle.std.proofs.lemmas.List.{drop-drop, drop_at, take_all}
 use Rattle.pl_base.specs.declared.place.FileKey.{FileKey}
 use Rattle.pl_base.specs.declared.node.Node.{Node}
-use Rattle.pl_line.specs.Rows.{Row, is_blank, is_control, indented, row_at, rows_from, rows_of, without_mark, without_return}
+use Rattle.pl_line.specs.Rows.{Row, is_control, indented, row_at, rows_from, rows_of, without_mark, without_return}
+use Rattle.pl_reading.specs.Bytes.{is_blank, begins_with}
 use Rattle.pl_line.specs.Left.{behind, line_end, is_empty}
-use Rattle.pl_line.specs.Reading.{◌>>=◌}
-use Rattle.pl_line.specs.Scanning.{begins_with, ends_word}
+use Rattle.pl_reading.specs.Steps.{◌>>=◌}
+use Rattle.pl_line.specs.Scanning.{ends_word}
 use Rattle.pl_yaml.specs.Heads.{is_word, is_marker, is_start}
 use Rattle.pl_yaml.specs.Content.{stands, begins, content, lead, is_closed, closed}
 use Rattle.pl_yaml.specs.Nodes.{begun, inner, node, node_in}

@@ -8,9 +8,10 @@ use Rattle.std.proofs.lemmas.List.Folds.{list_all-append}
 use Rattle.pl_base.specs.declared.place.FileKey.{FileKey}
 use Rattle.pl_base.specs.declared.node.Node.{Node}
 use Rattle.pl_base.specs.declared.node.NodeBody.TheVariants.{Scalar}
-use Rattle.pl_line.specs.Rows.{Row, is_blank, is_control}
-use Rattle.pl_line.specs.Reading.{◌>>=◌}
-use Rattle.pl_line.specs.Scanning.{begins_with, ends_word, plain_len, content_len}
+use Rattle.pl_line.specs.Rows.{Row, is_control}
+use Rattle.pl_reading.specs.Bytes.{is_blank, begins_with}
+use Rattle.pl_reading.specs.Steps.{◌>>=◌}
+use Rattle.pl_line.specs.Scanning.{ends_word, plain_len, content_len}
 use Rattle.pl_line.specs.Trees.{node_at}
 use Rattle.pl_line.proofs.Laws.Left.{empty_at}
 use Rattle.pl_yaml.specs.Heads.{is_marker, head_at, head_from, plain_head}

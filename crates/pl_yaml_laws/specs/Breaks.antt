@@ -1,7 +1,7 @@
 -- Line breaks (YAML 1.2.2, section 5.4).
 use Rattle.std.specs.Prelude.{◌≡◌, ℕ, ◌==◌, ◌&&◌, List, [], ◌∷◌, if◌then◌else◌}
 use Rattle.pl_base.specs.declared.place.FileKey.{FileKey}
-use Rattle.pl_line.specs.Scanning.{begins_with}
+use Rattle.pl_reading.specs.Bytes.{begins_with}
 use Rattle.pl_yaml_laws.specs.Texts.{IsText, spelled}
 
 -- each carriage return that stands before a line feed is left out

@@ -1,7 +1,8 @@
 -- What may stand behind a scalar on its line (YAML 1.2.2, sections 5.1, 6.2 and 6.6).
 use Rattle.std.specs.Prelude.{◌≡◌, ℕ, Bool, true, ◌==◌, ◌&&◌, ◌||◌, not, List, [], ◌∷◌}
 use Rattle.std.specs.List.{list_all}
-use Rattle.pl_line.specs.Rows.{is_blank, is_control, rows_of}
+use Rattle.pl_line.specs.Rows.{is_control, rows_of}
+use Rattle.pl_reading.specs.Bytes.{is_blank}
 
 -- no character is a line feed or another control character than tab
 abbrev pub is_line : List ℕ → Bool

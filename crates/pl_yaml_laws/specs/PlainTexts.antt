@@ -3,7 +3,8 @@ use Rattle.std.specs.Prelude.{◌≡◌, ℕ, Bool, true, false, ◌==◌, ◌&&
 use Rattle.std.specs.List.{list_any}
 use Rattle.pl_base.specs.declared.place.FileKey.{FileKey}
 use Rattle.pl_base.specs.declared.node.NodeBody.TheVariants.{Scalar}
-use Rattle.pl_line.specs.Rows.{Row, is_blank, is_control}
+use Rattle.pl_line.specs.Rows.{Row, is_control}
+use Rattle.pl_reading.specs.Bytes.{is_blank}
 use Rattle.pl_line.specs.Trees.{node_at}
 use Rattle.pl_yaml.specs.Heads.{is_marker}
 use Rattle.pl_yaml.specs.Plain.{further}

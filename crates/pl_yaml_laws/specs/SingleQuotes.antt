@@ -3,7 +3,7 @@ use Rattle.std.specs.Prelude.{◌≡◌, ℕ, true, false, ◌==◌, List, [], �
 use Rattle.pl_base.specs.declared.place.FileKey.{FileKey}
 use Rattle.pl_base.specs.declared.node.NodeBody.TheVariants.{Scalar}
 use Rattle.pl_line.specs.Rows.{Row}
-use Rattle.pl_line.specs.Scanning.{begins_with}
+use Rattle.pl_reading.specs.Bytes.{begins_with}
 use Rattle.pl_line.specs.Trees.{node_at}
 use Rattle.pl_line.specs.Quoted.{quoted}
 use Rattle.pl_yaml.specs.Inline.{inline}

@@ -1,7 +1,7 @@
 use Rattle.std.proofs.Common.{◌≡◌, ◌+◌, ◌-◌, ◌^◌, min, take, drop}
 use Rattle.std.specs.List.{prefix_len}
 use Rattle.std.specs.Char.{is_ascii_digit}
-use Rattle.pl_expr.specs.Numerals.{number_of}
+use Rattle.pl_reading.specs.Bytes.{number_of}
 use Rattle.pl_expr.proofs.numerals.leading_number.Given as goal
 
 abbrev pub invariant-loop-byte : goal.invariant-loop-byte

@@ -1,7 +1,8 @@
 use Rattle.std.proofs.Common.{◌≡◌, ◌-◌, ◌^◌, ◌++◌, map, min}
 use denote.Shadow.{shadow}
 use denote.Text.{Utf8}
-use Rattle.pl_expr.specs.Numerals.{number_of, more_runs, behind_more, runs_of, behind_runs}
+use Rattle.pl_expr.specs.Numerals.{more_runs, behind_more, runs_of, behind_runs}
+use Rattle.pl_reading.specs.Bytes.{number_of}
 use Rattle.pl_expr.proofs.numerals.read_runs.Given as goal
 
 abbrev pub invariant-loop-turn : goal.invariant-loop-turn

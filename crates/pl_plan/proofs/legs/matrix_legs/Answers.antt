@@ -1,5 +1,5 @@
 use Rattle.std.proofs.Common.{◌+◌, drop, sym, ap, ◌∙◌}
-use Rattle.pl_schema.specs.Names.{is_taken}
+use Rattle.pl_schema_parts.specs.Names.{is_taken}
 use Rattle.pl_depends.specs.Gives.{in_turn}
 use Rattle.pl_depends.specs.Places.{knows, under}
 use Rattle.pl_plan.specs.Legs.{leg_names, matrix_leg}

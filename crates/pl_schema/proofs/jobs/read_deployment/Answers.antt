@@ -1,8 +1,8 @@
 use Rattle.std.proofs.Common.{rules}
-use Rattle.pl_schema.specs.Rows.{read_pair}
-use Rattle.pl_schema.specs.Names.{taken}
+use Rattle.pl_schema_parts.specs.Rows.{read_pair}
+use Rattle.pl_schema_parts.specs.Names.{taken}
 use Rattle.pl_schema.specs.Jobs.{deployment_row}
-use Rattle.pl_schema.proofs.Order.{stop, go_on}
+use Rattle.pl_schema_parts.proofs.Order.{stop, go_on}
 use Rattle.pl_schema.proofs.jobs.read_deployment.Goals as goal
 
 pub returns-in_err-deployment_pair : goal.returns-in_err-deployment_pair

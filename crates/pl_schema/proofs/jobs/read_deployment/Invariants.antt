@@ -1,6 +1,6 @@
 use Rattle.std.proofs.Common.{◌≡◌, drop}
-use Rattle.pl_schema.specs.Rows.{in_order, read_pair}
-use Rattle.pl_schema.specs.Names.{taken}
+use Rattle.pl_schema_parts.specs.Rows.{in_order, read_pair}
+use Rattle.pl_schema_parts.specs.Names.{taken}
 use Rattle.pl_schema.specs.Jobs.{deployment_row}
 use Rattle.pl_schema.proofs.jobs.read_deployment.Given as goal
 

@@ -1,6 +1,6 @@
 use Rattle.std.proofs.Common.{◌≡◌, [], ◌∷◌, false, drop}
-use Rattle.pl_schema.specs.Rows.{in_order, read_pair}
-use Rattle.pl_schema.specs.Names.{taken}
+use Rattle.pl_schema_parts.specs.Rows.{in_order, read_pair}
+use Rattle.pl_schema_parts.specs.Names.{taken}
 use Rattle.pl_schema.specs.Jobs.{job_row, deployment_row, deploy_in, run_once_in}
 use Rattle.pl_schema.proofs.jobs.read_job.Given as goal
 

@@ -1,7 +1,7 @@
 use Rattle.std.proofs.Common.{rules}
-use Rattle.pl_schema.specs.Rows.{read_pair}
+use Rattle.pl_schema_parts.specs.Rows.{read_pair}
 use Rattle.pl_schema.specs.Pipelines.{new_root, root_row}
-use Rattle.pl_schema.proofs.Order.{stop, go_on}
+use Rattle.pl_schema_parts.proofs.Order.{stop, go_on}
 use Rattle.pl_schema.proofs.root.read_root.Goals as goal
 
 pub returns-in_err-root_pair : goal.returns-in_err-root_pair

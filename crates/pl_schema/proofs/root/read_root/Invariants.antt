@@ -1,5 +1,5 @@
 use Rattle.std.proofs.Common.{◌≡◌, drop}
-use Rattle.pl_schema.specs.Rows.{in_order, read_pair}
+use Rattle.pl_schema_parts.specs.Rows.{in_order, read_pair}
 use Rattle.pl_schema.specs.Pipelines.{new_root, root_row}
 use Rattle.pl_schema.proofs.root.read_root.Given as goal
 

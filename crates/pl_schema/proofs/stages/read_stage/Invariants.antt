@@ -1,6 +1,6 @@
 use Rattle.std.proofs.Common.{◌≡◌, [], ◌∷◌, false, drop}
-use Rattle.pl_schema.specs.Rows.{in_order, read_pair}
-use Rattle.pl_schema.specs.Names.{taken}
+use Rattle.pl_schema_parts.specs.Rows.{in_order, read_pair}
+use Rattle.pl_schema_parts.specs.Names.{taken}
 use Rattle.pl_schema.specs.Stages.{stage_row}
 use Rattle.pl_schema.proofs.stages.read_stage.Given as goal
 

@@ -1,6 +1,6 @@
 use Rattle.std.proofs.Common.{◌≡◌, [], drop}
-use Rattle.pl_schema.specs.Names.{is_taken, taken}
-use Rattle.pl_schema.specs.Rows.{in_turn}
+use Rattle.pl_schema_parts.specs.Names.{is_taken, taken}
+use Rattle.pl_schema_parts.specs.Rows.{in_turn}
 use Rattle.pl_schema.specs.Stages.{stage_in, stage_names}
 use Rattle.pl_schema.proofs.stages.stages_of.Given as goal
 

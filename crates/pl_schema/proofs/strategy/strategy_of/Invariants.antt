@@ -1,7 +1,7 @@
 use Rattle.std.proofs.Common.{◌≡◌, [], drop}
 use Rattle.std.specs.Prelude.{codes}
 use Rattle.pl_schema.specs.Jobs.{held_row, run_once_in}
-use Rattle.pl_schema.specs.Rows.{in_order, read_pair}
+use Rattle.pl_schema_parts.specs.Rows.{in_order, read_pair}
 use Rattle.pl_schema.proofs.strategy.strategy_of.Given as goal
 
 abbrev pub invariant-loop-pair : goal.invariant-loop-pair

@@ -1,8 +1,0 @@
-use Rattle.std.proofs.Common.{◌≡◌, [], ◌∷◌, false, drop}
-use Rattle.pl_schema.specs.Rows.{in_order, read_pair}
-use Rattle.pl_schema.specs.Pools.{no_pool, pool_row, environment_row}
-use Rattle.pl_schema.proofs.pools.pool_of.Given as goal
-
-abbrev pub invariant-loop-pair : goal.invariant-loop-pair
-invariant-loop-pair l = in_order (read_pair pool_row) no_pool l.pairs ≡ in_order
-    (read_pair pool_row) l.pool (drop l.pair-index l.pairs)

@@ -1,8 +1,0 @@
-use Rattle.std.proofs.Common.{◌≡◌, [], ◌∷◌, false, drop}
-use Rattle.pl_schema.specs.Rows.{in_order, read_pair}
-use Rattle.pl_schema.specs.Variables.{read_variable, read_item, no_variables, item_row, new_item}
-use Rattle.pl_schema.proofs.variables.read_pairs.Given as goal
-
-abbrev pub invariant-loop-pair : goal.invariant-loop-pair
-invariant-loop-pair l = in_order read_variable no_variables l.pairs ≡ in_order read_variable l.all
-    (drop l.pair-index l.pairs)

@@ -1,0 +1,8 @@
+use Rattle.std.proofs.Common.{◌≡◌, [], ◌∷◌, false, drop}
+use Rattle.pl_schema_parts.specs.Rows.{in_order, read_pair}
+use Rattle.pl_schema_parts.specs.Variables.{read_variable, read_item, no_variables, item_row, new_item}
+use Rattle.pl_schema_parts.proofs.variables.read_pairs.Given as goal
+
+abbrev pub invariant-loop-pair : goal.invariant-loop-pair
+invariant-loop-pair l = in_order read_variable no_variables l.pairs ≡ in_order read_variable l.all
+    (drop l.pair-index l.pairs)

@@ -1,0 +1,30 @@
+-- What a call gives, by what is meant.
+use Rattle.std.specs.Prelude.{◌≡◌, Result, Ok, Err}
+use Rattle.pl_base.specs.declared.place.Place.{Place}
+use Rattle.pl_schema_parts.specs.declared.fault.SchemaCode.{SchemaCode}
+use Rattle.pl_schema_parts.specs.declared.fault.SchemaFault.{SchemaFault}
+use Rattle.pl_schema_parts.specs.declared.fault.SchemaFault.TheVariants.{Refused, Memory}
+
+-- what is wrong, and where
+abbrev pub Fault : Type 0
+Fault = SchemaCode × Place
+
+-- a refusal is the fault that is meant, and want of memory is free
+abbrev pub Refuses : {X : Type 0} → SchemaFault → Result X Fault → Type 0
+Refuses Memory meant = Unit {0}
+Refuses (Refused code place) meant = meant ≡ Err (code, place)
+
+-- a value is what is meant
+abbrev pub Gives : {X : Type 0} → Result X SchemaFault → Result X Fault → Type 0
+Gives (Ok value) meant = meant ≡ Ok value
+Gives (Err fault) meant = Refuses fault meant
+
+-- what was changed is what is meant
+abbrev pub Makes : {X U : Type 0} → Result U SchemaFault → X → Result X Fault → Type 0
+Makes (Ok done) new meant = meant ≡ Ok new
+Makes (Err fault) new meant = Refuses fault meant
+
+-- a refusal with this code at this place
+abbrev pub IsRefusal : SchemaFault → SchemaCode → Place → Type 0
+IsRefusal Memory code place = Unit {0}
+IsRefusal (Refused found at) code place = (found ≡ code) × (at ≡ place)

@@ -1,0 +1,9 @@
+pub mod Codes
+pub mod Gives
+pub mod Legs
+pub mod Names
+pub mod Pools
+pub mod Rows
+pub mod Scalars
+pub mod Steps
+pub mod Variables
