@@ -13,14 +13,10 @@ use Rattle.pl_literal.specs.Booleans.{spells}
 use Rattle.std.specs.Prelude.{Option, Some, None}
 use Rattle.std.specs.List.{filter_map, cons_option, list_any}
 use Rattle.std.proofs.lemmas.List.Folds.{list_any-append}
-use Rattle.std.proofs.lemmas.List.{map-append, append-nil}
+use Rattle.std.proofs.lemmas.List.{append-nil}
 use Rattle.std.proofs.lemmas.List.Elements.{filter_map-append}
-use Rattle.pl_schema_parts.specs.declared.pipeline.JobSpec.{JobSpec}
-use Rattle.pl_schema_parts.specs.declared.pipeline.StageSpec.{StageSpec}
 use Rattle.pl_schema_parts.specs.declared.pipeline.StepSpec.{StepSpec}
-use Rattle.pl_schema.specs.Jobs.{job_names}
 use Rattle.pl_schema_parts.specs.Names.{is_taken, also_taken}
-use Rattle.pl_schema.specs.Stages.{stage_names}
 use Rattle.pl_schema_parts.specs.Steps.{step_name, step_names}
 
 either : (b c : Bool) → cond b true c ≡ (c || b)
@@ -45,7 +41,7 @@ one_more old new name upper updated is_upper i other =
 
 -- ---- the names of a list with one more item
 
-more : (names : List (List ℕ)) (name other : List ℕ) → (is_taken names other || spells other name) ≡
+pub more : (names : List (List ℕ)) (name other : List ℕ) → (is_taken names other || spells other name) ≡
     is_taken (names ++ name ∷ []) other
 more names name other = ap (λ b. is_taken names other || b) (or_none (spells other name))
     ∙ sym (list_any-append (spells other) names (name ∷ []))
@@ -53,24 +49,6 @@ more names name other = ap (λ b. is_taken names other || b) (or_none (spells ot
     or_none : (b : Bool) → b ≡ (b || false)
     or_none true = refl
     or_none false = refl
-
-pub stage_more : (taken : List ℕ → Bool) (stages : List StageSpec) (stage : StageSpec) →
-    taken ≡ is_taken (stage_names stages) → also_taken taken (Some stage.name) ≡ is_taken
-    (stage_names (stages ++ stage ∷ []))
-stage_more taken stages stage same i other =
-    (ap (λ (t : List ℕ → Bool). t other || spells other stage.name) same ∙ more (stage_names stages)
-    stage.name other
-    ∙ ap (λ names. is_taken names other)
-    (sym (map-append (λ (s : StageSpec). s.name) stages (stage ∷ [])))) i
-
-pub job_more : (taken : List ℕ → Bool) (jobs : List JobSpec) (job : JobSpec) →
-    taken ≡ is_taken (job_names jobs) → also_taken taken (Some job.name) ≡ is_taken
-    (job_names (jobs ++ job ∷ []))
-job_more taken jobs job same i other =
-    (ap (λ (t : List ℕ → Bool). t other || spells other job.name) same ∙ more (job_names jobs)
-    job.name other
-    ∙ ap (λ names. is_taken names other)
-    (sym (map-append (λ (j : JobSpec). j.name) jobs (job ∷ [])))) i
 
 with_option : (names : List (List ℕ)) (name : Option (List ℕ)) (other : List ℕ) →
     also_taken (is_taken names) name other ≡ is_taken (names ++ cons_option name []) other

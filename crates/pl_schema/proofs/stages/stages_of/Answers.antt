@@ -3,7 +3,7 @@ use Rattle.pl_schema_parts.specs.Names.{is_taken, taken}
 use Rattle.pl_schema_parts.specs.Rows.{in_turn}
 use Rattle.pl_schema.specs.Stages.{stage_in, stage_names}
 use Rattle.pl_schema_parts.proofs.Order.{next_turn}
-use Rattle.pl_schema_parts.proofs.Taken.{stage_more}
+use Rattle.pl_schema.proofs.Taken.{stage_more}
 use Rattle.pl_schema.proofs.stages.stages_of.Goals as goal
 
 pub loop-item-preserved : goal.loop-item-preserved
