@@ -25,7 +25,7 @@ use Rattle.pl_eval.specs.Known.{Known}
 use Rattle.pl_eval.specs.Means.{Meaning, answer, called, chosen, first_is_among, is_among, means}
 use Rattle.pl_eval.specs.Means.{status, truth, values}
 use Rattle.pl_eval.specs.Statuses.{status_of}
-use Rattle.pl_eval.specs.Steps.{◌>>=◌}
+use Rattle.pl_reading.specs.Steps.{◌>>=◌}
 use Rattle.pl_eval.specs.Texts.{text_value}
 use Rattle.pl_eval_equations.specs.Equations.{OfOne, OfTwo, Status, any_ran, exactly_one}
 

@@ -30,7 +30,7 @@ use Rattle.pl_eval.specs.LookUps.{looked_up, projected}
 use Rattle.pl_eval.specs.Means.{all_true, answer, any_true, called, first_filled, is_among, means}
 use Rattle.pl_eval.specs.Means.{rooted, truth, values}
 use Rattle.pl_eval.specs.Statuses.{results, went_well, went_wrong, was_run}
-use Rattle.pl_eval.specs.Steps.{◌>>=◌}
+use Rattle.pl_reading.specs.Steps.{◌>>=◌}
 use Rattle.pl_eval.specs.Texts.{casts_of, text_value, texts_value}
 
 -- ---- the kinds of expression
