@@ -9,7 +9,9 @@ use Rattle.std.specs.List.{All, AllByRecursion}
 use Rattle.std.proofs.lemmas.Bool.{cases_lt}
 use Rattle.std.proofs.lemmas.List.{length-map, get_or_default}
 use Rattle.std.proofs.lemmas.List.Elements.{All-from_recursion, All-contains}
-use Rattle.pl_graph.specs.Graph.{AreEdges, IsCycle}
+use Rattle.std.proofs.lemmas.List.Elements.{Contains-get_or}
+use Rattle.pl_graph.proofs.Chains.{goes_on}
+use Rattle.pl_graph.specs.Graph.{AreEdges, DependsOn, IsCycle}
 use Rattle.pl_literal.specs.Booleans.{spells}
 use Rattle.pl_schema_parts.specs.declared.pipeline.DependSpec.{DependSpec}
 use Rattle.pl_schema_parts.specs.declared.pipeline.JobSpec.{JobSpec}
@@ -152,24 +154,17 @@ are_edges graph below = All-from_recursion (IsEdge (length graph)) (edges_from 0
 
 -- ---- a circle goes along edges
 
-on_at : (count : ℕ) (edges : List (ℕ × ℕ)) (nodes : List ℕ) (k : ℕ) → AreEdges count edges →
-    IsCycle edges nodes → k < length nodes → (k + 1 < length nodes) ⊎ (length nodes ≤ k + 1) →
-    slice_index nodes k < count
-on_at count edges nodes k are cycle within (inl more) =
-    (All-contains (IsEdge count) edges (slice_index nodes k, slice_index nodes (k + 1)) are
-    (cycle.next k more)).0
-on_at count edges nodes k are cycle within (inr last) =
-    let end : length nodes - 1 ≡ k = omega arith in
-    let P : ℕ → Type 0 = λ j. slice_index nodes j < count in
-    subst P end (All-contains (IsEdge count) edges
-    (slice_index nodes (length nodes - 1), slice_index nodes 0) are cycle.closed).0
-
 pub on_graph : (count : ℕ) (edges : List (ℕ × ℕ)) (nodes : List ℕ) → AreEdges count edges →
     IsCycle edges nodes → All (λ node. node < count) nodes
 on_graph count edges nodes are cycle k d within =
-    let P : ℕ → Type 0 = λ node. node < count in
-    subst P (get_or_default nodes k 0 d within)
-    (on_at count edges nodes k are cycle within (cases_lt (k + 1) (length nodes)))
+    let node = get_or nodes k d in
+    let (b, depends, on) = goes_on (DependsOn edges) nodes node cycle.closed
+        (Contains-get_or nodes k d within) in
+    (All-contains (IsEdge count) edges (node, b) are depends).0
+
+cycle_some : (edges : List (ℕ × ℕ)) (nodes : List ℕ) → IsCycle edges nodes → 0 < length nodes
+cycle_some edges [] cycle = absurd cycle.closed
+cycle_some edges (node ∷ nodes) cycle = omega arith
 
 pub edges_at : (count : ℕ) (edges : List (ℕ × ℕ)) (graph : List Waiting) → count ≡ length graph →
     edges ≡ edges_from 0 graph → IsGraph graph → AreEdges count edges
@@ -181,7 +176,7 @@ edges_at count edges graph count_is edges_are below =
 pub on_circle : (edges : List (ℕ × ℕ)) (graph : List Waiting) (nodes : List ℕ) →
     edges ≡ edges_from 0 graph → IsGraph graph → IsCycle edges nodes → AreOn graph nodes
 on_circle edges graph nodes edges_are below cycle = (
-  cycle.some,
+  cycle_some edges nodes cycle,
   on_graph (length graph) edges nodes
       (edges_at (length graph) edges graph refl edges_are below) cycle,
 )

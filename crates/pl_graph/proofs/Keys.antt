@@ -1,54 +1,76 @@
--- A number put into an ascending list of keys.
-use Rattle.std.proofs.Common.{◌≡◌, ℕ, ◌+◌, ◌⊎◌, inl, inr, ⊎_elim, List, [], ◌∷◌, length, refl, sym, subst, arith, Ordering}
-use Rattle.std.specs.declared.cmp.Ordering.TheVariants.{Less, Equal, Greater}
-use Rattle.std.specs.Ordering.{nat_cmp, match_ordering}
+-- One member more: of a set, of an ascending list, of the numbers below a bound.
+use Rattle.std.proofs.Common.{◌≡◌, ℕ, ◌+◌, ◌<◌, ◌⊎◌, inl, inr, ⊎_elim, true, false, List, []}
+use Rattle.std.proofs.Common.{◌∷◌, ◌++◌, length, sym, ◌∙◌, arith}
+use Rattle.std.specs.Prelude.{◌↔◌}
 use Rattle.std.specs.List.{Contains}
-use Rattle.std.specs.BTreeSet.{insert_key}
+use Rattle.std.specs.List.Sorted.{IsStrictlyIncreasing}
+use Rattle.std.specs.Ordering.{nat_cmp}
+use Rattle.std.specs.BTreeSet.{BTreeSet, keys, Updates}
+use Rattle.std.specs.BTreeMap.{is_at}
+use Rattle.std.proofs.lemmas.Bool.{cases_eq, cases_lt}
+use Rattle.std.proofs.lemmas.Bool.Decides.{nat_tests}
+use Rattle.std.proofs.lemmas.Cmp.{nat_cmp_total}
+use Rattle.std.proofs.lemmas.List.{get_or_append_left, get_or_push, length_push}
+use Rattle.std.proofs.lemmas.List.Elements.{Contains-get_or, Contains-push, Contains-push_cases}
+use Rattle.std.proofs.lemmas.List.Elements.{Contains-append_left}
 use Rattle.std.proofs.lemmas.Map.Lookups.{exact_unsigned}
-use Rattle.pl_graph.proofs.Members.{Contains-head, Contains-tail, Contains-cases}
+use Rattle.std.proofs.lemmas.Map.Views.{btree_set_contains_iff}
 
-by_order_at : (P : List ℕ → Type 0) (k x : ℕ) (a b c : List ℕ) (o : Ordering) → nat_cmp k x ≡ o → P a → (k ≡ x → P b) → P c → P (match_ordering o a b c)
-by_order_at P k x a b c Less e less equal greater = less
-by_order_at P k x a b c Equal e less equal greater = equal (exact_unsigned k x e)
-by_order_at P k x a b c Greater e less equal greater = greater
+-- the members of `more` are those of xs, and y
+abbrev pub IsMore : List ℕ → ℕ → List ℕ → Type 0
+IsMore xs y more = (x : ℕ) → Contains more x ↔ (Contains xs x ⊎ (y ≡ x))
 
-by_order : (P : List ℕ → Type 0) (k x : ℕ) (a b c : List ℕ) → P a → (k ≡ x → P b) → P c → P (match_ordering (nat_cmp k x) a b c)
-by_order P k x a b c less equal greater = by_order_at P k x a b c (nat_cmp k x) refl less equal greater
+pub more_push : (xs : List ℕ) (y : ℕ) → IsMore xs y (xs ++ y ∷ [])
+more_push xs y x = (
+  Contains-push_cases xs y x,
+  ⊎_elim (Contains-append_left xs (y ∷ []) x) (λ e. rw (← e) (Contains-push xs y)),
+)
 
-pub key_old : (ks : List ℕ) (k y : ℕ) → Contains ks y → Contains (insert_key nat_cmp ks k) y
-key_old [] k y (i, below, is) = absurd (omega arith)
-key_old (x ∷ xs) k y h =
-    by_order (λ z. Contains z y) k x (k ∷ x ∷ xs) (x ∷ xs) (x ∷ insert_key nat_cmp xs k)
-    (Contains-tail k y (x ∷ xs) h)
-    (λ _. h)
-    (⊎_elim
-    (λ e. let P : ℕ → Type 0 = λ z. Contains (x ∷ insert_key nat_cmp xs k) z in subst P e (Contains-head x (insert_key nat_cmp xs k)))
-    (λ h. Contains-tail x y (insert_key nat_cmp xs k) (key_old xs k y h))
-    (Contains-cases x y xs h))
+other_at : (k y : ℕ) → (k ≡ y → ⊥) → is_at (nat_cmp k) y ≡ false
+other_at k y ne = grind (arith, nat_tests)
 
-pub key_new : (ks : List ℕ) (k : ℕ) → Contains (insert_key nat_cmp ks k) k
-key_new [] k = Contains-head k []
-key_new (x ∷ xs) k =
-    by_order (λ z. Contains z k) k x (k ∷ x ∷ xs) (x ∷ xs) (x ∷ insert_key nat_cmp xs k)
-    (Contains-head k (x ∷ xs))
-    (λ e. let P : ℕ → Type 0 = λ z. Contains (x ∷ xs) z in subst P (sym e) (Contains-head x xs))
-    (Contains-tail x k (insert_key nat_cmp xs k) (key_new xs k))
+pub more_inserted : (old new : BTreeSet ℕ) (k : ℕ) → Updates nat_cmp old new k true →
+    IsMore (keys old) k (keys new)
+more_inserted old new k is x =
+    let now = btree_set_contains_iff nat_cmp_total exact_unsigned new x in
+    let was = btree_set_contains_iff nat_cmp_total exact_unsigned old x in
+    ⊎_elim (λ e. (λ _. inr e, λ _. now.0 (rw (← e) is.1)))
+    (λ ne. let same = is.2 x (other_at k x ne) in (
+      λ h. inl (was.0 (sym same ∙ now.1 h)),
+      ⊎_elim (λ h. now.0 (same ∙ was.1 h)) (λ e. absurd (ne e)),
+    ))
+    (cases_eq k x)
 
-pub key_cases : (ks : List ℕ) (k y : ℕ) → Contains (insert_key nat_cmp ks k) y → Contains ks y ⊎ (k ≡ y)
-key_cases [] k y = λ h. ⊎_elim (λ e. inr e) (λ (i, below, is). absurd (omega arith)) (Contains-cases k y [] h)
-key_cases (x ∷ xs) k y =
-    by_order (λ z. Contains z y → Contains (x ∷ xs) y ⊎ (k ≡ y)) k x (k ∷ x ∷ xs) (x ∷ xs) (x ∷ insert_key nat_cmp xs k)
-    (λ h. ⊎_elim (λ e. inr e) (λ h. inl h) (Contains-cases k y (x ∷ xs) h))
-    (λ _ h. inl h)
-    (λ h. ⊎_elim
-    (λ e. let P : ℕ → Type 0 = λ z. Contains (x ∷ xs) z in inl (subst P e (Contains-head x xs)))
-    (λ h. ⊎_elim (λ h. inl (Contains-tail x y xs h)) (λ e. inr e) (key_cases xs k y h))
-    (Contains-cases x y (insert_key nat_cmp xs k) h))
+-- ---- the numbers below a bound of which P holds
 
-pub length-key : (ks : List ℕ) (k : ℕ) → (Contains ks k → ⊥) → length (insert_key nat_cmp ks k) ≡ length ks + 1
-length-key [] k absent = refl
-length-key (x ∷ xs) k absent =
-    by_order (λ z. length z ≡ length (x ∷ xs) + 1) k x (k ∷ x ∷ xs) (x ∷ xs) (x ∷ insert_key nat_cmp xs k)
-    (omega arith)
-    (λ e. absurd (absent (let P : ℕ → Type 0 = λ z. Contains (x ∷ xs) z in subst P (sym e) (Contains-head x xs))))
-    (let h = length-key xs k (λ h. absent (Contains-tail x k xs h)) in omega arith)
+abbrev AreBelow : (ℕ → Type 0) → ℕ → List ℕ → Type 0
+AreBelow P i xs = (x : ℕ) → Contains xs x ↔ ((x < i) × P x)
+
+pub below_skip : (P : ℕ → Type 0) (i : ℕ) (xs : List ℕ) → AreBelow P i xs → (P i → ⊥) →
+    AreBelow P (i + 1) xs
+below_skip P i xs are none x = (
+  λ h. let p = (are x).0 h in let below = p.0 in (omega arith, p.1),
+  λ (below, p). ⊎_elim (λ less. (are x).1 (less, p))
+      (λ last. let e : x ≡ i = omega arith in absurd (none (rw e at p))) (cases_lt x i),
+)
+
+pub below_more : (P : ℕ → Type 0) (i : ℕ) (xs more : List ℕ) → AreBelow P i xs →
+    IsMore xs i more → P i → AreBelow P (i + 1) more
+below_more P i xs more are is here x = (
+  λ h. ⊎_elim (λ h. let p = (are x).0 h in let below = p.0 in (omega arith, p.1))
+      (λ e. (omega arith, rw (← e) here)) ((is x).0 h),
+  λ (below, p). (is x).1 (⊎_elim (λ less. inl ((are x).1 (less, p))) (λ last. inr (omega arith))
+      (cases_lt x i)),
+)
+
+pub increasing_push : (xs : List ℕ) (y : ℕ) → IsStrictlyIncreasing xs →
+    ((x : ℕ) → Contains xs x → x < y) → IsStrictlyIncreasing (xs ++ y ∷ [])
+increasing_push xs y up above k below =
+    let l = length_push xs y in
+    let here = get_or_append_left xs (y ∷ []) 0 k (omega arith) in
+    ⊎_elim
+    (λ within. let next = get_or_append_left xs (y ∷ []) 0 (k + 1) within in
+    let less = up k within in omega arith)
+    (λ last. let next = get_or_push xs y 0 (k + 1) (omega arith) in
+    let less = above _ (Contains-get_or xs k 0 (omega arith)) in omega arith)
+    (cases_lt (k + 1) (length xs))

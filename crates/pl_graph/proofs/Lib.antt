@@ -1,6 +1,8 @@
-pub mod Ascending
+pub mod Chains
+pub mod Counts
 pub mod Found
 pub mod Keys
+pub mod LeastOrder
 pub mod Members
 pub mod Missing
 pub mod Neighbors
@@ -8,6 +10,5 @@ pub mod Places
 pub mod Reach
 pub mod Releasing
 pub mod Remaining
-pub mod LeastOrder
 pub mod Turns
 pub mod Walks

@@ -2,7 +2,7 @@
 use Rattle.std.proofs.Common.{◌≡◌, ℕ, zero, suc, ◌+◌, ◌<◌, ◌⊎◌, inl, inr, List, [], ◌∷◌, ◌++◌, length, get_or, take, refl, sym, subst, ap, ◌∙◌, arith}
 use Rattle.std.specs.List.{Contains}
 use Rattle.std.proofs.lemmas.List.{take_more}
-use Rattle.std.proofs.lemmas.List.Elements.{Contains-push, Contains-push_cases, Contains-append_left}
+use Rattle.std.proofs.lemmas.List.Elements.{Contains-append_left, Contains-append_right, Contains-push, Contains-push_cases}
 
 pub Contains-head : {X : Type 0} (x : X) (xs : List X) → Contains (x ∷ xs) x
 Contains-head x xs = (0, omega arith, refl)
@@ -13,6 +13,9 @@ Contains-tail x y xs (k, below, is) = (suc k, omega arith, is)
 pub Contains-cases : {X : Type 0} (x y : X) (xs : List X) → Contains (x ∷ xs) y → (x ≡ y) ⊎ Contains xs y
 Contains-cases x y xs (zero, below, is) = inl is
 Contains-cases x y xs (suc k, below, is) = inr (k, omega arith, is)
+
+pub Contains-here : {X : Type 0} (xs ys : List X) (x : X) → Contains (xs ++ x ∷ ys) x
+Contains-here xs ys x = Contains-append_right xs (x ∷ ys) x (Contains-head x ys)
 
 pub Contains-same : {X : Type 0} (xs ys : List X) (x : X) → xs ≡ ys → Contains xs x → Contains ys x
 Contains-same {X} xs ys x e h = let P : List X → Type 0 = λ zs. Contains zs x in subst P e h

@@ -1,92 +1,79 @@
--- A cycle turned round is a cycle.
-use Rattle.std.proofs.Common.{◌≡◌, ◌≢◌, ℕ, zero, suc, ◌+◌, ◌-◌, ◌<◌, ◌≤◌, ◌⊎◌, inl, inr, List, [], ◌∷◌, ◌++◌, length, get_or, take, drop, sym, subst, ap, ◌∙◌, arith, append_assoc}
-use Rattle.std.proofs.lemmas.Bool.{cases_lt}
-use Rattle.std.proofs.lemmas.List.{append-nil, length_push, get_or_push, get_or_append_left, get_or-drop, length-drop, take-append-le, drop-append-le}
-use Rattle.pl_graph.specs.Graph.{DependsOn, IsCanonicalCycle, IsCycle, IsWalk}
+-- Lists in which no node comes twice, and facts that hold of each node in its turn.
+use Rattle.std.proofs.Common.{◌≡◌, ℕ, zero, suc, ◌<◌, ◌≤◌, ⊎_elim, List, [], ◌∷◌, ◌++◌, eqb, cond}
+use Rattle.std.proofs.Common.{refl, ap, arith, append_assoc}
+use Rattle.std.specs.List.{Contains, count_by}
+use Rattle.std.proofs.lemmas.Bool.{cases_eq, cases_lt, eq-eqb}
+use Rattle.std.proofs.lemmas.Bool.Decides.{nat_tests}
+use Rattle.std.proofs.lemmas.List.{append-nil}
+use Rattle.std.proofs.lemmas.List.Elements.{Contains-append_left}
+use Rattle.std.proofs.lemmas.List.Sums.{sum_by-append, sum_by-cons, sum_by_push}
+use Rattle.pl_graph.proofs.Counts.{contained, count_had}
+use Rattle.pl_graph.specs.Graph.{EachOnce, InTurn}
 
-tail_at : (x : ℕ) (xs : List ℕ) (k : ℕ) → get_or (x ∷ xs) (k + 1) 0 ≡ get_or xs k 0
-tail_at x xs k = let e : k + 1 ≡ suc k = omega arith in ap (λ z. get_or (x ∷ xs) z 0) e
+-- 1 for x, 0 for another node
+abbrev pub one_at : ℕ → ℕ → ℕ
+one_at x y = cond (eqb y x) 1 0
 
-module _ (edges : List (ℕ × ℕ)) (x : ℕ) (xs : List ℕ) (cycle : IsCycle edges (x ∷ xs)) where
-  earlier : (k : ℕ) → k < length xs → get_or (xs ++ x ∷ []) k 0 ≡ get_or (x ∷ xs) (k + 1) 0
-  earlier k below = get_or_append_left xs (x ∷ []) 0 k below ∙ sym (tail_at x xs k)
+had_count : (xs : List ℕ) (x : ℕ) → Contains xs x → 0 < count_by (λ y. eqb y x) xs
+had_count xs x had = count_had (λ y. eqb y x) xs x had (eq-eqb x x refl)
 
-  last : (k : ℕ) → length xs ≡ k → get_or (xs ++ x ∷ []) k 0 ≡ x
-  last k is = get_or_push xs x 0 k is
+pub once_push : (xs : List ℕ) (y : ℕ) → EachOnce xs → (Contains xs y → ⊥) →
+    EachOnce (xs ++ y ∷ [])
+once_push xs y once absent x =
+    let push = sum_by_push (one_at x) xs y in
+    let had = once x in
+    ⊎_elim
+    (λ e. ⊎_elim (λ some. absurd (absent (rw e (contained xs x some))))
+    (λ none. let one : one_at x y ≤ 1 = grind (arith, nat_tests) in omega arith)
+    (cases_lt 0 (count_by (λ z. eqb z x) xs)))
+    (λ ne. let none : one_at x y ≤ 0 = grind (arith, nat_tests) in omega arith)
+    (cases_eq y x)
 
-  turn_once : (j k : ℕ) → j < k → k < length xs + 1 → (k < length xs) ⊎ (length xs ≤ k) → get_or (xs ++ x ∷ []) j 0 ≢ get_or (xs ++ x ∷ []) k 0
-  turn_once j k before below (inl within) = λ e. cycle.once (j + 1) (k + 1) (omega arith) (omega arith) (sym (earlier j (omega arith)) ∙ e ∙ earlier k within)
-  turn_once j k before below (inr end) = λ e. cycle.once 0 (j + 1) (omega arith) (omega arith) (sym (last k (omega arith)) ∙ sym e ∙ earlier j (omega arith))
+pub once_before : (xs ys : List ℕ) (y : ℕ) → EachOnce (xs ++ y ∷ ys) → Contains xs y → ⊥
+once_before xs ys y once had =
+    let all = sum_by-append (one_at y) xs (y ∷ ys) in
+    let here = sum_by-cons (one_at y) y ys in
+    let one : ◌≡◌ {A = ℕ} (one_at y y) 1 = ap (λ t. cond t 1 0) (eq-eqb y y refl) in
+    let some = had_count xs y had in
+    let most = once y in
+    omega arith
 
-  turn_next : (k : ℕ) → k + 1 < length xs + 1 → (k + 1 < length xs) ⊎ (length xs ≤ k + 1) → DependsOn edges (get_or (xs ++ x ∷ []) k 0) (get_or (xs ++ x ∷ []) (k + 1) 0)
-  turn_next k below (inl within) =
-      let P : ℕ → Type 0 = λ z. DependsOn edges z (get_or (xs ++ x ∷ []) (k + 1) 0) in
-      let Q : ℕ → Type 0 = λ z. DependsOn edges (get_or (x ∷ xs) (k + 1) 0) z in
-      subst P (sym (earlier k (omega arith))) (subst Q (sym (earlier (k + 1) within)) (cycle.next (k + 1) (omega arith)))
-  turn_next k below (inr end) =
-      let P : ℕ → Type 0 = λ z. DependsOn edges z (get_or (xs ++ x ∷ []) (k + 1) 0) in
-      let Q : ℕ → Type 0 = λ z. DependsOn edges (get_or (x ∷ xs) (k + 1) 0) z in
-      let R : ℕ → Type 0 = λ z. DependsOn edges (get_or (x ∷ xs) z 0) x in
-      let at : length (x ∷ xs) - 1 ≡ k + 1 = omega arith in
-      subst P (sym (earlier k (omega arith))) (subst Q (sym (last (k + 1) (omega arith))) (subst R at cycle.closed))
+pub once_head : (xs : List ℕ) (y : ℕ) → EachOnce (y ∷ xs) → Contains xs y → ⊥
+once_head xs y once had =
+    let here = sum_by-cons (one_at y) y xs in
+    let one : ◌≡◌ {A = ℕ} (one_at y y) 1 = ap (λ t. cond t 1 0) (eq-eqb y y refl) in
+    let some = had_count xs y had in
+    let most = once y in
+    omega arith
 
-  turn_closed : (0 < length xs) ⊎ (length xs ≤ 0) → DependsOn edges (get_or (xs ++ x ∷ []) (length (xs ++ x ∷ []) - 1) 0) (get_or (xs ++ x ∷ []) 0 0)
-  turn_closed (inl some) =
-      let l = length_push xs x in
-      let P : ℕ → Type 0 = λ z. DependsOn edges z (get_or (xs ++ x ∷ []) 0 0) in
-      let Q : ℕ → Type 0 = λ z. DependsOn edges x z in
-      subst P (sym (last (length (xs ++ x ∷ []) - 1) (omega arith))) (subst Q (sym (earlier 0 some)) (cycle.next 0 (omega arith)))
-  turn_closed (inr none) =
-      let l = length_push xs x in
-      let P : ℕ → Type 0 = λ z. DependsOn edges z (get_or (xs ++ x ∷ []) 0 0) in
-      let Q : ℕ → Type 0 = λ z. DependsOn edges x z in
-      let R : ℕ → Type 0 = λ z. DependsOn edges (get_or (x ∷ xs) z 0) x in
-      let at : length (x ∷ xs) - 1 ≡ 0 = omega arith in
-      subst P (sym (last (length (xs ++ x ∷ []) - 1) (omega arith))) (subst Q (sym (last 0 (omega arith))) (subst R at cycle.closed))
+-- ---- in turn
 
-  pub turn_one : IsCycle edges (xs ++ x ∷ [])
-  turn_one = record {
-    some = (let l = length_push xs x in omega arith);
-    once = λ j k before below. turn_once j k before (let l = length_push xs x in omega arith) (cases_lt k (length xs));
-    next = λ k below. turn_next k (let l = length_push xs x in omega arith) (cases_lt (k + 1) (length xs));
-    closed = turn_closed (cases_lt 0 (length xs));
-  }
+module _ (P : List ℕ → ℕ → Type 0) where
+  pub turn_push : (before xs : List ℕ) (y : ℕ) → InTurn P before xs → P (before ++ xs) y →
+      InTurn P before (xs ++ y ∷ [])
+  turn_push before [] y all here = (rw append-nil at here, tt)
+  turn_push before (x ∷ xs) y all here =
+      (all.0, turn_push (before ++ x ∷ []) xs y all.1 (rw append_assoc here))
 
-pub turn : (edges : List (ℕ × ℕ)) (place : ℕ) (xs : List ℕ) → IsCycle edges xs → place ≤ length xs → IsCycle edges (drop place xs ++ take place xs)
-turn edges zero xs cycle within = let P : List ℕ → Type 0 = λ z. IsCycle edges z in subst P (sym (append-nil xs)) cycle
-turn edges (suc place) [] cycle within = absurd (omega arith)
-turn edges (suc place) (x ∷ xs) cycle within =
-    let P : List ℕ → Type 0 = λ z. IsCycle edges z in
-    let fore : drop place (xs ++ x ∷ []) ≡ drop place xs ++ x ∷ [] = drop-append-le place xs (x ∷ []) (omega arith) in
-    let rest : take place (xs ++ x ∷ []) ≡ take place xs = take-append-le place xs (x ∷ []) (omega arith) in
-    let same : drop place (xs ++ x ∷ []) ++ take place (xs ++ x ∷ []) ≡ drop place xs ++ (x ∷ take place xs) =
-    ap (λ z. z ++ take place (xs ++ x ∷ [])) fore ∙ ap (λ z. (drop place xs ++ x ∷ []) ++ z) rest ∙ append_assoc (drop place xs) (x ∷ []) (take place xs) in
-    subst P same (turn edges place (xs ++ x ∷ []) (turn_one edges x xs cycle) (let l = length_push xs x in omega arith))
+  pub turn_weaker : (Q : List ℕ → ℕ → Type 0) → ((before : List ℕ) (x : ℕ) → P before x →
+      Q before x) → (before xs : List ℕ) → InTurn P before xs → InTurn Q before xs
+  turn_weaker Q implies before [] all = tt
+  turn_weaker Q implies before (x ∷ xs) all =
+      (implies before x all.0, turn_weaker Q implies (before ++ x ∷ []) xs all.1)
 
--- where the walk comes back there is a cycle
-around : (n : ℕ) (edges : List (ℕ × ℕ)) (nodes : List ℕ) (start : ℕ) → IsWalk n edges nodes start → IsCycle edges (drop start nodes)
-around n edges nodes start w =
-    let l = length-drop start nodes in
-    let within = w.within in
-    let at : (k : ℕ) → get_or (drop start nodes) k 0 ≡ get_or nodes (start + k) 0 = λ k. get_or-drop start nodes k 0 in
-    record {
-      some = omega arith;
-      once = λ j k before below e. w.once (start + j) (start + k) (omega arith) (omega arith) (sym (at j) ∙ e ∙ at k);
-      next = λ k below.
-          let P : ℕ → Type 0 = λ z. DependsOn edges z (get_or (drop start nodes) (k + 1) 0) in
-          let Q : ℕ → Type 0 = λ z. DependsOn edges (get_or nodes (start + k) 0) z in
-          let next : (start + k) + 1 ≡ start + (k + 1) = omega arith in
-          subst P (sym (at k)) (subst Q (ap (λ z. get_or nodes z 0) next ∙ sym (at (k + 1))) (w.next (start + k) (omega arith)).0.0);
-      closed =
-          let P : ℕ → Type 0 = λ z. DependsOn edges z (get_or (drop start nodes) 0 0) in
-          let Q : ℕ → Type 0 = λ z. DependsOn edges (get_or nodes (length nodes - 1) 0) z in
-          let end : length nodes - 1 ≡ start + (length (drop start nodes) - 1) = omega arith in
-          let zero_at : start ≡ start + 0 = omega arith in
-          subst P (ap (λ z. get_or nodes z 0) end ∙ sym (at (length (drop start nodes) - 1)))
-          (subst Q (ap (λ z. get_or nodes z 0) zero_at ∙ sym (at 0)) w.back.0.0);
-    }
+  -- those before a node at its turn
+  pub turn_of : (before xs : List ℕ) (x : ℕ) → InTurn P before xs → Contains xs x →
+      (front : List ℕ) × P front x × ((b : ℕ) → Contains front b → Contains (before ++ xs) b)
+  turn_of before [] x all (k, below, is) = absurd (omega arith)
+  turn_of before (y ∷ xs) x all (zero, below, is) =
+      (before, rw (← is) all.0, Contains-append_left before (y ∷ xs))
+  turn_of before (y ∷ xs) x all (suc k, below, is) =
+      let (front, here, within) = turn_of (before ++ y ∷ []) xs x all.1 (k, omega arith, is) in
+      (front, here, λ b h. rw append_assoc at (within b h))
 
-pub canonical_is_cycle : (n : ℕ) (edges : List (ℕ × ℕ)) (cycle : List ℕ) → IsCanonicalCycle n edges cycle → IsCycle edges cycle
-canonical_is_cycle n edges cycle c =
-    let P : List ℕ → Type 0 = λ z. IsCycle edges z in
-    subst P (sym c.turned.is) (turn edges c.turned.place (drop c.start c.walk) (around n edges c.walk c.start c.walks) (let w = c.turned.within in omega arith))
+pub once_in_turn : (before xs : List ℕ) → EachOnce before →
+    InTurn (λ front x. Contains front x → ⊥) before xs → EachOnce (before ++ xs)
+once_in_turn before [] once all = rw append-nil once
+once_in_turn before (x ∷ xs) once all =
+    rw append_assoc at
+    (once_in_turn (before ++ x ∷ []) xs (once_push before x once all.0) all.1)

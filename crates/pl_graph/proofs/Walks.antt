@@ -1,13 +1,23 @@
 -- The walk along least remaining dependencies: none of its nodes twice, and the node to which it goes on.
-use Rattle.std.proofs.Common.{◌≡◌, ◌≢◌, ℕ, ◌+◌, ◌-◌, ◌<◌, ◌≤◌, ◌⊎◌, inl, inr, ⊎_elim, min, List, [], ◌∷◌, ◌++◌, length, get_or, set, take, sym, subst, ap, ◌∙◌, arith}
+use Rattle.std.proofs.Common.{◌≡◌, ℕ, ◌+◌, ◌<◌, ◌≤◌, ◌⊎◌, inl, inr, ⊎_elim, min, List, [], ◌∷◌, ◌++◌}
+use Rattle.std.proofs.Common.{length, get_or, set, take, drop, refl, sym, subst, ap, ◌∙◌, arith}
+use Rattle.std.proofs.Common.{append_assoc}
 use Rattle.std.specs.Prelude.{replicate}
-use Rattle.std.specs.List.{Contains}
+use Rattle.std.specs.List.{All, Contains, sum_by}
 use Rattle.std.proofs.lemmas.Bool.{cases_eq, cases_lt}
-use Rattle.std.proofs.lemmas.List.{length_push, get_or_push, get_or_append_left, get_or_default, get_or-replicate, length-replicate, length-set, get_or-set_same, get_or-set_other}
-use Rattle.pl_graph.proofs.Members.{Contains-more_cases, Contains-more_last, Contains-more_left}
+use Rattle.std.proofs.lemmas.List.{drop_more, get_or_append_left, get_or-replicate, length-replicate}
+use Rattle.std.proofs.lemmas.List.{length-set, get_or-set_same, get_or-set_other, take-append-drop}
+use Rattle.std.proofs.lemmas.List.Elements.{Contains-append_left, Contains-append_right}
+use Rattle.std.proofs.lemmas.List.Elements.{All-append, All-drop, All-from_get_or, All-take}
+use Rattle.std.proofs.lemmas.List.Elements.{Contains-append_cases, Contains-push, Contains-push_cases}
+use Rattle.std.proofs.lemmas.List.Sums.{sum_by-append}
+use Rattle.pl_graph.proofs.Chains.{closed_weaker, part, push, turn}
+use Rattle.pl_graph.proofs.Members.{Contains-head, Contains-same}
 use Rattle.pl_graph.proofs.Reach.{edge_within}
-use Rattle.pl_graph.specs.Graph.{AreEdges, DependsOn, EachOnce, IsLeast, IsLeastDependency, IsWalk, Remains}
-use Rattle.pl_graph.specs.Walking.{AreLeast, ShowsRemaining}
+use Rattle.pl_graph.proofs.Turns.{once_push, one_at}
+use Rattle.pl_graph.specs.Graph.{AreEdges, Chain, ClosedChain, DependsOn, EachOnce, IsCanonicalCycle}
+use Rattle.pl_graph.specs.Graph.{IsCycle, IsLeast, IsLeastDependency, Leads, Remains}
+use Rattle.pl_graph.specs.Walking.{AreLeast, IsTurned, IsWalk, ShowsRemaining}
 
 -- no edge yet
 pub least_none : (n : ℕ) (missing : List ℕ) → AreLeast n [] missing (replicate n n)
@@ -17,57 +27,58 @@ least_none n missing = record {
   lower = λ a b (k, below, is) some. absurd (omega arith);
 }
 
--- an edge to a node that misses nothing
-pub least_skip : (n : ℕ) (edges : List (ℕ × ℕ)) (missing least : List ℕ) (i : ℕ) (edge : ℕ × ℕ) → i < length edges → edge ≡ get_or edges i edge → (0 < get_or missing edge.1 0 → ⊥) → AreLeast n (take i edges) missing least → AreLeast n (take (i + 1) edges) missing least
-least_skip n edges missing least i edge below is none l = record {
-  len = l.len;
-  is = λ a in_n less. let p = l.is a in_n less in (Contains-more_left edges i edge (a, get_or least a 0) below is p.0, p.1);
-  lower = λ a b h some. ⊎_elim
-      (λ h. l.lower a b h some)
-      (λ e. let P : ℕ → Type 0 = λ z. 0 < get_or missing z 0 in absurd (none (subst P (sym (ap (λ z. z.1) e)) some)))
-      (Contains-more_cases edges i edge (a, b) below is h);
-}
+module _ {n : ℕ} {edges : List (ℕ × ℕ)} {missing least : List ℕ} (edge : ℕ × ℕ)
+    (l : AreLeast n edges missing least) where
+  -- an edge to a node that misses nothing
+  pub least_skip : (0 < get_or missing edge.1 0 → ⊥) →
+      AreLeast n (edges ++ edge ∷ []) missing least
+  least_skip none = record {
+    len = l.len;
+    is = λ a below less. let p = l.is a below less in
+        (Contains-append_left edges (edge ∷ []) (a, get_or least a 0) p.0, p.1);
+    lower = λ a b h some. ⊎_elim (λ h. l.lower a b h some)
+        (λ e. let to : edge.1 ≡ b = ap (λ z. z.1) e in absurd (none (rw (← to) at some)))
+        (Contains-push_cases edges edge (a, b) h);
+  }
 
-least_is_at : (n : ℕ) (edges : List (ℕ × ℕ)) (missing least : List ℕ) (i : ℕ) (edge : ℕ × ℕ) (a : ℕ) → i < length edges → edge ≡ get_or edges i edge → edge.0 < n → 0 < get_or missing edge.1 0 → AreLeast n (take i edges) missing least → a < n → (a ≡ edge.0) ⊎ (a ≡ edge.0 → ⊥) → (get_or least edge.0 0 ≤ edge.1) ⊎ (edge.1 < get_or least edge.0 0) → get_or (set least edge.0 (min (get_or least edge.0 0) edge.1)) a 0 < n → DependsOn (take (i + 1) edges) a (get_or (set least edge.0 (min (get_or least edge.0 0) edge.1)) a 0) × (0 < get_or missing (get_or (set least edge.0 (min (get_or least edge.0 0) edge.1)) a 0) 0)
-least_is_at n edges missing least i edge a below is within some l in_n (inr ne) order less =
-    let same = get_or-set_other least edge.0 a (min (get_or least edge.0 0) edge.1) 0 ne in
-    let p = l.is a in_n (omega arith) in
-    let P : ℕ → Type 0 = λ z. DependsOn (take (i + 1) edges) a z × (0 < get_or missing z 0) in
-    subst P (sym same) (Contains-more_left edges i edge (a, get_or least a 0) below is p.0, p.1)
-least_is_at n edges missing least i edge a below is within some l in_n (inl e) (inl smaller) less =
-    let m : min (get_or least edge.0 0) edge.1 ≡ get_or least a 0 = (let f : get_or least a 0 ≡ get_or least edge.0 0 = ap (λ z. get_or least z 0) e in omega arith) in
-    let same : get_or (set least edge.0 (min (get_or least edge.0 0) edge.1)) a 0 ≡ get_or least a 0 =
-    ap (λ z. get_or (set least edge.0 (min (get_or least edge.0 0) edge.1)) z 0) e ∙ get_or-set_same least edge.0 (min (get_or least edge.0 0) edge.1) 0 (let len = l.len in omega arith) ∙ m in
-    let p = l.is a in_n (omega arith) in
-    let P : ℕ → Type 0 = λ z. DependsOn (take (i + 1) edges) a z × (0 < get_or missing z 0) in
-    subst P (sym same) (Contains-more_left edges i edge (a, get_or least a 0) below is p.0, p.1)
-least_is_at n edges missing least i edge a below is within some l in_n (inl e) (inr greater) less =
-    let m : min (get_or least edge.0 0) edge.1 ≡ edge.1 = omega arith in
-    let same : get_or (set least edge.0 (min (get_or least edge.0 0) edge.1)) a 0 ≡ edge.1 =
-    ap (λ z. get_or (set least edge.0 (min (get_or least edge.0 0) edge.1)) z 0) e ∙ get_or-set_same least edge.0 (min (get_or least edge.0 0) edge.1) 0 (let len = l.len in omega arith) ∙ m in
-    let P : ℕ → Type 0 = λ z. DependsOn (take (i + 1) edges) a z × (0 < get_or missing z 0) in
-    let Q : (ℕ × ℕ) → Type 0 = λ z. Contains (take (i + 1) edges) z in
-    subst P (sym same) (subst Q (ap (λ z. (z, edge.1)) (sym e)) (Contains-more_last edges i edge below is), some)
+  abbrev now : List ℕ
+  now = set least edge.0 (min (get_or least edge.0 0) edge.1)
 
-least_lower_at : (n : ℕ) (edges : List (ℕ × ℕ)) (missing least : List ℕ) (i : ℕ) (edge : ℕ × ℕ) (a b : ℕ) → edge.0 < n → AreLeast n (take i edges) missing least → (a ≡ edge.0) ⊎ (a ≡ edge.0 → ⊥) → 0 < get_or missing b 0 → DependsOn (take i edges) a b ⊎ (edge ≡ (a, b)) → get_or (set least edge.0 (min (get_or least edge.0 0) edge.1)) a 0 ≤ b
-least_lower_at n edges missing least i edge a b within l (inr ne) some (inl h) = let same = get_or-set_other least edge.0 a (min (get_or least edge.0 0) edge.1) 0 ne in let low = l.lower a b h some in omega arith
-least_lower_at n edges missing least i edge a b within l (inr ne) some (inr e) = absurd (ne (sym (ap (λ z. z.0) e)))
-least_lower_at n edges missing least i edge a b within l (inl e) some h =
-    let same : get_or (set least edge.0 (min (get_or least edge.0 0) edge.1)) a 0 ≡ min (get_or least edge.0 0) edge.1 =
-    ap (λ z. get_or (set least edge.0 (min (get_or least edge.0 0) edge.1)) z 0) e ∙ get_or-set_same least edge.0 (min (get_or least edge.0 0) edge.1) 0 (let len = l.len in omega arith) in
-    let f : get_or least a 0 ≡ get_or least edge.0 0 = ap (λ z. get_or least z 0) e in
-    ⊎_elim (λ h. let low = l.lower a b h some in omega arith) (λ e. let g : edge.1 ≡ b = ap (λ z. z.1) e in omega arith) h
+  -- a node keeps its least, or the edge leads from it to a lower one
+  kept_or_edge : edge.0 < n → (a : ℕ) →
+      (get_or now a 0 ≡ get_or least a 0) × (a ≡ edge.0 → get_or least a 0 ≤ edge.1)
+      ⊎ (edge.0 ≡ a) × (get_or now a 0 ≡ edge.1) × (edge.1 < get_or least a 0)
+  kept_or_edge within a =
+      let len = l.len in
+      let small = min (get_or least edge.0 0) edge.1 in
+      ⊎_elim (λ e. rw e (let set = get_or-set_same least edge.0 small 0 (omega arith) in
+      ⊎_elim (λ lower. inr (refl, omega arith, lower))
+      (λ kept. inl (omega arith, λ _. kept)) (cases_lt edge.1 (get_or least edge.0 0))))
+      (λ ne. inl (get_or-set_other least edge.0 a small 0 ne, λ e. absurd (ne e)))
+      (cases_eq a edge.0)
 
-at_most : (m n : ℕ) → (m ≤ n) ⊎ (n < m)
-at_most m n = ⊎_elim (λ less. inr less) (λ h. inl h) (cases_lt n m)
-
--- an edge to a node that misses a dependency
-pub least_more : (n : ℕ) (edges : List (ℕ × ℕ)) (missing least : List ℕ) (i : ℕ) (edge : ℕ × ℕ) → i < length edges → edge ≡ get_or edges i edge → edge.0 < n → 0 < get_or missing edge.1 0 → AreLeast n (take i edges) missing least → AreLeast n (take (i + 1) edges) missing (set least edge.0 (min (get_or least edge.0 0) edge.1))
-least_more n edges missing least i edge below is within some l = record {
-  len = length-set least edge.0 _ ∙ l.len;
-  is = λ a in_n less. least_is_at n edges missing least i edge a below is within some l in_n (cases_eq a edge.0) (at_most (get_or least edge.0 0) edge.1) less;
-  lower = λ a b h some. least_lower_at n edges missing least i edge a b within l (cases_eq a edge.0) some (Contains-more_cases edges i edge (a, b) below is h);
-}
+  -- an edge to a node that misses a dependency
+  pub least_more : edge.0 < n → 0 < get_or missing edge.1 0 →
+      AreLeast n (edges ++ edge ∷ []) missing now
+  least_more within some = record {
+    len = length-set least edge.0 _ ∙ l.len;
+    is = λ a below less. ⊎_elim
+        (λ kept. let p = l.is a below (let same = kept.0 in omega arith) in
+        rw kept.0 (Contains-append_left edges (edge ∷ []) (a, get_or least a 0) p.0, p.1))
+        (λ (from, to, lower).
+        rw (to, ← from) (Contains-push edges edge, some))
+        (kept_or_edge within a);
+    lower = λ a b h some. ⊎_elim
+        (λ h. let low = l.lower a b h some in
+        ⊎_elim (λ kept. let same = kept.0 in omega arith)
+        (λ lower. let same = lower.1 in let less = lower.2 in omega arith)
+        (kept_or_edge within a))
+        (λ e. let from : edge.0 ≡ a = ap (λ z. z.0) e in
+        let to : edge.1 ≡ b = ap (λ z. z.1) e in
+        ⊎_elim (λ kept. let same = kept.0 in let low = kept.1 (sym from) in omega arith)
+        (λ lower. let same = lower.1 in omega arith) (kept_or_edge within a))
+        (Contains-push_cases edges edge (a, b) h);
+  }
 
 -- of a node that remains it is the least remaining dependency
 pub least_dependency : (n : ℕ) (edges : List (ℕ × ℕ)) (missing least : List ℕ) (a : ℕ) → AreEdges n edges → ShowsRemaining n edges missing → AreLeast n edges missing least → Remains n edges a → IsLeastDependency n edges a (get_or least a 0)
@@ -88,57 +99,117 @@ remains_within n edges a (set, keeps, kept) = (keeps a kept).0
 pub record IsWalking (n : ℕ) (edges : List (ℕ × ℕ)) (nodes : List ℕ) (node : ℕ) : Type 0 where
   pub once : EachOnce nodes
   pub first : IsLeast (Remains n edges) (get_or (nodes ++ node ∷ []) 0 0)
-  pub next : (k : ℕ) → k < length nodes → IsLeastDependency n edges (get_or nodes k 0) (get_or (nodes ++ node ∷ []) (k + 1) 0)
+  pub along : Chain (IsLeastDependency n edges) (nodes ++ node ∷ [])
   pub remains : Remains n edges node
 
-pub walking_none : (n : ℕ) (edges : List (ℕ × ℕ)) (node : ℕ) → IsLeast (Remains n edges) node → IsWalking n edges [] node
-walking_none n edges node first = record {
-  once = λ j k before below. absurd (omega arith);
-  first = first;
-  next = λ k below. absurd (omega arith);
-  remains = first.0;
-}
+head_same : (xs ys zs : List ℕ) (x : ℕ) →
+    get_or ((xs ++ x ∷ ys) ++ zs) 0 0 ≡ get_or (xs ++ x ∷ ys) 0 0
+head_same [] ys zs x = refl
+head_same (y ∷ xs) ys zs x = refl
 
-once_at : (nodes : List ℕ) (node j k : ℕ) → EachOnce nodes → (Contains nodes node → ⊥) → j < k → k < length nodes + 1 → (k < length nodes) ⊎ (length nodes ≤ k) → get_or (nodes ++ node ∷ []) j 0 ≢ get_or (nodes ++ node ∷ []) k 0
-once_at nodes node j k once absent before below (inl within) = λ e.
-    once j k before within (sym (get_or_append_left nodes (node ∷ []) 0 j (omega arith)) ∙ e ∙ get_or_append_left nodes (node ∷ []) 0 k within)
-once_at nodes node j k once absent before below (inr last) = λ e.
-    let here : j < length nodes = omega arith in
-    let is : get_or nodes j 0 ≡ node = sym (get_or_append_left nodes (node ∷ []) 0 j here) ∙ e ∙ get_or_push nodes node 0 k (omega arith) in
-    absent (j, here, get_or_default nodes j node 0 here ∙ is)
+module _ {n : ℕ} {edges : List (ℕ × ℕ)} where
+  pub walking_none : (node : ℕ) → IsLeast (Remains n edges) node → IsWalking n edges [] node
+  walking_none node first =
+      record { once = λ x. omega arith; first = first; along = tt; remains = first.0 }
 
-next_at : (n : ℕ) (edges : List (ℕ × ℕ)) (nodes : List ℕ) (node after k : ℕ) → IsWalking n edges nodes node → IsLeastDependency n edges node after → k < length nodes + 1 → (k < length nodes) ⊎ (length nodes ≤ k) → IsLeastDependency n edges (get_or (nodes ++ node ∷ []) k 0) (get_or ((nodes ++ node ∷ []) ++ after ∷ []) (k + 1) 0)
-next_at n edges nodes node after k w dependency below (inl within) =
-    let l = length_push nodes node in
-    let P : ℕ → Type 0 = λ z. IsLeastDependency n edges z (get_or ((nodes ++ node ∷ []) ++ after ∷ []) (k + 1) 0) in
-    let Q : ℕ → Type 0 = λ z. IsLeastDependency n edges (get_or nodes k 0) z in
-    subst P (sym (get_or_append_left nodes (node ∷ []) 0 k within))
-    (subst Q (sym (get_or_append_left (nodes ++ node ∷ []) (after ∷ []) 0 (k + 1) (omega arith))) (w.next k within))
-next_at n edges nodes node after k w dependency below (inr last) =
-    let l = length_push nodes node in
-    let P : ℕ → Type 0 = λ z. IsLeastDependency n edges z (get_or ((nodes ++ node ∷ []) ++ after ∷ []) (k + 1) 0) in
-    let Q : ℕ → Type 0 = λ z. IsLeastDependency n edges node z in
-    subst P (sym (get_or_push nodes node 0 k (omega arith)))
-    (subst Q (sym (get_or_push (nodes ++ node ∷ []) after 0 (k + 1) (omega arith))) dependency)
+  -- one step on
+  pub walking_more : {nodes : List ℕ} {node : ℕ} (after : ℕ) → IsWalking n edges nodes node →
+      (Contains nodes node → ⊥) → IsLeastDependency n edges node after →
+      IsWalking n edges (nodes ++ node ∷ []) after
+  walking_more {nodes = nodes} {node = node} after w absent dependency = record {
+    once = once_push nodes node w.once absent;
+    first = rw (head_same nodes [] (after ∷ []) node) w.first;
+    along = push (IsLeastDependency n edges) nodes node after w.along dependency;
+    remains = dependency.0.1;
+  }
 
--- one step on
-pub walking_more : (n : ℕ) (edges : List (ℕ × ℕ)) (nodes : List ℕ) (node after : ℕ) → IsWalking n edges nodes node → (Contains nodes node → ⊥) → IsLeastDependency n edges node after → IsWalking n edges (nodes ++ node ∷ []) after
-walking_more n edges nodes node after w absent dependency = record {
-  once = λ j k before below. once_at nodes node j k w.once absent before (let l = length_push nodes node in omega arith) (cases_lt k (length nodes));
-  first = (let P : ℕ → Type 0 = λ z. IsLeast (Remains n edges) z in subst P (sym (get_or_append_left (nodes ++ node ∷ []) (after ∷ []) 0 0 (let l = length_push nodes node in omega arith))) w.first);
-  next = λ k below. next_at n edges nodes node after k w dependency (let l = length_push nodes node in omega arith) (cases_lt k (length nodes));
-  remains = dependency.0.1;
-}
+  -- it comes back
+  pub walking_back : {nodes : List ℕ} {node : ℕ} (start : ℕ) → IsWalking n edges nodes node →
+      start < length nodes → get_or nodes start 0 ≡ node → IsWalk n edges nodes start
+  walking_back {nodes = nodes} {node = node} start w within is = record {
+    within = within;
+    once = w.once;
+    first = rw (get_or_append_left nodes (node ∷ []) 0 0 (omega arith)) at w.first;
+    along = rw is w.along;
+  }
 
--- it comes back
-pub walking_back : (n : ℕ) (edges : List (ℕ × ℕ)) (nodes : List ℕ) (node start : ℕ) → IsWalking n edges nodes node → start < length nodes → get_or nodes start 0 ≡ node → IsWalk n edges nodes start
-walking_back n edges nodes node start w within is = record {
-  within = within;
-  once = w.once;
-  first = (let P : ℕ → Type 0 = λ z. IsLeast (Remains n edges) z in subst P (get_or_append_left nodes (node ∷ []) 0 0 (omega arith)) w.first);
-  next = λ k below. let P : ℕ → Type 0 = λ z. IsLeastDependency n edges (get_or nodes k 0) z in subst P (get_or_append_left nodes (node ∷ []) 0 (k + 1) below) (w.next k (omega arith));
-  back =
-      let P : ℕ → Type 0 = λ z. IsLeastDependency n edges (get_or nodes (length nodes - 1) 0) z in
-      let last : get_or (nodes ++ node ∷ []) ((length nodes - 1) + 1) 0 ≡ node = get_or_push nodes node 0 ((length nodes - 1) + 1) (omega arith) in
-      subst P (last ∙ sym is) (w.next (length nodes - 1) (omega arith));
+-- ---- the cycle to which it comes
+
+leads_to : (R : ℕ → ℕ → Type 0) (before after : List ℕ) (node : ℕ) →
+    Chain R (before ++ node ∷ []) → Leads R (get_or (before ++ node ∷ after) 0 0) node
+leads_to R [] after node chain = ([], tt, (0, omega arith, refl))
+leads_to R (b ∷ before) after node chain =
+    (before ++ node ∷ [], chain, Contains-push (b ∷ before) node)
+
+canonical_at : (n : ℕ) (edges : List (ℕ × ℕ)) (before after cycle : List ℕ) (node : ℕ) →
+    EachOnce (before ++ node ∷ after) →
+    IsLeast (Remains n edges) (get_or (before ++ node ∷ after) 0 0) →
+    Chain (IsLeastDependency n edges) ((before ++ node ∷ after) ++ node ∷ []) →
+    IsTurned (node ∷ after) cycle → IsCanonicalCycle n edges cycle
+canonical_at n edges before after cycle node once first along t =
+    let R = IsLeastDependency n edges in
+    let p = part R before (after ++ node ∷ []) node (rw append_assoc at along) in
+    let closed : ClosedChain R (node ∷ after) = p.1 in
+    let on : Contains (t.front ++ t.back) node =
+    Contains-same _ _ node t.from (Contains-head node after) in
+    record {
+      once = λ x.
+          let f = one_at x in
+          let whole = once x in
+          let parts = sum_by-append f before (node ∷ after) in
+          let split = ap (sum_by f) t.from ∙ sum_by-append f t.front t.back in
+          let turned = ap (sum_by f) t.is ∙ sum_by-append f t.back t.front in
+          omega arith;
+      closed = rw t.is (turn R t.front t.back (subst (ClosedChain R) t.from closed));
+      least = t.least;
+      start = get_or (before ++ node ∷ after) 0 0;
+      from = first;
+      node = node;
+      leads = leads_to R before after node p.0;
+      on = Contains-same _ _ node (sym t.is) (⊎_elim (Contains-append_right t.back t.front node)
+          (Contains-append_left t.back t.front node) (Contains-append_cases t.front t.back node on));
+    }
+
+pub canonical : {n : ℕ} {edges : List (ℕ × ℕ)} {nodes : List ℕ} {start : ℕ} (cycle : List ℕ) →
+    IsWalk n edges nodes start → IsTurned (drop start nodes) cycle → IsCanonicalCycle n edges cycle
+canonical {n = n} {edges = edges} {nodes = nodes} {start = start} cycle w t =
+    let node = get_or nodes start 0 in
+    let after = drop (start + 1) nodes in
+    let split : drop start nodes ≡ node ∷ after = drop_more nodes start 0 w.within in
+    let whole : nodes ≡ take start nodes ++ node ∷ after =
+    sym (take-append-drop start nodes) ∙ ap (λ z. take start nodes ++ z) split in
+    let P : List ℕ → Type 0 = λ z. EachOnce z × IsLeast (Remains n edges) (get_or z 0 0)
+    × Chain (IsLeastDependency n edges) (z ++ node ∷ []) in
+    let (once, first, along) = subst P whole (w.once, w.first, w.along) in
+    canonical_at n edges (take start nodes) after cycle node once first along (rw split at t)
+
+pub turned_at : (nodes : List ℕ) (place : ℕ) → place < length nodes →
+    ((k : ℕ) → k < length nodes → get_or nodes place 0 ≤ get_or nodes k 0) →
+    IsTurned nodes (drop place nodes ++ take place nodes)
+turned_at nodes place within least =
+    let split : drop place nodes ≡ get_or nodes place 0 ∷ drop (place + 1) nodes =
+    drop_more nodes place 0 within in
+    let first : get_or (drop place nodes ++ take place nodes) 0 0 ≡ get_or nodes place 0 =
+    ap (λ z. get_or (z ++ take place nodes) 0 0) split in
+    let P : ℕ → Type 0 = λ x. get_or (drop place nodes ++ take place nodes) 0 0 ≤ x in
+    let all : All P nodes =
+    All-from_get_or P nodes 0 (λ k below. let h = least k below in omega arith) in
+    record {
+      front = take place nodes;
+      back = drop place nodes;
+      from = sym (take-append-drop place nodes);
+      is = refl;
+      least =
+          All-append P (drop place nodes) (take place nodes) (All-drop P place nodes all)
+          (All-take P place nodes all);
+    }
+
+-- a cycle along least dependencies is one along dependencies
+pub canonical_is_cycle : (n : ℕ) (edges : List (ℕ × ℕ)) (cycle : List ℕ) →
+    IsCanonicalCycle n edges cycle → IsCycle edges cycle
+canonical_is_cycle n edges cycle c = record {
+  once = c.once;
+  closed =
+      closed_weaker (IsLeastDependency n edges) (DependsOn edges) (λ a b least. least.0.0) cycle
+      c.closed;
 }

@@ -1,6 +1,6 @@
 -- Nodes are the numbers below n. An edge (a, b) says that the node a depends on the node b. An edge
 -- may come twice.
-use Rattle.std.specs.Prelude.{◌≡◌, ◌≢◌, ℕ, zero, suc, ◌+◌, ◌-◌, ◌<◌, ◌≤◌, ◌↔◌, Bool, true, List, ◌++◌, All, Contains, length, take, drop, slice_index}
+use Rattle.std.specs.Prelude.{◌≡◌, ◌≢◌, ℕ, zero, suc, ◌<◌, ◌≤◌, ◌==◌, ◌↔◌, Bool, true, List, [], ◌∷◌, ◌++◌, All, Contains, count_by, slice_index}
 use Rattle.std.specs.Ordering.{nat_cmp}
 use Rattle.std.specs.Cmp.Lexicographic.{slice_cmp}
 use Rattle.std.specs.List.Sorted.{IsStrictlyIncreasing}
@@ -30,27 +30,41 @@ pub record AreAncestors (edges : List (ℕ × ℕ)) (node : ℕ) (nodes : List �
   pub ascending : IsStrictlyIncreasing nodes
   pub members : (b : ℕ) → Contains nodes b ↔ DependsTransitively edges node b
 
--- no node stands at two places
+-- no node comes twice
 abbrev pub EachOnce : List ℕ → Type 0
-EachOnce nodes = (j k : ℕ) → j < k → k < length nodes → slice_index nodes j ≢ slice_index nodes k
+EachOnce nodes = (x : ℕ) → count_by (λ y. y == x) nodes ≤ 1
 
--- each node below n stands at one place, behind all that it depends on
+-- a fact about each node and those before it
+abbrev pub InTurn : (List ℕ → ℕ → Type 0) → List ℕ → List ℕ → Type 0
+InTurn P before [] = Unit {0}
+InTurn P before (x ∷ rest) = P before x × InTurn P (before ++ x ∷ []) rest
+
+-- each node below n comes once, after all that it depends on
 pub record IsTopological (n : ℕ) (edges : List (ℕ × ℕ)) (nodes : List ℕ) : Type 0 where
   pub members : (x : ℕ) → Contains nodes x ↔ (x < n)
   pub once : EachOnce nodes
-  pub after : (k b : ℕ) → k < length nodes → DependsOn edges (slice_index nodes k) b → Contains (take k nodes) b
+  pub after : InTurn (λ before x. (b : ℕ) → DependsOn edges x b → Contains before b) [] nodes
 
 -- the least of all topological orders: none of them has a smaller node at the first place where the two differ
 pub record IsLeastTopological (n : ℕ) (edges : List (ℕ × ℕ)) (nodes : List ℕ) : Type 0 where
   pub topological : IsTopological n edges nodes
   pub least : (others : List ℕ) → IsTopological n edges others → slice_cmp nat_cmp nodes others ≢ Greater
 
+-- each node is related to the next one
+abbrev pub Chain : (ℕ → ℕ → Type 0) → List ℕ → Type 0
+Chain R [] = Unit {0}
+Chain R (a ∷ []) = Unit {0}
+Chain R (a ∷ b ∷ rest) = R a b × Chain R (b ∷ rest)
+
+-- and the last one to the first
+abbrev pub ClosedChain : (ℕ → ℕ → Type 0) → List ℕ → Type 0
+ClosedChain R [] = ⊥
+ClosedChain R (first ∷ rest) = Chain R (first ∷ rest ++ first ∷ [])
+
 -- each node depends on the next one, and the last one on the first
 pub record IsCycle (edges : List (ℕ × ℕ)) (nodes : List ℕ) : Type 0 where
-  pub some : 0 < length nodes
   pub once : EachOnce nodes
-  pub next : (k : ℕ) → k + 1 < length nodes → DependsOn edges (slice_index nodes k) (slice_index nodes (k + 1))
-  pub closed : DependsOn edges (slice_index nodes (length nodes - 1)) (slice_index nodes 0)
+  pub closed : ClosedChain (DependsOn edges) nodes
 
 -- a set of nodes below n, each of which depends on one of the set
 abbrev pub KeepsItself : ℕ → List (ℕ × ℕ) → (ℕ → Bool) → Type 0
@@ -69,27 +83,21 @@ IsLeast P x = P x × ((y : ℕ) → P y → x ≤ y)
 abbrev pub IsLeastDependency : ℕ → List (ℕ × ℕ) → ℕ → ℕ → Type 0
 IsLeastDependency n edges a b = IsLeast (λ d. DependsOn edges a d × Remains n edges d) b
 
--- the walk from the least remaining node along least remaining dependencies, until it would come back to its place `start`
-pub record IsWalk (n : ℕ) (edges : List (ℕ × ℕ)) (nodes : List ℕ) (start : ℕ) : Type 0 where
-  pub within : start < length nodes
-  pub once : EachOnce nodes
-  pub first : IsLeast (Remains n edges) (slice_index nodes 0)
-  pub next : (k : ℕ) → k + 1 < length nodes → IsLeastDependency n edges (slice_index nodes k) (slice_index nodes (k + 1))
-  pub back : IsLeastDependency n edges (slice_index nodes (length nodes - 1)) (slice_index nodes start)
+-- a chain leads from a to b
+abbrev pub Leads : (ℕ → ℕ → Type 0) → ℕ → ℕ → Type 0
+Leads R a b = (nodes : List ℕ) × Chain R (a ∷ nodes) × Contains (a ∷ nodes) b
 
--- the nodes turned round, to begin with the least of them
-pub record IsTurned (nodes turned : List ℕ) : Type 0 where
-  pub place : ℕ
-  pub within : place < length nodes
-  pub is : turned ≡ drop place nodes ++ take place nodes
-  pub least : (k : ℕ) → k < length nodes → slice_index nodes place ≤ slice_index nodes k
-
--- where that walk comes back, its nodes from there on, turned to begin with the least
+-- the cycle along least remaining dependencies to which they lead from the least remaining node, begun
+-- with its least node
 pub record IsCanonicalCycle (n : ℕ) (edges : List (ℕ × ℕ)) (cycle : List ℕ) : Type 0 where
-  pub walk : List ℕ
+  pub once : EachOnce cycle
+  pub closed : ClosedChain (IsLeastDependency n edges) cycle
+  pub least : All (λ x. slice_index cycle 0 ≤ x) cycle
   pub start : ℕ
-  pub walks : IsWalk n edges walk start
-  pub turned : IsTurned (drop start walk) cycle
+  pub from : IsLeast (Remains n edges) start
+  pub node : ℕ
+  pub leads : Leads (IsLeastDependency n edges) start node
+  pub on : Contains cycle node
 
 -- a fact about the cycle of a fault; of want of memory nothing is said
 abbrev pub OnCycle : GraphFault → (List ℕ → Type 0) → Type 0

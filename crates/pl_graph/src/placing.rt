@@ -3,7 +3,7 @@ ghost use Rattle.std.specs.Ordering.{nat_cmp};
 ghost use Rattle.std.specs.declared.cmp.Ordering.TheVariants.{Less};
 ghost use Rattle.std.specs.BTreeSet.{keys};
 ghost use Rattle.pl_graph.specs.Graph.{AreEdges};
-ghost use Rattle.pl_graph.specs.Placing.{CountsMissing, IsPlacement, Releases, missing_of, reversed_of, waiting_of};
+ghost use Rattle.pl_graph.specs.Placing.{CountsMissing, IsPlacement, Releases, missing_of, reversed_of};
 
 use crate::adjacency::neighbors;
 use pl_base::Memory;
@@ -61,8 +61,7 @@ fn count_missing(alloc: Global, n: u32, edges: &[(u32, u32)]) -> Result<Vec<usiz
 /// The nodes that no edge leads from.
 fn ready_at_first(alloc: Global, n: u32, missing: &Vec<usize>) -> Result<BTreeSet<u32>, Memory>
     requires { length missing.now.items ≡ n }
-    ensures members { IfOk result (λ ready. (x : ℕ) → Contains (keys ready) x ↔ ((x < n) × (slice_index missing.now.items x ≡ 0))) }
-    ensures size { IfOk result (λ ready. length (keys ready) + waiting_of missing.now.items ≡ n) }
+    ensures { IfOk result (λ ready. (x : ℕ) → Contains (keys ready) x ↔ ((x < n) × (slice_index missing.now.items x ≡ 0))) }
 {
     let mut ready = BTreeSet::new(alloc);
     for node in 0..n {
@@ -85,7 +84,6 @@ fn take_least(ready: &mut BTreeSet<u32>) -> Option<u32>
 fn release(missing: &mut Vec<usize>, ready: &mut BTreeSet<u32>, nodes: &[u32]) -> Result<(), Memory>
     requires within { All (λ x. x < length missing.old.items) nodes.now }
     requires counted { (x : ℕ) → count_by (λ y. y == x) nodes.now ≤ slice_index missing.old.items x }
-    requires apart { (x : ℕ) → Contains (keys ready.old) x → slice_index missing.old.items x ≡ 0 }
     ensures { OnOk result (Releases nodes.now missing.old.items (keys ready.old) missing.new.items (keys ready.new)) }
 {
     for node in nodes {

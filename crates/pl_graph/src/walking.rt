@@ -1,6 +1,6 @@
 ghost use Rattle.std.specs.Prelude.{◌≡◌, ◌<◌, ◌≤◌, ℕ, Contains, IfOk, length, slice_index};
-ghost use Rattle.pl_graph.specs.Graph.{AreEdges, IsCanonicalCycle, IsLeast, IsTurned, IsWalk, Remains};
-ghost use Rattle.pl_graph.specs.Walking.{AreLeast, ShowsRemaining};
+ghost use Rattle.pl_graph.specs.Graph.{AreEdges, IsCanonicalCycle, IsLeast, Remains};
+ghost use Rattle.pl_graph.specs.Walking.{AreLeast, IsTurned, IsWalk, ShowsRemaining};
 
 use pl_base::{List, Memory};
 use std::alloc::Global;

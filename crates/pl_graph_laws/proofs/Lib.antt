@@ -1,3 +1,2 @@
-pub mod NotBoth
 pub mod OneCycle
 pub mod OneOrder

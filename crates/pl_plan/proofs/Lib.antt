@@ -5,7 +5,6 @@ pub mod LegEdges
 pub mod LegNames
 pub mod Members
 pub mod OneAnswer
-pub mod OneCycle
 pub mod OnePlan
 pub mod Slices
 pub mod Sound

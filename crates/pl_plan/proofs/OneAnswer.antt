@@ -2,7 +2,8 @@
 use Rattle.std.proofs.Common.{◌≡◌, ℕ, List, [], ◌∷◌, length, Option, Some, None, Result, Ok, Err}
 use Rattle.std.proofs.Common.{refl, sym, ap, subst, ◌∙◌, inl, inr}
 use Rattle.std.specs.Option.{option_or}
-use Rattle.pl_graph.proofs.Turns.{canonical_is_cycle}
+use Rattle.pl_graph.proofs.Walks.{canonical_is_cycle}
+use Rattle.pl_graph_laws.proofs.OneCycle.{one_cycle}
 use Rattle.pl_schema_parts.specs.declared.pipeline.JobSpec.{JobSpec}
 use Rattle.pl_schema_parts.specs.declared.pipeline.Pipeline.{Pipeline}
 use Rattle.pl_schema_parts.specs.declared.pipeline.StageSpec.{StageSpec}
@@ -13,7 +14,6 @@ use Rattle.pl_depends.specs.Gives.{Fault}
 use Rattle.pl_depends.specs.Graph.{edges_from, job_graph, stage_graph}
 use Rattle.pl_plan.specs.Plans.{judged, IsPlanOf}
 use Rattle.pl_plan.specs.declared.plan.Plan.{Plan}
-use Rattle.pl_plan.proofs.OneCycle.{one_cycle}
 
 one_circle : (graph : List Waiting) (f g : Option (List ℕ)) → IsCycleOf graph f →
     IsCycleOf graph g → f ≡ g

@@ -1,7 +1,8 @@
-use Rattle.std.proofs.Common.{◌≡◌, ◌+◌, ◌<◌, ◌≤◌, get_or, length, arith, rules, ◌∙◌}
+use Rattle.std.proofs.Common.{◌≡◌, ◌+◌, ◌<◌, ◌≤◌, eqb, get_or, length, take, arith, rules, ◌∙◌}
 use Rattle.std.specs.Prelude.{replicate}
-use Rattle.std.proofs.lemmas.List.{length-replicate, length-set, get_or_default}
-use Rattle.pl_graph.proofs.Missing.{counted_none, counted_more, counted_few}
+use Rattle.std.proofs.lemmas.List.{get_or_default, length-replicate, length-set, length-take-le, take_more}
+use Rattle.std.proofs.lemmas.List.Sums.{count_by-le-length}
+use Rattle.pl_graph.proofs.Missing.{counted_none, counted_push}
 use Rattle.pl_graph.proofs.placing.count_missing.Goals as goal
 
 pub loop-edge-init : goal.loop-edge-init
@@ -11,12 +12,17 @@ loop-edge-init c =
 
 pub overflow_add-index_mut : goal.overflow_add-index_mut
 overflow_add-index_mut c =
-    let edge = get_or c.args.edges.now c.loop-edge.edge-index (0, 0) in
-    let within : edge.0 < length c.loop-edge.missing.items = (let h = (c.requires c.loop-edge.edge-index (0, 0) c.loop-edge-test.true).0 in let l = c.loop-edge.invariant.len in omega arith) in
-    let is : c.index_mut.result.now ≡ get_or c.loop-edge.missing.items edge.0 0 = c.index_mut.ensures.value ∙ get_or_default c.loop-edge.missing.items edge.0 c.index_mut.result.now 0 within in
-    let few = counted_few c.args.edges.now c.loop-edge.edge-index edge.0 c.loop-edge-test.true in
+    let edges = c.args.edges.now in
+    let i = c.loop-edge.edge-index in
+    let edge = get_or edges i (0, 0) in
+    let within = (c.requires i (0, 0) c.loop-edge-test.true).0 in
+    let is = c.index_mut.ensures.value ∙ get_or_default c.loop-edge.missing.items edge.0
+    c.index_mut.result.now 0 (let l = c.loop-edge.invariant.len in omega arith) in
+    let few = count_by-le-length (λ e. eqb e.0 edge.0) (take i edges) in
+    let length_is = length-take-le i edges (let below = c.loop-edge-test.true in omega arith) in
     let counts = c.loop-edge.invariant.counts edge.0 in
-    let bound : c.index_mut.result.now + 1 ≤ length c.args.edges.now = (let below = c.loop-edge-test.true in omega arith) in
+    let bound : c.index_mut.result.now + 1 ≤ length edges =
+    (let below = c.loop-edge-test.true in omega arith) in
     search rules
 
 pub loop-edge-preserved : goal.loop-edge-preserved
@@ -24,10 +30,14 @@ loop-edge-preserved c =
     let edges = c.args.edges.now in
     let i = c.loop-edge.edge-index in
     let edge = get_or edges i (0, 0) in
+    let missing = c.loop-edge.missing.items in
     let below = c.loop-edge-test.true in
-    let within : edge.0 < length c.loop-edge.missing.items = (let h = (c.requires i (0, 0) below).0 in let l = c.loop-edge.invariant.len in omega arith) in
-    let is : c.index_mut.result.now ≡ get_or c.loop-edge.missing.items edge.0 0 = c.index_mut.ensures.value ∙ get_or_default c.loop-edge.missing.items edge.0 c.index_mut.result.now 0 within in
+    let within : edge.0 < length missing =
+    (let h = (c.requires i (0, 0) below).0 in let l = c.loop-edge.invariant.len in omega arith) in
+    let is = c.index_mut.ensures.value
+    ∙ get_or_default missing edge.0 c.index_mut.result.now 0 within in
     record {
-      len = length-set c.loop-edge.missing.items edge.0 _ ∙ c.loop-edge.invariant.len;
-      counts = λ x. counted_more edges c.loop-edge.missing.items i edge c.index_mut.result.now x below (get_or_default edges i (0, 0) edge below) within is c.loop-edge.invariant.counts;
+      len = length-set missing edge.0 _ ∙ c.loop-edge.invariant.len;
+      counts = λ x. rw (take_more edges i (0, 0) below, is)
+          (counted_push (take i edges) missing edge x within (c.loop-edge.invariant.counts x));
     }

@@ -1,6 +1,6 @@
 use Rattle.std.proofs.Common.{◌≡◌, ℕ, get_or, true, false, arith, sym, ◌∙◌}
 use Rattle.std.proofs.lemmas.Bool.{false≢true}
-use Rattle.pl_graph.proofs.Ascending.{increasing_push, members_skip, members_push}
+use Rattle.pl_graph.proofs.Keys.{below_more, below_skip, increasing_push, more_push}
 use Rattle.pl_graph.proofs.transitive.marked_nodes.Goals as goal
 use Rattle.pl_graph.proofs.transitive.marked_nodes.Goals.{then-marks-node+in_ok-push, else-marks-node}
 
@@ -12,11 +12,11 @@ loop-node-preserved c =
     elim c.if-marks-node.branch [
       | then-marks-node+in_ok-push w ↦ rw (w.nodes-is, w.in_ok-push.ensures.items) (record {
         ascending = increasing_push nodes i c.loop-node.invariant.ascending (λ b h. ((c.loop-node.invariant.members b).0 h).0);
-        members = members_push nodes P i c.loop-node.invariant.members w.if-marks-node.true;
+        members = below_more P i nodes _ c.loop-node.invariant.members (more_push nodes i) w.if-marks-node.true;
       })
       | else-marks-node w ↦ rw w.nodes-is (record {
         ascending = c.loop-node.invariant.ascending;
-        members = members_skip nodes P i c.loop-node.invariant.members (λ e. false≢true (sym w.if-marks-node.false ∙ e));
+        members = below_skip P i nodes c.loop-node.invariant.members (λ e. false≢true (sym w.if-marks-node.false ∙ e));
       })
     ]
 

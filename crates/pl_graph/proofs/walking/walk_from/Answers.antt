@@ -12,7 +12,7 @@ pub loop-seen-init : goal.loop-seen-init
 loop-seen-init c =
     let seen : c.in_ok-seen.seen.items ≡ replicate c.args.n false = search rules in
     rw (c.new-nodes.ensures.items, seen) (record {
-      walking = walking_none c.args.n c.args.edges.now c.args.first c.requires.first;
+      walking = walking_none c.args.first c.requires.first;
       marked = marked_none c.args.n;
       len = length-replicate c.args.n false;
     })
@@ -32,8 +32,8 @@ loop-seen-preserved c =
     let dependency = least_dependency n edges c.args.missing.now c.in_ok-next.next.items node c.requires.edges c.requires.shows c.in_ok-next.ensures remains in
     let P : ℕ → Type 0 = λ z. IsLeastDependency n edges node z in
     rw c.in_ok-push.ensures.items (record {
-      walking = walking_more n edges c.loop-seen.nodes.items node c.index-node.result.now c.loop-seen.invariant.walking absent (subst P next dependency);
-      marked = marked_push c.loop-seen.nodes.items c.loop-seen.seen.items node in_seen unmarked c.loop-seen.invariant.marked;
+      walking = walking_more c.index-node.result.now c.loop-seen.invariant.walking absent (subst P next dependency);
+      marked = marked_push node in_seen unmarked c.loop-seen.invariant.marked;
       len = length-set c.loop-seen.seen.items node true ∙ c.loop-seen.invariant.len;
     })
 
@@ -42,7 +42,7 @@ loop-seen-smaller c =
     let below : c.loop-seen.node < c.args.n = remains_within c.args.n c.args.edges.now c.loop-seen.node c.loop-seen.invariant.walking.remains in
     let in_seen : c.loop-seen.node < length c.loop-seen.seen.items = (let l = c.loop-seen.invariant.len in omega arith) in
     let unmarked : get_or c.loop-seen.seen.items c.loop-seen.node false ≡ false = sym (c.index.ensures ∙ get_or_default c.loop-seen.seen.items c.loop-seen.node c.index.result.now false in_seen) ∙ c.loop-seen-test.true in
-    let marked = marked_push c.loop-seen.nodes.items c.loop-seen.seen.items c.loop-seen.node in_seen unmarked c.loop-seen.invariant.marked in
+    let marked = marked_push c.loop-seen.node in_seen unmarked c.loop-seen.invariant.marked in
     let size = marked.size in
     let same = length-set c.loop-seen.seen.items c.loop-seen.node true in
     let longer = length_push c.loop-seen.nodes.items c.loop-seen.node in
@@ -59,5 +59,5 @@ place_of-start-requires c =
 
 pub returns : goal.returns
 returns c =
-    walking_back c.args.n c.args.edges.now c.loop-seen.nodes.items c.loop-seen.node c.place_of-start.result c.loop-seen.invariant.walking
+    walking_back c.place_of-start.result c.loop-seen.invariant.walking
     (rw c.deref.ensures.value at c.place_of-start.ensures.within) (rw c.deref.ensures.value at c.place_of-start.ensures.is)
