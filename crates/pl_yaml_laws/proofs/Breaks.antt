@@ -15,7 +15,7 @@ use Rattle.pl_yaml_laws.proofs.Texts.{same_rows}
 
 -- ---- lines without the carriage returns before their breaks
 
-abbrev cut : List ℕ → List (List ℕ)
+abbrev pub cut : List ℕ → List (List ℕ)
 cut text = slice_split (λ c. c == 10) text
 
 abbrev stripped : List (List ℕ) → List (List ℕ)
@@ -63,7 +63,7 @@ strip_return : (c : ℕ) (lines : List (List ℕ)) → (c == 13) ≡ true → 0 
 strip_return c [] is some = absurd (omega arith)
 strip_return c (line ∷ lines) is some = rw is refl
 
-cut_some : (text : List ℕ) → 0 < length (cut text)
+pub cut_some : (text : List ℕ) → 0 < length (cut text)
 cut_some [] = omega arith
 cut_some (c ∷ cs) = elim (c == 10) as (λ b. 0 < length (cond b ([] ∷ cut cs) (onto_first c (cut cs)))) [ true ↦ omega arith | false ↦ onto_some c (cut cs) ]
   where
