@@ -24,26 +24,35 @@ in_content row rows is =
 in_lead : (row : Row) (rows : List Row) → IsPassedOver row → lead (row ∷ rows) ≡ lead rows
 unfolding lead
 in_lead row rows is =
-    ap (λ b. cond b (line_end row >>= λ _. lead rows) (begins row >>= λ _. Ok (row ∷ rows))) (or_left (is_empty row) (is_start row) is.0)
+    ap (λ b. cond b (line_end row >>= λ _. lead rows) (begins row >>= λ _. Ok (row ∷ rows)))
+    (or_left (is_empty row) (is_start row) is.0)
     ∙ ap (λ end. end >>= λ _. lead rows) (ended row is.1)
 
 pub in_documents : PassedOverInDocuments
 unfolding document
 in_documents file row rows is =
-    ap (λ read. read >>= λ left. node file 64 whole_text left >>= λ read. content read.1 >>= λ rest. nothing_left rest >>= λ _. Ok read.0) (in_lead row rows is)
+    ap (λ read. read >>= λ left. node file 64 whole_text left >>= λ read. content read.1
+    >>= λ rest. nothing_left rest >>= λ _. Ok read.0) (in_lead row rows is)
 
 pub before_nodes : PassedOverBeforeNodes
 unfolding node
-before_nodes file depth own begun row rows is = ap (λ read. read >>= node_in file depth (inner file depth) (below own begun)) (in_content row rows is)
+before_nodes file depth own begun row rows is =
+    ap (λ read. read >>= node_in file depth (inner file depth) (below own begun))
+    (in_content row rows is)
 
 pub before_items : PassedOverBeforeItems
 unfolding many next_item
 before_items file values parent column turns before row rows is =
-    ap (λ read. read >>= item_in parent column >>= λ found. many_step (many (next_item parent column) (λ _ row left. item file values row left) turns) (λ _ row left. item file values row left) before found.0 found.1)
+    ap (λ read. read >>= item_in parent column
+    >>= λ found. many_step
+    (many (next_item parent column) (λ _ row left. item file values row left) turns)
+    (λ _ row left. item file values row left) before found.0 found.1)
     (in_content row rows is)
 
 pub before_pairs : PassedOverBeforePairs
 unfolding many next_key
 before_pairs file values column turns before row rows is =
-    ap (λ read. read >>= key_in file values.depth column >>= λ found. many_step (many (next_key file values.depth column) (pair file values) turns) (pair file values) before found.0 found.1)
+    ap (λ read. read >>= key_in file values.depth column
+    >>= λ found. many_step (many (next_key file values.depth column) (pair file values) turns)
+    (pair file values) before found.0 found.1)
     (in_content row rows is)

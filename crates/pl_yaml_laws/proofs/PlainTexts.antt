@@ -26,7 +26,8 @@ use Rattle.pl_yaml_laws.proofs.Texts.{spelled_is}
 
 -- ---- how far a plain text goes
 
-visible_is : (c : ℕ) → is_visible c ≡ true → (is_blank c ≡ false) × (is_control c ≡ false) × ((c == 0xfeff) ≡ false)
+visible_is : (c : ℕ) → is_visible c ≡ true → (is_blank c ≡ false) × (is_control c ≡ false)
+    × ((c == 0xfeff) ≡ false)
 visible_is c is =
     let parts = or_parts (is_blank c || is_control c) (c == 0xfeff) (not-true _ is) in
     let more = or_parts (is_blank c) (is_control c) parts.0 in
@@ -51,9 +52,19 @@ stays : (blank : Bool) (c : ℕ) (cs rest : List ℕ) → (is_blank c || may_sta
     → (c == 58 && ends_word true (cs ++ rest) || c == 35 && blank) ≡ false
 stays blank c cs rest is =
     elim (cases_Bool (c == 35)) [
-      | inl mark ↦ rw (mark_no_colon c mark, mark, not-true blank (rw (mark_no_blank c mark, mark) at is)) refl
+      | inl mark ↦
+          rw (
+            mark_no_colon c mark,
+            mark,
+            not-true blank (rw (mark_no_blank c mark, mark) at is),
+          ) refl
       | inr no_mark ↦ elim (cases_Bool (c == 58)) [
-        | inl colon ↦ rw (no_mark, colon, goes_on cs rest (rw (colon_no_blank c colon, no_mark, colon) at is)) refl
+        | inl colon ↦
+            rw (
+              no_mark,
+              colon,
+              goes_on cs rest (rw (colon_no_blank c colon, no_mark, colon) at is),
+            ) refl
         | inr no_colon ↦ rw (no_mark, no_colon) refl
       ]
     ]
@@ -68,7 +79,8 @@ blank_other c blank = (colon c blank, mark c blank)
     mark c blank = grind (arith, nat_tests)
 
 -- behind it, blanks belong to it at first
-after_blank : (rest : List ℕ) → is_comment_or_blank rest ≡ true → plain_len true true rest ≡ blanks rest
+after_blank : (rest : List ℕ) → is_comment_or_blank rest ≡ true
+    → plain_len true true rest ≡ blanks rest
 after_blank [] over = refl
 after_blank (c ∷ cs) over =
     elim (cases_Bool (is_blank c)) [
@@ -96,7 +108,8 @@ after_it (c ∷ cs) over =
     let blank = parts.0 in
     rw (colon, mark, blank) (ap (λ n. 1 + n) (after_blank cs parts.1))
 
-plain_len_is : (blank : Bool) (text rest : List ℕ) → may_follow blank text ≡ true → is_end rest ≡ true → plain_len true blank (text ++ rest) ≡ length text + blanks rest
+plain_len_is : (blank : Bool) (text rest : List ℕ) → may_follow blank text ≡ true
+    → is_end rest ≡ true → plain_len true blank (text ++ rest) ≡ length text + blanks rest
 plain_len_is blank [] rest may over =
     let e = ap (λ b. plain_len true b rest) (not-true blank may) ∙ after_it rest over in
     omega (arith, e)
@@ -116,7 +129,8 @@ blanks_void (c ∷ cs) =
       | inr isnt ↦ rw isnt refl
     ]
 
-content_is : (blank : Bool) (text rest : List ℕ) → may_follow blank text ≡ true → content_len (text ++ take (blanks rest) rest) ≡ length text
+content_is : (blank : Bool) (text rest : List ℕ) → may_follow blank text ≡ true
+    → content_len (text ++ take (blanks rest) rest) ≡ length text
 content_is blank [] rest may = blanks_void rest
 content_is blank (c ∷ cs) rest may =
     let parts = and_parts _ (may_follow (is_blank c) cs) may in
@@ -133,7 +147,8 @@ content_is blank (c ∷ cs) rest may =
     some [] may = absurd (both_ways false refl may)
     some (c ∷ cs) may = full (length cs)
 
-taken : (front rest : List ℕ) (k : ℕ) → take (length front + k) (front ++ rest) ≡ front ++ take k rest
+taken : (front rest : List ℕ) (k : ℕ)
+    → take (length front + k) (front ++ rest) ≡ front ++ take k rest
 taken [] rest k = let e : 0 + k ≡ k = omega arith in ap (λ n. take n rest) e
 taken (c ∷ cs) rest k =
     let e : length (c ∷ cs) + k ≡ suc (length cs + k) = omega arith in
@@ -142,21 +157,54 @@ taken (c ∷ cs) rest k =
 -- ---- a plain text is a word
 
 -- it begins with no indicator, or with one before a visible character
-begins : (c : ℕ) (cs : List ℕ) → may_begin c cs ≡ true → (is_indicator c ≡ false) ⊎ (((c == 45 || c == 63 || c == 58) ≡ true) × (begins_visible cs ≡ true))
+begins : (c : ℕ) (cs : List ℕ) → may_begin c cs ≡ true → (is_indicator c ≡ false)
+    ⊎ (((c == 45 || c == 63 || c == 58) ≡ true) × (begins_visible cs ≡ true))
 begins c cs may =
     let parts = and_parts (is_visible c) _ may in
-    elim (or_cases (not (is_indicator c)) _ parts.1) [ inl none ↦ inl (not-true (is_indicator c) none) | inr both ↦ inr (and_parts _ (begins_visible cs) both) ]
+    elim (or_cases (not (is_indicator c)) _ parts.1) [
+      | inl none ↦
+          inl (not-true (is_indicator c) none)
+      | inr both ↦
+          inr (and_parts _ (begins_visible cs) both)
+    ]
 
-head_by_none : (c : ℕ) (more : List ℕ) → is_indicator c ≡ false → head_from true c more ≡ plain_head (c ∷ more) (plain_len true false (c ∷ more))
+head_by_none : (c : ℕ) (more : List ℕ) → is_indicator c ≡ false
+    → head_from true c more ≡ plain_head (c ∷ more) (plain_len true false (c ∷ more))
 head_by_none c more none =
     let isnt = another c none in
-    rw (isnt 45 refl, isnt 63 refl, isnt 38 refl, isnt 42 refl, isnt 33 refl, isnt 39 refl, isnt 34 refl, isnt 91 refl, isnt 123 refl, isnt 124 refl, isnt 62 refl, isnt 44 refl, isnt 93 refl, isnt 125 refl, isnt 35 refl, isnt 37 refl, isnt 64 refl, isnt 96 refl, isnt 58 refl) refl
+    rw (
+      isnt 45 refl,
+      isnt 63 refl,
+      isnt 38 refl,
+      isnt 42 refl,
+      isnt 33 refl,
+      isnt 39 refl,
+      isnt 34 refl,
+      isnt 91 refl,
+      isnt 123 refl,
+      isnt 124 refl,
+      isnt 62 refl,
+      isnt 44 refl,
+      isnt 93 refl,
+      isnt 125 refl,
+      isnt 35 refl,
+      isnt 37 refl,
+      isnt 64 refl,
+      isnt 96 refl,
+      isnt 58 refl,
+    ) refl
   where
     another : (c : ℕ) → is_indicator c ≡ false → (d : ℕ) → is_indicator d ≡ true → (c == d) ≡ false
     another c none d indicator =
-        elim (cases_Bool (c == d)) [ inl same ↦ absurd (both_ways (is_indicator d) (ap is_indicator (sym (eqb-true c d same)) ∙ none) indicator) | inr isnt ↦ isnt ]
+        elim (cases_Bool (c == d)) [
+          | inl same ↦
+              absurd (both_ways (is_indicator d)
+              (ap is_indicator (sym (eqb-true c d same)) ∙ none) indicator)
+          | inr isnt ↦ isnt
+        ]
 
-head_by_mark : (c : ℕ) (more : List ℕ) → (c == 45 || c == 63 || c == 58) ≡ true → ends_word true more ≡ false
+head_by_mark : (c : ℕ) (more : List ℕ) → (c == 45 || c == 63 || c == 58) ≡ true
+    → ends_word true more ≡ false
     → head_from true c more ≡ plain_head (c ∷ more) (plain_len true false (c ∷ more))
 head_by_mark c more is goes =
     elim (or_cases (c == 45 || c == 63) (c == 58) is) [
@@ -167,10 +215,15 @@ head_by_mark c more is goes =
       | inr colon ↦ at c more 58 colon (rw goes refl)
     ]
   where
-    at : (c : ℕ) (more : List ℕ) (d : ℕ) → (c == d) ≡ true → head_from true d more ≡ plain_head (d ∷ more) (plain_len true false (d ∷ more)) → head_from true c more ≡ plain_head (c ∷ more) (plain_len true false (c ∷ more))
-    at c more d same is = subst (λ e. head_from true e more ≡ plain_head (e ∷ more) (plain_len true false (e ∷ more))) (sym (eqb-true c d same)) is
+    at : (c : ℕ) (more : List ℕ) (d : ℕ) → (c == d) ≡ true
+        → head_from true d more ≡ plain_head (d ∷ more) (plain_len true false (d ∷ more))
+        → head_from true c more ≡ plain_head (c ∷ more) (plain_len true false (c ∷ more))
+    at c more d same is =
+        subst (λ e. head_from true e more ≡ plain_head (e ∷ more) (plain_len true false (e ∷ more)))
+        (sym (eqb-true c d same)) is
 
-module _ (c : ℕ) (cs rest : List ℕ) (plain : is_plain (c ∷ cs) ≡ true) (over : is_end rest ≡ true) where
+module _ (c : ℕ) (cs rest : List ℕ) (plain : is_plain (c ∷ cs) ≡ true)
+    (over : is_end rest ≡ true) where
   parts : (may_begin c cs ≡ true) × (may_follow false cs ≡ true)
   parts = and_parts (may_begin c cs) (may_follow false cs) plain
 
@@ -178,12 +231,17 @@ module _ (c : ℕ) (cs rest : List ℕ) (plain : is_plain (c ∷ cs) ≡ true) (
   first = visible_is c (and_parts (is_visible c) _ parts.0).0
 
   -- an indicator but those three isn't the first
-  other_first : (d : ℕ) → is_indicator d ≡ true → (d == 45 || d == 63 || d == 58) ≡ false → (c == d) ≡ false
+  other_first : (d : ℕ) → is_indicator d ≡ true → (d == 45 || d == 63 || d == 58) ≡ false
+      → (c == d) ≡ false
   other_first d indicator other =
       elim (cases_Bool (c == d)) [
         | inl same ↦ elim (begins c cs parts.0) [
-          | inl none ↦ absurd (both_ways (is_indicator d) (ap is_indicator (sym (eqb-true c d same)) ∙ none) indicator)
-          | inr both ↦ absurd (both_ways (d == 45 || d == 63 || d == 58) other (ap (λ e. e == 45 || e == 63 || e == 58) (sym (eqb-true c d same)) ∙ both.0))
+          | inl none ↦
+              absurd (both_ways (is_indicator d)
+              (ap is_indicator (sym (eqb-true c d same)) ∙ none) indicator)
+          | inr both ↦
+              absurd (both_ways (d == 45 || d == 63 || d == 58) other
+              (ap (λ e. e == 45 || e == 63 || e == 58) (sym (eqb-true c d same)) ∙ both.0))
         ]
         | inr isnt ↦ isnt
       ]
@@ -195,7 +253,8 @@ module _ (c : ℕ) (cs rest : List ℕ) (plain : is_plain (c ∷ cs) ≡ true) (
   first_stays =
       elim (cases_Bool (c == 58)) [
         | inl colon ↦ elim (begins c cs parts.0) [
-          | inl none ↦ absurd (both_ways (is_indicator c) none (ap is_indicator (eqb-true c 58 colon)))
+          | inl none ↦
+              absurd (both_ways (is_indicator c) none (ap is_indicator (eqb-true c 58 colon)))
           | inr both ↦ rw (colon, goes_on cs rest both.1) (and_right (c == 35) false refl)
         ]
         | inr no_colon ↦ rw no_colon (and_right (c == 35) false refl)
@@ -214,7 +273,8 @@ module _ (c : ℕ) (cs rest : List ℕ) (plain : is_plain (c ∷ cs) ≡ true) (
       let text : List ℕ = c ∷ cs ++ rest in
       let blank = first.0 in
       let e = content_is false cs rest parts.1 in
-      let content : content_len (c ∷ cs ++ take (blanks rest) rest) ≡ length (c ∷ cs) = rw blank (omega (arith, e)) in
+      let content : content_len (c ∷ cs ++ take (blanks rest) rest) ≡ length (c ∷ cs) =
+      rw blank (omega (arith, e)) in
       ap (λ t. take (content_len (take width t)) t) is
       ∙ ap (λ t. take (content_len t) text) (taken (c ∷ cs) rest (blanks rest))
       ∙ ap (λ n. take n text) content
@@ -231,32 +291,51 @@ module _ (c : ℕ) (cs rest : List ℕ) (plain : is_plain (c ∷ cs) ≡ true) (
   no_key : begins_with 58 (drop width (c ∷ cs ++ rest)) ≡ false
   unfolding width
   no_key =
-      ap (begins_with 58) (sym (drop-drop (blanks rest) (length (c ∷ cs)) (c ∷ cs ++ rest)) ∙ ap (drop (blanks rest)) (drop_at (c ∷ cs) rest (length (c ∷ cs)) refl))
+      ap (begins_with 58)
+      (sym (drop-drop (blanks rest) (length (c ∷ cs)) (c ∷ cs ++ rest))
+      ∙ ap (drop (blanks rest)) (drop_at (c ∷ cs) rest (length (c ∷ cs)) refl))
       ∙ no_colon rest over
 
-  word_is : (file : FileKey) (parent : ℕ) (row : Row) (rows : List Row) → row.text ≡ c ∷ cs ++ rest → row.whole ≡ true → further parent row.number rows ≡ Ok ([], rows)
-      → word file parent row width rows ≡ Ok (node_at file row (Scalar (encode_utf8_all (c ∷ cs))), rows)
+  word_is : (file : FileKey) (parent : ℕ) (row : Row) (rows : List Row) → row.text ≡ c ∷ cs ++ rest
+      → row.whole ≡ true → further parent row.number rows ≡ Ok ([], rows)
+      → word file parent row width rows
+      ≡ Ok (node_at file row (Scalar (encode_utf8_all (c ∷ cs))), rows)
   word_is file parent row rows is whole none =
       let behind : behind_line parent row width rows ≡ Ok ([], rows) =
-      elim (length row.text == width) as (λ b. cond b (further parent row.number rows) (Ok ([], rows)) ≡ Ok ([], rows)) [ true ↦ none | false ↦ refl ]
+      elim (length row.text == width) as
+      (λ b. cond b (further parent row.number rows) (Ok ([], rows)) ≡ Ok ([], rows)) [
+        | true ↦
+            none
+        | false ↦ refl
+      ]
       in
-      rw whole (ap (λ r. r >>= λ read. Ok (node_at file row (Scalar (encode_utf8_all (part width row ++ read.0))), read.1)) behind
-      ∙ ap (λ text. Ok (node_at file row (Scalar (encode_utf8_all text)), rows)) (append-nil (part width row) ∙ part_is row is))
+      rw whole (ap
+      (λ r. r >>= λ read. Ok
+      (node_at file row (Scalar (encode_utf8_all (part width row ++ read.0))), read.1)) behind
+      ∙ ap (λ text. Ok (node_at file row (Scalar (encode_utf8_all text)), rows))
+      (append-nil (part width row) ∙ part_is row is))
 
 pub value_is : PlainValueIsItself
 unfolding inline
-value_is file depth parent row rows [] rest is whole plain over none = absurd (both_ways false refl plain)
+value_is file depth parent row rows [] rest is whole plain over none =
+    absurd (both_ways false refl plain)
 value_is file depth parent row rows (c ∷ cs) rest is whole plain over none =
     ap (λ t. inline_by file depth parent row (head_at row.whole t) rows) is
     ∙ ap (λ w. inline_by file depth parent row (head_at w (c ∷ cs ++ rest)) rows) whole
     ∙ ap (λ head. inline_by file depth parent row head rows) (head_is c cs rest plain over)
-    ∙ rw (no_key c cs rest plain over) (word_is c cs rest plain over file parent row rows is whole none)
+    ∙ rw (no_key c cs rest plain over)
+    (word_is c cs rest plain over file parent row rows is whole none)
 
 clean_text : (blank : Bool) (text : List ℕ) → may_follow blank text ≡ true → is_line text ≡ true
 clean_text blank [] may = refl
 clean_text blank (c ∷ cs) may =
     let parts = and_parts _ (may_follow (is_blank c) cs) may in
-    and_from _ _ (elim (or_cases (is_blank c) _ parts.0) [ inl is ↦ blank_clean c is | inr stands ↦ stands_clean blank c cs stands ]) (clean_text (is_blank c) cs parts.1)
+    and_from _ _
+    (elim (or_cases (is_blank c) _ parts.0) [
+      | inl is ↦ blank_clean c is
+      | inr stands ↦
+          stands_clean blank c cs stands
+    ]) (clean_text (is_blank c) cs parts.1)
   where
     blank_clean : (c : ℕ) → is_blank c ≡ true → not (is_control c) ≡ true
     blank_clean c is = grind (arith, nat_tests)
@@ -267,7 +346,8 @@ clean_text blank (c ∷ cs) may =
     colon_clean : (c : ℕ) → (c == 58) ≡ true → not (is_control c) ≡ true
     colon_clean c is = grind (arith, nat_tests)
 
-    stands_clean : (blank : Bool) (c : ℕ) (cs : List ℕ) → may_stand blank c cs ≡ true → not (is_control c) ≡ true
+    stands_clean : (blank : Bool) (c : ℕ) (cs : List ℕ) → may_stand blank c cs ≡ true
+        → not (is_control c) ≡ true
     stands_clean blank c cs stands =
         elim (cases_Bool (c == 35)) [
           | inl mark ↦ mark_clean c mark
@@ -283,18 +363,23 @@ no_space c isnt = (or_parts (c == 32) (c == 9) isnt).0
 no_tab : (c : ℕ) → is_blank c ≡ false → (c == 9) ≡ false
 no_tab c isnt = (or_parts (c == 32) (c == 9) isnt).1
 
-row_read : (file : FileKey) (c : ℕ) (cs rest : List ℕ) → is_plain (c ∷ cs) ≡ true → is_end rest ≡ true → is_marker (first_row (c ∷ cs ++ rest)) ≡ false
-    → document file (first_row (c ∷ cs ++ rest) ∷ []) ≡ Ok (node_at file (first_row []) (Scalar (encode_utf8_all (c ∷ cs))))
+row_read : (file : FileKey) (c : ℕ) (cs rest : List ℕ) → is_plain (c ∷ cs) ≡ true
+    → is_end rest ≡ true → is_marker (first_row (c ∷ cs ++ rest)) ≡ false
+    → document file (first_row (c ∷ cs ++ rest) ∷ [])
+    ≡ Ok (node_at file (first_row []) (Scalar (encode_utf8_all (c ∷ cs))))
 unfolding begun further
 row_read file c cs rest plain over no_marker =
     let row : Row = first_row (c ∷ cs ++ rest) in
     let made : Node = node_at file row (Scalar (encode_utf8_all (c ∷ cs))) in
     let blank = (first c cs rest plain over).0 in
     let read : begun file 64 (inner file 64) 0 row (row ∷ []) ≡ Ok (made, []) =
-    ap (λ head. begun_by file 64 (inner file 64) 0 row head (row ∷ [])) (head_is c cs rest plain over)
+    ap (λ head. begun_by file 64 (inner file 64) 0 row head (row ∷ []))
+    (head_is c cs rest plain over)
     ∙ rw (no_key c cs rest plain over) (word_is c cs rest plain over file 0 row [] refl refl refl)
     in
-    alone file row made (sym (empty_at row c refl blank) ∙ other_first c cs rest plain over 35 refl refl) (no_tab c blank) (other_first c cs rest plain over 37 refl refl)
+    alone file row made
+    (sym (empty_at row c refl blank) ∙ other_first c cs rest plain over 35 refl refl)
+    (no_tab c blank) (other_first c cs rest plain over 37 refl refl)
     no_marker refl read
 
 pub text_is : PlainTextIsItself
@@ -303,8 +388,11 @@ text_is file (c ∷ cs) rest plain clean over no_marker is =
     let parts = and_parts (may_begin c cs) (may_follow false cs) plain in
     let first = visible_is c (and_parts (is_visible c) _ parts.0).0 in
     let whole : is_line (c ∷ cs ++ rest) ≡ true =
-    and_from _ _ (ap not first.1) (list_all-append (λ c. not (is_control c)) cs rest ∙ and_from _ _ (clean_text false cs parts.1) clean)
+    and_from _ _ (ap not first.1)
+    (list_all-append (λ c. not (is_control c)) cs rest
+    ∙ and_from _ _ (clean_text false cs parts.1) clean)
     in
     spelled_is file (c ∷ cs ++ rest) is
-    ∙ ap (λ rows. placed file (document file rows)) (row_is c (cs ++ rest) first.2 (no_space c first.0) whole)
+    ∙ ap (λ rows. placed file (document file rows))
+    (row_is c (cs ++ rest) first.2 (no_space c first.0) whole)
     ∙ ap (placed file) (row_read file c cs rest plain over no_marker)

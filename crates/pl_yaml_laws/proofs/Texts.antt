@@ -9,7 +9,8 @@ use Rattle.pl_line.specs.Rows.{rows_of}
 use Rattle.pl_yaml.specs.Spells.{document, placed, spells}
 use Rattle.pl_yaml_laws.specs.Texts.{IsText, spelled}
 
-pub spelled_is : (file : FileKey) (text : List ℕ) → IsText text → spelled file text ≡ placed file (document file (rows_of text))
+pub spelled_is : (file : FileKey) (text : List ℕ) → IsText text
+    → spelled file text ≡ placed file (document file (rows_of text))
 unfolding spells
 spelled_is file text is =
     let bytes : List ℕ = encode_utf8_all text in
@@ -18,6 +19,8 @@ spelled_is file text is =
     rw (short, utf8) (ap (λ cs. placed file (document file (rows_of cs))) (chars-encodes text is.0))
 
 -- texts of the same rows spell the same
-pub same_rows : (file : FileKey) (one two : List ℕ) → IsText one → IsText two → rows_of one ≡ rows_of two → spelled file one ≡ spelled file two
+pub same_rows : (file : FileKey) (one two : List ℕ) → IsText one → IsText two
+    → rows_of one ≡ rows_of two → spelled file one ≡ spelled file two
 same_rows file one two is also same =
-    spelled_is file one is ∙ (ap (λ rows. placed file (document file rows)) same ∙ sym (spelled_is file two also))
+    spelled_is file one is
+    ∙ (ap (λ rows. placed file (document file rows)) same ∙ sym (spelled_is file two also))

@@ -7,10 +7,13 @@ use Rattle.pl_yaml_laws.specs.Texts.{IsText, spelled}
 -- each carriage return that stands before a line feed is left out
 abbrev pub with_line_feeds : List ℕ → List ℕ
 with_line_feeds [] = []
-with_line_feeds (c ∷ cs) = if c == 13 && begins_with 10 cs then with_line_feeds cs else c ∷ with_line_feeds cs
+with_line_feeds (c ∷ cs) =
+    if c == 13 && begins_with 10 cs then with_line_feeds cs else c ∷ with_line_feeds cs
 
--- What is left of a text so spells the same, where no carriage return stands before a line feed in it again.
+-- What is left of a text so spells the same, where no carriage return stands before a line feed in
+-- it again.
 abbrev pub LineBreaksAreAlike : Type 0
 LineBreaksAreAlike =
-    (file : FileKey) (text : List ℕ) → IsText text → with_line_feeds (with_line_feeds text) ≡ with_line_feeds text
+    (file : FileKey) (text : List ℕ) → IsText text
+    → with_line_feeds (with_line_feeds text) ≡ with_line_feeds text
     → spelled file text ≡ spelled file (with_line_feeds text)

@@ -12,7 +12,8 @@ use Rattle.pl_yaml_laws.specs.Lines.{is_line, is_end}
 
 -- a header that begins at a place
 abbrev pub header_row : ℕ → ℕ → List ℕ → Row
-header_row number column text = record { number = number; column = column; text = text; whole = true }
+header_row number column text =
+    record { number = number; column = column; text = text; whole = true }
 
 -- an indentation indicator, or none
 abbrev pub is_indentation : List ℕ → Bool
@@ -24,25 +25,31 @@ abbrev pub is_feed : Option ℕ → Bool
 is_feed None = false
 is_feed (Some c) = c == 10
 
--- how many line feeds clipping keeps of those behind a content: one, where there is one, behind a content that isn't empty
+-- how many line feeds clipping keeps of those behind a content: one, where there is one, behind a
+-- content that isn't empty
 abbrev pub clipped : List ℕ → ℕ → ℕ
 clipped content feeds = if length content == 0 then 0 else min 1 feeds
 
--- What is read of a block scalar with `-`, with neither, and with `+`. `-` gives its content, which ends with no line feed. The others add line feeds
--- alone, `+` all that stand there; what follows is the same. If one is refused, all are, with the same fault.
+-- What is read of a block scalar with `-`, with neither, and with `+`. `-` gives its content, which
+-- ends with no line feed. The others add line feeds alone, `+` all that stand there; what follows
+-- is the same. If one is refused, all are, with the same fault.
 abbrev pub DifferAtTheEnd : (List ℕ → Node) → Read Node → Read Node → Read Node → Type 0
 DifferAtTheEnd scalar (Ok stripped) clipping keeping =
-    (content : List ℕ) × (feeds : ℕ) × (stripped.0 ≡ scalar content) × (is_feed (last_or None content) ≡ false)
+    (content : List ℕ) × (feeds : ℕ) × (stripped.0 ≡ scalar content)
+    × (is_feed (last_or None content) ≡ false)
     × (clipping ≡ Ok (scalar (content ++ replicate (clipped content feeds) 10), stripped.1))
     × (keeping ≡ Ok (scalar (content ++ replicate feeds 10), stripped.1))
 DifferAtTheEnd scalar (Err fault) clipping keeping = (clipping ≡ Err fault) × (keeping ≡ Err fault)
 
--- For literal and folded scalars, with an indentation indicator or without one, at any place, over the same rows.
+-- For literal and folded scalars, with an indentation indicator or without one, at any place, over
+-- the same rows.
 abbrev pub ChompingChangesTheEnd : Type 0
 ChompingChangesTheEnd =
     (file : FileKey) (parent number column mark : ℕ) (indentation rest : List ℕ) (rows : List Row)
-    → (mark == 124 || mark == 62) ≡ true → is_indentation indentation ≡ true → is_end rest ≡ true → list_all (λ row. is_line row.text) rows ≡ true
-    → DifferAtTheEnd (λ text. node_at file (header_row number column []) (Scalar (encode_utf8_all text)))
+    → (mark == 124 || mark == 62) ≡ true → is_indentation indentation ≡ true → is_end rest ≡ true
+    → list_all (λ row. is_line row.text) rows ≡ true
+    → DifferAtTheEnd
+    (λ text. node_at file (header_row number column []) (Scalar (encode_utf8_all text)))
     (block file parent (header_row number column (mark ∷ (indentation ++ codes "-" ++ rest))) rows)
     (block file parent (header_row number column (mark ∷ (indentation ++ rest))) rows)
     (block file parent (header_row number column (mark ∷ (indentation ++ codes "+" ++ rest))) rows)
@@ -54,7 +61,14 @@ whole_line line = line.text ++ own_break line
 -- `|+` keeps every line and every break.
 abbrev pub KeepingKeepsAll : Type 0
 KeepingKeepsAll =
-    (file : FileKey) (parent number column : ℕ) (indentation rest : List ℕ) (rows left : List Row) (content : Option ℕ) (read : List TextLine)
-    → is_indentation indentation ≡ true → is_end rest ≡ true → content_column parent (digit indentation) rows ≡ Ok content → lines content rows ≡ Ok (read, left)
+    (file : FileKey) (parent number column : ℕ) (indentation rest : List ℕ) (rows left : List Row)
+    (content : Option ℕ) (read : List TextLine)
+    → is_indentation indentation ≡ true → is_end rest ≡ true
+    → content_column parent (digit indentation) rows ≡ Ok content
+    → lines content rows ≡ Ok (read, left)
     → block file parent (header_row number column (124 ∷ (indentation ++ codes "+" ++ rest))) rows
-    ≡ Ok (node_at file (header_row number column []) (Scalar (encode_utf8_all (flat_map whole_line read))), left)
+    ≡ Ok (
+      node_at file (header_row number column [])
+          (Scalar (encode_utf8_all (flat_map whole_line read))),
+      left,
+    )

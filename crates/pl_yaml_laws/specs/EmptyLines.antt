@@ -12,9 +12,11 @@ use Rattle.pl_yaml.specs.Spells.{document}
 abbrev pub IsPassedOver : Row → Type 0
 IsPassedOver row = (is_empty row ≡ true) × (row.whole ≡ true)
 
--- Before the first entry of a text such a row changes nothing but the numbers that the rows behind it have,
+-- Before the first entry of a text such a row changes nothing but the numbers that the rows behind
+-- it have,
 abbrev pub PassedOverInDocuments : Type 0
-PassedOverInDocuments = (file : FileKey) (row : Row) (rows : List Row) → IsPassedOver row → document file (row ∷ rows) ≡ document file rows
+PassedOverInDocuments = (file : FileKey) (row : Row) (rows : List Row) → IsPassedOver row
+    → document file (row ∷ rows) ≡ document file rows
 
 -- nor where the value of a key or a dash is read on later lines,
 abbrev pub PassedOverBeforeNodes : Type 0
@@ -25,10 +27,14 @@ PassedOverBeforeNodes =
 -- nor before the next entry of a sequence or of a mapping, behind those that were read.
 abbrev pub PassedOverBeforeItems : Type 0
 PassedOverBeforeItems =
-    (file : FileKey) (values : Values) (parent column turns : ℕ) (before : List Node) (row : Row) (rows : List Row) → IsPassedOver row
-    → items file values parent column (suc turns) before (row ∷ rows) ≡ items file values parent column (suc turns) before rows
+    (file : FileKey) (values : Values) (parent column turns : ℕ) (before : List Node) (row : Row)
+    (rows : List Row) → IsPassedOver row
+    → items file values parent column (suc turns) before (row ∷ rows)
+    ≡ items file values parent column (suc turns) before rows
 
 abbrev pub PassedOverBeforePairs : Type 0
 PassedOverBeforePairs =
-    (file : FileKey) (values : Values) (column turns : ℕ) (before : List NodePair) (row : Row) (rows : List Row) → IsPassedOver row
-    → pairs file values column (suc turns) before (row ∷ rows) ≡ pairs file values column (suc turns) before rows
+    (file : FileKey) (values : Values) (column turns : ℕ) (before : List NodePair) (row : Row)
+    (rows : List Row) → IsPassedOver row
+    → pairs file values column (suc turns) before (row ∷ rows)
+    ≡ pairs file values column (suc turns) before rows

@@ -24,13 +24,17 @@ abbrev pub begins_visible : List ℕ → Bool
 begins_visible [] = false
 begins_visible (c ∷ cs) = is_visible c
 
--- The first character is no indicator, unless it is `-`, `?` or `:` before a visible one (ns-plain-first).
+-- The first character is no indicator, unless it is `-`, `?` or `:` before a visible one
+-- (ns-plain-first).
 abbrev pub may_begin : ℕ → List ℕ → Bool
-may_begin c cs = is_visible c && (not (is_indicator c) || (c == 45 || c == 63 || c == 58) && begins_visible cs)
+may_begin c cs =
+    is_visible c && (not (is_indicator c) || (c == 45 || c == 63 || c == 58) && begins_visible cs)
 
--- `#` stands behind a visible character, and `:` before one (ns-plain-char). Whether a blank stands before them.
+-- `#` stands behind a visible character, and `:` before one (ns-plain-char). Whether a blank stands
+-- before them.
 abbrev pub may_stand : Bool → ℕ → List ℕ → Bool
-may_stand blank c cs = if c == 35 then not blank else if c == 58 then begins_visible cs else is_visible c
+may_stand blank c cs =
+    if c == 35 then not blank else if c == 58 then begins_visible cs else is_visible c
 
 -- behind the first character: blanks and such, no blank last
 abbrev pub may_follow : Bool → List ℕ → Bool
@@ -42,16 +46,20 @@ abbrev pub is_plain : List ℕ → Bool
 is_plain [] = false
 is_plain (c ∷ cs) = may_begin c cs && may_follow false cs
 
--- A plain text reads as itself as a value on the line of its key or dash, where the lines behind don't continue it.
+-- A plain text reads as itself as a value on the line of its key or dash, where the lines behind
+-- don't continue it.
 abbrev pub PlainValueIsItself : Type 0
 PlainValueIsItself =
     (file : FileKey) (depth parent : ℕ) (row : Row) (rows : List Row) (text rest : List ℕ)
-    → row.text ≡ text ++ rest → row.whole ≡ true → is_plain text ≡ true → is_end rest ≡ true → further parent row.number rows ≡ Ok ([], rows)
-    → inline file depth parent row rows ≡ Ok (node_at file row (Scalar (encode_utf8_all text)), rows)
+    → row.text ≡ text ++ rest → row.whole ≡ true → is_plain text ≡ true → is_end rest ≡ true
+    → further parent row.number rows ≡ Ok ([], rows)
+    → inline file depth parent row rows
+    ≡ Ok (node_at file row (Scalar (encode_utf8_all text)), rows)
 
 -- So it does as a whole text of one line, unless it would be a marker of documents.
 abbrev pub PlainTextIsItself : Type 0
 PlainTextIsItself =
-    (file : FileKey) (text rest : List ℕ) → is_plain text ≡ true → is_line rest ≡ true → is_end rest ≡ true
+    (file : FileKey) (text rest : List ℕ) → is_plain text ≡ true → is_line rest ≡ true
+    → is_end rest ≡ true
     → is_marker (record { number = 1; column = 1; text = text ++ rest; whole = true }) ≡ false
     → IsText (text ++ rest) → spelled file (text ++ rest) ≡ scalar_alone file text

@@ -17,11 +17,12 @@ doubled c = if c == 39 then 39 ∷ 39 ∷ [] else c ∷ []
 abbrev pub single_quoted : List ℕ → List ℕ
 single_quoted text = 39 ∷ (flat_map doubled text ++ 39 ∷ [])
 
--- At any column of a line, a text in single quotes reads as that text, and takes these characters alone, whatever stands behind its closing quote but
--- one more quote.
+-- At any column of a line, a text in single quotes reads as that text, and takes these characters
+-- alone, whatever stands behind its closing quote but one more quote.
 abbrev pub QuotedReadsAsItsText : Type 0
 QuotedReadsAsItsText =
-    (row : Row) (text rest : List ℕ) → row.text ≡ single_quoted text ++ rest → begins_with 39 rest ≡ false
+    (row : Row) (text rest : List ℕ) → row.text ≡ single_quoted text ++ rest
+    → begins_with 39 rest ≡ false
     → quoted row ≡ Ok (encode_utf8_all text, length (single_quoted text))
 
 -- So it does as a value on the line of its key or dash, and leaves the rows behind that line.
@@ -29,10 +30,13 @@ abbrev pub QuotedValueIsItsText : Type 0
 QuotedValueIsItsText =
     (file : FileKey) (depth parent : ℕ) (row : Row) (rows : List Row) (text rest : List ℕ)
     → row.text ≡ single_quoted text ++ rest → row.whole ≡ true → is_end rest ≡ true
-    → inline file depth parent row rows ≡ Ok (node_at file row (Scalar (encode_utf8_all text)), rows)
+    → inline file depth parent row rows
+    ≡ Ok (node_at file row (Scalar (encode_utf8_all text)), rows)
 
 -- So it does as a whole text of one line.
 abbrev pub QuotedTextIsItsText : Type 0
 QuotedTextIsItsText =
-    (file : FileKey) (text rest : List ℕ) → is_line text ≡ true → is_line rest ≡ true → is_end rest ≡ true
-    → IsText (single_quoted text ++ rest) → spelled file (single_quoted text ++ rest) ≡ scalar_alone file text
+    (file : FileKey) (text rest : List ℕ) → is_line text ≡ true → is_line rest ≡ true
+    → is_end rest ≡ true
+    → IsText (single_quoted text ++ rest)
+    → spelled file (single_quoted text ++ rest) ≡ scalar_alone file text

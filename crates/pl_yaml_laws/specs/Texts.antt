@@ -19,4 +19,5 @@ spelled file characters = spells file (encode_utf8_all characters)
 
 -- a scalar of these characters at a text's start
 abbrev pub scalar_alone : FileKey → List ℕ → Result Node (YamlCode × Place)
-scalar_alone file characters = Ok (record { place = place_at file 1 1; body = Scalar (encode_utf8_all characters) })
+scalar_alone file characters =
+    Ok (record { place = place_at file 1 1; body = Scalar (encode_utf8_all characters) })

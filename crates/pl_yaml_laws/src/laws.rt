@@ -1,6 +1,7 @@
 ghost use Rattle.pl_yaml_laws.specs.Breaks.{LineBreaksAreAlike};
 ghost use Rattle.pl_yaml_laws.specs.Chomping.{ChompingChangesTheEnd, KeepingKeepsAll};
 ghost use Rattle.pl_yaml_laws.specs.EmptyLines.{PassedOverBeforeItems, PassedOverBeforeNodes, PassedOverBeforePairs, PassedOverInDocuments};
+ghost use Rattle.pl_yaml_laws.specs.Faults.{FaultsAreFirst, FaultsStandInTheText};
 ghost use Rattle.pl_yaml_laws.specs.Lines.{RowsAreLines};
 ghost use Rattle.pl_yaml_laws.specs.PlainTexts.{PlainTextIsItself, PlainValueIsItself};
 ghost use Rattle.pl_yaml_laws.specs.SingleQuotes.{QuotedReadsAsItsText, QuotedTextIsItsText, QuotedValueIsItsText};
@@ -48,4 +49,13 @@ pub fn empty_lines_are_passed_over()
     ensures value { PassedOverBeforeNodes }
     ensures items { PassedOverBeforeItems }
     ensures pairs { PassedOverBeforePairs }
+{}
+
+/// A fault is the first one: it doesn't depend on what stands behind its line. A text that is refused on
+/// one of the lines before a line feed is refused with the same code at the same place whatever stands
+/// behind that line feed, unless the line has blanks alone (clause `first`). Each fault is told on a line
+/// of the text (`line`).
+pub fn faults_are_first()
+    ensures first { FaultsAreFirst }
+    ensures line { FaultsStandInTheText }
 {}

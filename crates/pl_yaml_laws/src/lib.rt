@@ -4,6 +4,6 @@
 mod laws;
 
 pub use laws::{
-    chomping_changes_the_end, empty_lines_are_passed_over, line_breaks_are_alike,
+    chomping_changes_the_end, empty_lines_are_passed_over, faults_are_first, line_breaks_are_alike,
     plain_texts_are_themselves, single_quotes_hold_their_text,
 };

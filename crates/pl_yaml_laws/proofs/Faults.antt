@@ -1,0 +1,186 @@
+-- The first fault of a text.
+use Rattle.std.proofs.Common.{◌≡◌, ℕ, ◌+◌, ◌<◌, ◌≤◌, true, false, ◌&&◌, cond, Result, Ok, Err, List, [], ◌∷◌, ◌++◌, length, refl, ap, sym, subst, ◌∙◌, arith, inl, inr}
+use Rattle.std.specs.Prelude.{◌==◌}
+use Rattle.std.specs.List.{slice_split, onto_first}
+use Rattle.std.proofs.lemmas.Bool.{both_ways, and_from, eq-eqb, or_parts}
+use Rattle.pl_base.specs.declared.place.FileKey.{FileKey}
+use Rattle.pl_base.specs.declared.place.Place.{Place}
+use Rattle.pl_base.specs.declared.node.Node.{Node}
+use Rattle.pl_line.specs.declared.code.YamlCode.{YamlCode}
+use Rattle.pl_line.specs.declared.line_fault.Fault.{Fault}
+use Rattle.pl_line.specs.Rows.{Row, row_at, rows_from, rows_of, without_return, without_mark}
+use Rattle.pl_line.specs.Left.{is_bare}
+use Rattle.pl_yaml.specs.Reading.{has_row}
+use Rattle.pl_yaml.specs.Spells.{document, placed, refused}
+use Rattle.pl_yaml_laws.specs.Faults.{is_blank_row, FaultsStandInTheText, FaultsAreFirst}
+use Rattle.pl_yaml_laws.proofs.Breaks.{cut_some}
+use Rattle.pl_yaml_laws.proofs.Texts.{spelled_is}
+use Rattle.pl_yaml_laws.proofs.Told.{Told, Whatever}
+use Rattle.pl_yaml_laws.proofs.ToldRows.{Each, document_told}
+use Rattle.pl_yaml_laws.proofs.Agreeing.{Fits, Agree, document_agrees}
+
+-- ---- rows before a line feed, and behind it
+
+abbrev cut : List ℕ → List (List ℕ)
+cut text = slice_split (λ c. c == 10) text
+
+-- the rows of lines that all end with a break
+abbrev broken_from : ℕ → List (List ℕ) → List Row
+broken_from number [] = []
+broken_from number (line ∷ lines) =
+    row_at number (without_return line) ∷ broken_from (number + 1) lines
+
+cut_at : (front rest : List ℕ) → cut (front ++ 10 ∷ rest) ≡ cut front ++ cut rest
+cut_at [] rest = refl
+cut_at (c ∷ cs) rest =
+    elim (c == 10) as
+    (λ b. cond b ([] ∷ cut (cs ++ 10 ∷ rest)) (onto_first c (cut (cs ++ 10 ∷ rest)))
+    ≡ cond b ([] ∷ cut cs) (onto_first c (cut cs)) ++ cut rest) [
+      | true ↦ ap (λ lines. [] ∷ lines) (cut_at cs rest)
+      | false ↦ ap (onto_first c) (cut_at cs rest) ∙ onto (cut cs) (cut_some cs)
+    ]
+  where
+    onto : (lines : List (List ℕ)) → 0 < length lines
+        → onto_first c (lines ++ cut rest) ≡ onto_first c lines ++ cut rest
+    onto [] some = absurd (omega arith)
+    onto (line ∷ lines) some = refl
+
+rows_split : (number : ℕ) (lines more : List (List ℕ)) → 0 < length more
+    → rows_from number (lines ++ more) ≡ broken_from number lines
+    ++ rows_from (number + length lines) more
+rows_split number [] more some = let same : number ≡ number + 0 = omega arith in
+    ap (λ n. rows_from n more) same
+rows_split number (line ∷ []) [] some = absurd (omega arith)
+rows_split number (line ∷ []) (next ∷ more) some = refl
+rows_split number (line ∷ (next ∷ lines)) more some =
+    let same : number + 1 + length (next ∷ lines) ≡ number + length (line ∷ next ∷ lines) =
+    omega arith in
+    ap (λ rows. row_at number (without_return line) ∷ rows)
+    (rows_split (number + 1) (next ∷ lines) more some)
+    ∙ ap (λ n. broken_from number (line ∷ next ∷ lines) ++ rows_from n more) same
+
+rows_length : (number : ℕ) (lines : List (List ℕ)) → length (rows_from number lines) ≡ length lines
+rows_length number [] = refl
+rows_length number (line ∷ []) = refl
+rows_length number (line ∷ (next ∷ lines)) = let more = rows_length (number + 1) (next ∷ lines) in
+    omega (arith, more)
+
+rows_some : (number : ℕ) (lines : List (List ℕ)) → 0 < length lines
+    → has_row (rows_from number lines) ≡ true
+rows_some number [] some = absurd (omega arith)
+rows_some number (line ∷ []) some = refl
+rows_some number (line ∷ (next ∷ lines)) some = refl
+
+mark_first : (front rest : List ℕ)
+    → without_mark (front ++ 10 ∷ rest) ≡ without_mark front ++ 10 ∷ rest
+mark_first [] rest = refl
+mark_first (c ∷ cs) rest =
+    elim (c == 0xfeff) as
+    (λ b. cond b (cs ++ 10 ∷ rest) (c ∷ (cs ++ 10 ∷ rest)) ≡ cond b cs (c ∷ cs) ++ 10
+    ∷ rest) [ true ↦ refl | false ↦ refl ]
+
+abbrev rows_before : List ℕ → List Row
+rows_before front = broken_from 1 (cut (without_mark front))
+
+abbrev rows_behind : List ℕ → List ℕ → List Row
+rows_behind front rest = rows_from (1 + length (rows_of front)) (cut rest)
+
+front_rows : (front rest : List ℕ)
+    → rows_of (front ++ 10 ∷ rest) ≡ rows_before front ++ rows_behind front rest
+front_rows front rest =
+    let lines : List (List ℕ) = cut (without_mark front) in
+    ap (λ text. rows_from 1 (cut text)) (mark_first front rest)
+    ∙ ap (rows_from 1) (cut_at (without_mark front) rest)
+    ∙ rows_split 1 lines (cut rest) (cut_some rest)
+    ∙ ap (λ n. broken_from 1 lines ++ rows_from (1 + n) (cut rest)) (sym (rows_length 1 lines))
+
+-- ---- numbers of rows
+
+rows_between : (least number last : ℕ) (lines : List (List ℕ)) → least ≤ number
+    → number + length lines ≤ last → Each (λ n. (least ≤ n) × (n < last)) (rows_from number lines)
+unfolding row_at
+rows_between least number last [] from within = tt
+rows_between least number last (line ∷ []) from within = ((from, omega arith), tt)
+rows_between least number last (line ∷ (next ∷ lines)) from within = (
+  (from, omega arith),
+  rows_between least (number + 1) last (next ∷ lines) (omega arith) (omega arith),
+)
+
+each_weaker : (P Q : ℕ → Type 0) → ((n : ℕ) → P n → Q n) → (rows : List Row) → Each P rows
+    → Each Q rows
+each_weaker P Q weaker [] all = tt
+each_weaker P Q weaker (row ∷ rows) all =
+    (weaker row.number all.0, each_weaker P Q weaker rows all.1)
+
+-- another line
+abbrev IsOther : ℕ → ℕ → Type 0
+IsOther line n = n ≡ line → ⊥
+
+fits_all : (line : ℕ) (one two rows more : List Row) → is_blank_row line (rows ++ more) ≡ false
+    → Fits (IsOther line) one two rows
+fits_all line one two [] more none = tt
+fits_all line one two (row ∷ rows) more none =
+    let parts =
+    or_parts (row.number == line && is_bare row) (is_blank_row line (rows ++ more)) none in (
+      (λ bare same. both_ways _ parts.0 (and_from _ _ (eq-eqb row.number line same) bare)),
+      fits_all line one two rows more parts.1,
+    )
+
+-- ---- faults
+
+-- the fault that is told
+fault_of : (file : FileKey) (read : Result Node Fault) (code : YamlCode) (line column : ℕ)
+    → placed file read ≡ refused file code line column
+    → (fault : Fault) × (read ≡ Err fault) × (fault.line ≡ line)
+fault_of file (Ok made) code line column is = absurd (cc)
+fault_of file (Err fault) code line column is =
+    let same : (fault.code, record { file = file; line = fault.line; col = fault.column })
+    ≡ (code, record { file = file; line = line; col = column }) = cc in
+    (fault, refl, ap (λ (told : YamlCode × Place). told.1.line) same)
+
+pub faults_stand_in_the_text : FaultsStandInTheText
+faults_stand_in_the_text file text code line column is refusal =
+    let lines : List (List ℕ) = cut (without_mark text) in
+    let fault =
+    fault_of file (document file (rows_of text)) code line column
+    (sym (spelled_is file text is) ∙ refusal) in
+    let told =
+    document_told (λ n. (1 ≤ n) × (n < 1 + length lines)) file (rows_of text)
+    (rows_between 1 1 (1 + length lines) lines (omega arith) (omega arith)) in
+    let on = (subst (Told (λ n. (1 ≤ n) × (n < 1 + length lines)) Whatever) fault.1 told).holds in
+    let all = rows_length 1 lines in
+    let same = fault.2 in
+    (omega (arith, on.0, same), omega (arith, on.1, same, all))
+
+pub faults_are_first : FaultsAreFirst
+faults_are_first file front one two code line column is_one is_two before none refusal =
+    let first : List Row = rows_behind front one in
+    let second : List Row = rows_behind front two in
+    let fits =
+    fits_all line first second (rows_before front) (rows_behind front [])
+    (ap (is_blank_row line) (sym (front_rows front [])) ∙ none) in
+    let late : Each (IsOther line) first =
+    each_weaker _ (IsOther line)
+    (λ n behind same. let far = behind.0 in absurd (omega (arith, before, far, same))) first
+    (rows_between (1 + length (rows_of front)) (1 + length (rows_of front))
+    (1 + length (rows_of front) + length (cut one)) (cut one) (omega arith) (omega arith))
+    in
+    let both : has_row first ≡ has_row second =
+    rows_some (1 + length (rows_of front)) (cut one) (cut_some one)
+    ∙ sym (rows_some (1 + length (rows_of front)) (cut two) (cut_some two)) in
+    let agree =
+    document_agrees (IsOther line) first second late both file (rows_before front) fits in
+    let told : placed file (document file (rows_before front ++ first))
+    ≡ refused file code line column =
+    sym (spelled_is file (front ++ 10 ∷ one) is_one
+    ∙ ap (λ rows. placed file (document file rows)) (front_rows front one)) ∙ refusal in
+    let fault = fault_of file (document file (rows_before front ++ first)) code line column told in
+    elim (subst
+    (λ read. Agree (IsOther line) first second (λ (made other : Node). Unit {0}) Whatever read
+    (document file (rows_before front ++ second))) fault.1 agree).holds [
+      | inl same ↦
+          spelled_is file (front ++ 10 ∷ two) is_two
+          ∙ ap (λ rows. placed file (document file rows)) (front_rows front two)
+          ∙ ap (placed file) (same ∙ sym fault.1) ∙ told
+      | inr other ↦ absurd (other fault.2)
+    ]
