@@ -10,10 +10,12 @@ use Rattle.pl_base.specs.declared.node.NodeBody.TheVariants.{Scalar}
 use Rattle.pl_base.specs.declared.node.NodePair.{NodePair}
 use Rattle.pl_line.specs.declared.code.YamlCode.TheVariants as codes_of
 use Rattle.pl_line.specs.declared.line_fault.Fault.{Fault}
-use Rattle.pl_line.specs.Rows.{Row, is_blank, size}
-use Rattle.pl_line.specs.Reading.{◌>>=◌, fault_at}
+use Rattle.pl_line.specs.Rows.{Row, size}
+use Rattle.pl_reading.specs.Bytes.{is_blank, begins_with}
+use Rattle.pl_line.specs.Reading.{fault_at}
+use Rattle.pl_reading.specs.Steps.{◌>>=◌}
 use Rattle.pl_line.specs.Left.{behind, line_end, is_bare, is_comment, is_empty, is_done, spaces_only}
-use Rattle.pl_line.specs.Scanning.{begins_with, ends_word, plain_len, is_stray}
+use Rattle.pl_line.specs.Scanning.{ends_word, plain_len, is_stray}
 use Rattle.pl_line.specs.Trees.{node_at}
 use Rattle.pl_line.specs.Quoted.{quoted}
 use Rattle.pl_line.specs.Flow.{flow}

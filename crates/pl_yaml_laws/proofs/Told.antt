@@ -9,9 +9,11 @@ use Rattle.pl_base.specs.declared.node.NodePair.{NodePair}
 use Rattle.pl_line.specs.declared.code.YamlCode.TheVariants as codes_of
 use Rattle.pl_line.specs.declared.line_fault.Fault.{Fault}
 use Rattle.pl_line.specs.Rows.{Row}
-use Rattle.pl_line.specs.Reading.{◌>>=◌, fault_at}
+use Rattle.pl_line.specs.Reading.{fault_at}
+use Rattle.pl_reading.specs.Steps.{◌>>=◌}
 use Rattle.pl_line.specs.Left.{behind, line_end}
-use Rattle.pl_line.specs.Scanning.{begins_with, ends_word}
+use Rattle.pl_line.specs.Scanning.{ends_word}
+use Rattle.pl_reading.specs.Bytes.{begins_with}
 use Rattle.pl_line.specs.Quoted.{single, double, escape, numbered, spelled, named, piece, next_piece, pieces_of, quoted}
 use Rattle.pl_line.specs.Flow.{FlowRead, head_at, head_of, scalar_by, value_by, misplaced, colon, no_key, key_by, is_stray, item, pair, separated, entries, gathered, sequence, mapping, collection, inner, node, flow}
 use Rattle.pl_line.specs.Flow as flows

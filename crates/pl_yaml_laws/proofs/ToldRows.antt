@@ -10,7 +10,8 @@ use Rattle.pl_line.specs.declared.code.YamlCode.TheVariants as codes_of
 use Rattle.pl_line.specs.Rows.{Row, size}
 use Rattle.pl_line.specs.Reading.{fault_at}
 use Rattle.pl_line.specs.Left.{behind, is_bare, is_comment, is_empty, is_done}
-use Rattle.pl_line.specs.Scanning.{begins_with, ends_word, plain_len, is_stray}
+use Rattle.pl_line.specs.Scanning.{ends_word, plain_len, is_stray}
+use Rattle.pl_reading.specs.Bytes.{begins_with}
 use Rattle.pl_yaml.specs.Reading.{Read, many, many_step}
 use Rattle.pl_yaml.specs.Heads.{head_at, head_of, is_marker, is_start, is_quote, is_bracket, is_block}
 use Rattle.pl_yaml.specs.Content.{stands, content, begins, lead, is_closed, closed}
