@@ -2,8 +2,7 @@
 use Rattle.std.proofs.Common.{◌≡◌, ℕ, zero, suc, ◌+◌, ◌<◌, ◌≤◌, Bool, true, false, not, ◌&&◌, ◌||◌, cond, ◌⊎◌, Option, Some, None, Result, Ok, Err, List, [], ◌∷◌, ◌++◌, length, drop, refl, ap, sym, subst, ◌∙◌, arith, inl, inr}
 use Rattle.std.specs.Prelude.{◌==◌, nat_lt, max, encode_utf8_all}
 use Rattle.std.specs.List.{list_all}
-use Rattle.std.proofs.lemmas.Bool.{cases_Bool, both_ways, and_parts, not-true, or_left}
-use Rattle.std.proofs.lemmas.List.{drop-drop}
+use Rattle.std.proofs.lemmas.Bool.{cases_Bool, both_ways, and_parts, not-true}
 use Rattle.pl_base.specs.declared.place.FileKey.{FileKey}
 use Rattle.pl_base.specs.declared.node.Node.{Node}
 use Rattle.pl_base.specs.declared.node.NodeBody.TheVariants.{Scalar}
@@ -11,11 +10,11 @@ use Rattle.pl_base.specs.declared.node.NodePair.{NodePair}
 use Rattle.pl_line.specs.declared.code.YamlCode.TheVariants as codes_of
 use Rattle.pl_line.specs.declared.line_fault.Fault.{Fault}
 use Rattle.pl_line.specs.Rows.{Row, size}
-use Rattle.pl_reading.specs.Bytes.{is_blank, begins_with}
 use Rattle.pl_line.specs.Reading.{fault_at}
 use Rattle.pl_reading.specs.Steps.{◌>>=◌}
 use Rattle.pl_line.specs.Left.{behind, line_end, is_bare, is_comment, is_empty, is_done, spaces_only}
 use Rattle.pl_line.specs.Scanning.{ends_word, plain_len, is_stray}
+use Rattle.pl_reading.specs.Bytes.{begins_with}
 use Rattle.pl_line.specs.Trees.{node_at}
 use Rattle.pl_line.specs.Quoted.{quoted}
 use Rattle.pl_line.specs.Flow.{flow}
@@ -28,7 +27,7 @@ use Rattle.pl_yaml.specs.Inline.{quoted_node, flow_node, inline_by, inline}
 use Rattle.pl_yaml.specs.Keys.{FoundKey, key_by, key_in, next_key}
 use Rattle.pl_yaml.specs.Nodes.{Values, is_dash, item_in, next_item, below, value, item, pair, items, pairs, sequence, mapping, in_brackets, begun_by, begun, node_in, node_with, inner, node}
 use Rattle.pl_yaml.specs.Spells.{whole_text, nothing_left, document}
-use Rattle.pl_yaml_laws.proofs.Lines.{blanks, past_one}
+use Rattle.pl_yaml_laws.proofs.Lines.{bare_done}
 use Rattle.pl_yaml_laws.proofs.Told as T
 use Rattle.pl_yaml_laws.proofs.Told.{Told, Whatever, is_ok, is_err, weaker}
 use Rattle.pl_yaml_laws.proofs.ToldRows.{Each, Left, Less, content_told, lead_told, further_told, lines_told, column_told, Sound, InnerSound, inner_sound, KeyFound, key_in_told, ItemFound, item_in_told, next_key_told, next_item_told, step_told, item_step, items_told, pair_step, pairs_told, node_in_told, node_told}
@@ -448,30 +447,6 @@ module _ (P : ℕ → Type 0) (one two : List Row) where
               (same_err _))))
 
       -- ---- entries
-
-      -- behind blanks stands none
-      blanks_past : (text : List ℕ) → blanks (drop (blanks text) text) ≡ 0
-      blanks_past [] = refl
-      blanks_past (c ∷ cs) = elim (cases_Bool (is_blank c)) [
-        | inl blank ↦ rw blank (ap blanks (past_one (blanks cs) c cs) ∙ blanks_past cs)
-        | inr isnt ↦ rw isnt (rw isnt refl)
-      ]
-
-      begun_done : (row : Row) → blanks row.text ≡ 0 → is_bare row ≡ true → is_done row ≡ true
-      unfolding behind
-      begun_done row none bare =
-          let nowhere : 0 + blanks row.text ≡ 0 = omega (arith, none) in
-          or_left (length row.text == 0) (begins_with 35 row.text)
-          (sym (ap (λ n. length (drop n row.text) == 0) nowhere)
-          ∙ (and_parts (length (behind 0 row).text == 0) row.whole bare).0)
-
-      bare_done : (n : ℕ) (row : Row) → is_bare (behind n row) ≡ true
-          → is_done (behind n row) ≡ true
-      unfolding behind
-      bare_done n row bare =
-          begun_done (behind n row)
-          (ap blanks (sym (drop-drop (blanks (drop n row.text)) n row.text))
-          ∙ blanks_past (drop n row.text)) bare
 
       -- the values of a collection are read alike
       Alike : Values → Type 0

@@ -1,7 +1,7 @@
 -- The first fault of a text.
 use Rattle.std.proofs.Common.{◌≡◌, ℕ, ◌+◌, ◌<◌, ◌≤◌, true, false, ◌&&◌, cond, Result, Ok, Err, List, [], ◌∷◌, ◌++◌, length, refl, ap, sym, subst, ◌∙◌, arith, inl, inr}
 use Rattle.std.specs.Prelude.{◌==◌}
-use Rattle.std.specs.List.{slice_split, onto_first}
+use Rattle.std.specs.List.{onto_first}
 use Rattle.std.proofs.lemmas.Bool.{both_ways, and_from, eq-eqb, or_parts}
 use Rattle.pl_base.specs.declared.place.FileKey.{FileKey}
 use Rattle.pl_base.specs.declared.place.Place.{Place}
@@ -13,16 +13,13 @@ use Rattle.pl_line.specs.Left.{is_bare}
 use Rattle.pl_yaml.specs.Reading.{has_row}
 use Rattle.pl_yaml.specs.Spells.{document, placed, refused}
 use Rattle.pl_yaml_laws.specs.Faults.{is_blank_row, FaultsStandInTheText, FaultsAreFirst}
-use Rattle.pl_yaml_laws.proofs.Breaks.{cut_some}
+use Rattle.pl_yaml_laws.proofs.Breaks.{cut, cut_some}
 use Rattle.pl_yaml_laws.proofs.Texts.{spelled_is}
 use Rattle.pl_yaml_laws.proofs.Told.{Told, Whatever}
 use Rattle.pl_yaml_laws.proofs.ToldRows.{Each, document_told}
 use Rattle.pl_yaml_laws.proofs.Agreeing.{Fits, Agree, document_agrees}
 
 -- ---- rows before a line feed, and behind it
-
-abbrev cut : List ℕ → List (List ℕ)
-cut text = slice_split (λ c. c == 10) text
 
 -- the rows of lines that all end with a break
 abbrev broken_from : ℕ → List (List ℕ) → List Row

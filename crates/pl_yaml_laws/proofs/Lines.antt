@@ -2,14 +2,14 @@
 use Rattle.std.proofs.Common.{◌≡◌, ℕ, zero, suc, ◌+◌, Bool, true, false, not, ◌&&◌, ◌||◌, cond, Ok, List, [], ◌∷◌, ◌++◌, length, take, drop, codes, refl, ap, sym, ◌∙◌, arith, inl, inr}
 use Rattle.std.specs.Prelude.{◌==◌, nat_lt}
 use Rattle.std.specs.List.{list_all, slice_split, onto_first, position_or_len}
-use Rattle.std.proofs.lemmas.Bool.{cases_Bool, and_parts, and_from, or_parts, or_from, or_right, and_left, and_right, eq-eqb}
+use Rattle.std.proofs.lemmas.Bool.{cases_Bool, and_parts, and_from, or_parts, or_from, or_left, or_right, and_left, and_right, eq-eqb}
 use Rattle.std.proofs.lemmas.Bool.Decides.{nat_tests}
 use Rattle.std.proofs.lemmas.List.{drop-drop, drop_at, take_all}
 use Rattle.pl_base.specs.declared.place.FileKey.{FileKey}
 use Rattle.pl_base.specs.declared.node.Node.{Node}
 use Rattle.pl_line.specs.Rows.{Row, is_control, indented, row_at, rows_from, rows_of, without_mark, without_return}
 use Rattle.pl_reading.specs.Bytes.{is_blank, begins_with}
-use Rattle.pl_line.specs.Left.{behind, line_end, is_empty}
+use Rattle.pl_line.specs.Left.{behind, line_end, is_bare, is_done, is_empty}
 use Rattle.pl_reading.specs.Steps.{◌>>=◌}
 use Rattle.pl_line.specs.Scanning.{ends_word}
 use Rattle.pl_yaml.specs.Heads.{is_word, is_marker, is_start}
@@ -100,6 +100,30 @@ closed_test row front rest is over =
 pub is_over : (row : Row) (front rest : List ℕ) → row.text ≡ front ++ rest → row.whole ≡ true
     → is_end rest ≡ true → closed (length front) row ≡ Ok tt
 is_over row front rest is whole over = rw (closed_test row front rest is over, whole) refl
+
+-- behind blanks stands none
+blanks_past : (text : List ℕ) → blanks (drop (blanks text) text) ≡ 0
+blanks_past [] = refl
+blanks_past (c ∷ cs) = elim (cases_Bool (is_blank c)) [
+  | inl blank ↦ rw blank (ap blanks (past_one (blanks cs) c cs) ∙ blanks_past cs)
+  | inr isnt ↦ rw isnt (rw isnt refl)
+]
+
+begun_done : (row : Row) → blanks row.text ≡ 0 → is_bare row ≡ true → is_done row ≡ true
+unfolding behind
+begun_done row none bare =
+    let nowhere : 0 + blanks row.text ≡ 0 = omega (arith, none) in
+    or_left (length row.text == 0) (begins_with 35 row.text)
+    (sym (ap (λ n. length (drop n row.text) == 0) nowhere)
+    ∙ (and_parts (length (behind 0 row).text == 0) row.whole bare).0)
+
+pub bare_done : (n : ℕ) (row : Row) → is_bare (behind n row) ≡ true
+    → is_done (behind n row) ≡ true
+unfolding behind
+bare_done n row bare =
+    begun_done (behind n row)
+    (ap blanks (sym (drop-drop (blanks (drop n row.text)) n row.text))
+    ∙ blanks_past (drop n row.text)) bare
 
 -- ---- rows
 

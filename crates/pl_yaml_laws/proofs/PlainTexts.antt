@@ -10,17 +10,19 @@ use Rattle.pl_base.specs.declared.node.Node.{Node}
 use Rattle.pl_base.specs.declared.node.NodeBody.TheVariants.{Scalar}
 use Rattle.pl_line.specs.Rows.{Row, is_control}
 use Rattle.pl_reading.specs.Bytes.{is_blank, begins_with}
+use Rattle.pl_line.specs.Left.{behind}
 use Rattle.pl_reading.specs.Steps.{◌>>=◌}
 use Rattle.pl_line.specs.Scanning.{ends_word, plain_len, content_len}
 use Rattle.pl_line.specs.Trees.{node_at}
 use Rattle.pl_line.proofs.Laws.Left.{empty_at}
 use Rattle.pl_yaml.specs.Heads.{is_marker, head_at, head_from, plain_head}
 use Rattle.pl_yaml.specs.Inline.{inline, inline_by}
+use Rattle.pl_yaml.specs.Keys.{key_by}
 use Rattle.pl_yaml.specs.Nodes.{begun, begun_by, inner}
 use Rattle.pl_yaml.specs.Plain.{part, further, behind_line, word}
 use Rattle.pl_yaml.specs.Spells.{document, placed}
 use Rattle.pl_yaml_laws.specs.Lines.{is_line, is_comment_or_blank, is_end}
-use Rattle.pl_yaml_laws.specs.PlainTexts.{is_visible, is_indicator, begins_visible, may_begin, may_stand, may_follow, is_plain, PlainValueIsItself, PlainTextIsItself}
+use Rattle.pl_yaml_laws.specs.PlainTexts.{is_visible, is_indicator, begins_visible, may_begin, may_stand, may_follow, is_plain, PlainValueIsItself, PlainKeyIsItself, PlainTextIsItself}
 use Rattle.pl_yaml_laws.proofs.Lines.{blanks, no_colon, first_row, row_is, alone}
 use Rattle.pl_yaml_laws.proofs.Texts.{spelled_is}
 
@@ -222,8 +224,7 @@ head_by_mark c more is goes =
         subst (λ e. head_from true e more ≡ plain_head (e ∷ more) (plain_len true false (e ∷ more)))
         (sym (eqb-true c d same)) is
 
-module _ (c : ℕ) (cs rest : List ℕ) (plain : is_plain (c ∷ cs) ≡ true)
-    (over : is_end rest ≡ true) where
+module _ (c : ℕ) (cs rest : List ℕ) (plain : is_plain (c ∷ cs) ≡ true) where
   parts : (may_begin c cs ≡ true) × (may_follow false cs ≡ true)
   parts = and_parts (may_begin c cs) (may_follow false cs) plain
 
@@ -246,9 +247,6 @@ module _ (c : ℕ) (cs rest : List ℕ) (plain : is_plain (c ∷ cs) ≡ true)
         | inr isnt ↦ isnt
       ]
 
-  width : ℕ
-  width = length (c ∷ cs) + blanks rest
-
   first_stays : (c == 58 && ends_word true (cs ++ rest) || c == 35 && false) ≡ false
   first_stays =
       elim (cases_Bool (c == 58)) [
@@ -260,19 +258,33 @@ module _ (c : ℕ) (cs rest : List ℕ) (plain : is_plain (c ∷ cs) ≡ true)
         | inr no_colon ↦ rw no_colon (and_right (c == 35) false refl)
       ]
 
+  head_found : head_at true (c ∷ cs ++ rest)
+      ≡ plain_head (c ∷ cs ++ rest) (plain_len true false (c ∷ cs ++ rest))
+  unfolding head_at
+  head_found =
+      elim (begins c cs parts.0) [
+        | inl none ↦ head_by_none c (cs ++ rest) none
+        | inr both ↦ head_by_mark c (cs ++ rest) both.0 (goes_on cs rest both.1)
+      ]
+
+module _ (c : ℕ) (cs rest : List ℕ) (plain : is_plain (c ∷ cs) ≡ true)
+    (over : is_end rest ≡ true) where
+  width : ℕ
+  width = length (c ∷ cs) + blanks rest
+
   width_is : plain_len true false (c ∷ cs ++ rest) ≡ width
   unfolding width
   width_is =
-      let blank = first.0 in
-      let e = plain_len_is false cs rest parts.1 over in
-      rw (first_stays, blank) (omega (arith, e))
+      let blank = (first c cs rest plain).0 in
+      let e = plain_len_is false cs rest (parts c cs rest plain).1 over in
+      rw (first_stays c cs rest plain, blank) (omega (arith, e))
 
   part_is : (row : Row) → row.text ≡ c ∷ cs ++ rest → part width row ≡ c ∷ cs
   unfolding width
   part_is row is =
       let text : List ℕ = c ∷ cs ++ rest in
-      let blank = first.0 in
-      let e = content_is false cs rest parts.1 in
+      let blank = (first c cs rest plain).0 in
+      let e = content_is false cs rest (parts c cs rest plain).1 in
       let content : content_len (c ∷ cs ++ take (blanks rest) rest) ≡ length (c ∷ cs) =
       rw blank (omega (arith, e)) in
       ap (λ t. take (content_len (take width t)) t) is
@@ -281,12 +293,7 @@ module _ (c : ℕ) (cs rest : List ℕ) (plain : is_plain (c ∷ cs) ≡ true)
       ∙ take_at (c ∷ cs) rest (length (c ∷ cs)) refl
 
   head_is : head_at true (c ∷ cs ++ rest) ≡ plain_head (c ∷ cs ++ rest) width
-  unfolding head_at
-  head_is =
-      elim (begins c cs parts.0) [
-        | inl none ↦ head_by_none c (cs ++ rest) none
-        | inr both ↦ head_by_mark c (cs ++ rest) both.0 (goes_on cs rest both.1)
-      ] ∙ ap (plain_head (c ∷ cs ++ rest)) width_is
+  head_is = head_found c cs rest plain ∙ ap (plain_head (c ∷ cs ++ rest)) width_is
 
   no_key : begins_with 58 (drop width (c ∷ cs ++ rest)) ≡ false
   unfolding width
@@ -325,6 +332,50 @@ value_is file depth parent row rows (c ∷ cs) rest is whole plain over none =
     ∙ ap (λ head. inline_by file depth parent row head rows) (head_is c cs rest plain over)
     ∙ rw (no_key c cs rest plain over)
     (word_is c cs rest plain over file parent row rows is whole none)
+
+-- before a `:` that ends it
+key_len : (blank : Bool) (text rest : List ℕ) → may_follow blank text ≡ true
+    → ends_word true rest ≡ true → plain_len true blank (text ++ 58 ∷ rest) ≡ length text
+key_len blank [] rest may ends = rw ends refl
+key_len blank (c ∷ cs) rest may ends =
+    let parts = and_parts _ (may_follow (is_blank c) cs) may in
+    let e = key_len (is_blank c) cs rest parts.1 ends in
+    rw (stays blank c cs (58 ∷ rest) parts.0) (omega (arith, e))
+
+key_text : (c : ℕ) (cs rest : List ℕ) → is_plain (c ∷ cs) ≡ true → (row : Row)
+    → row.text ≡ c ∷ cs ++ 58 ∷ rest → part (length (c ∷ cs)) row ≡ c ∷ cs
+key_text c cs rest plain row is =
+    let text : List ℕ = c ∷ cs ++ 58 ∷ rest in
+    let blank = (first c cs (58 ∷ rest) plain).0 in
+    let e = ap content_len (sym (append-nil cs))
+    ∙ content_is false cs [] (parts c cs (58 ∷ rest) plain).1 in
+    let content : content_len (c ∷ cs) ≡ length (c ∷ cs) = rw blank (omega (arith, e)) in
+    ap (λ t. take (content_len (take (length (c ∷ cs)) t)) t) is
+    ∙ ap (λ t. take (content_len t) text) (take_at (c ∷ cs) (58 ∷ rest) (length (c ∷ cs)) refl)
+    ∙ ap (λ n. take n text) content
+    ∙ take_at (c ∷ cs) (58 ∷ rest) (length (c ∷ cs)) refl
+
+pub key_is : PlainKeyIsItself
+key_is file depth row [] rest is whole plain ends = absurd (both_ways false refl plain)
+key_is file depth row (c ∷ cs) rest is whole plain ends =
+    let text : List ℕ = c ∷ cs ++ 58 ∷ rest in
+    let blank = (first c cs (58 ∷ rest) plain).0 in
+    let e = key_len false cs rest (parts c cs (58 ∷ rest) plain).1 ends in
+    let width : plain_len true false text ≡ length (c ∷ cs) =
+    rw (first_stays c cs (58 ∷ rest) plain, blank) (omega (arith, e)) in
+    let colon : begins_with 58 (drop (length (c ∷ cs)) text) ≡ true =
+    ap (begins_with 58) (drop_at (c ∷ cs) (58 ∷ rest) (length (c ∷ cs)) refl) in
+    ap (λ t. key_by file depth row (head_at row.whole t)) is
+    ∙ ap (λ w. key_by file depth row (head_at w text)) whole
+    ∙ ap (key_by file depth row) (head_found c cs (58 ∷ rest) plain ∙ ap (plain_head text) width)
+    ∙ rw colon
+    (ap
+    (λ t. Ok (record {
+      start = row;
+      text = encode_utf8_all t;
+      left = behind (length (c ∷ cs) + 1) row;
+    }))
+    (key_text c cs rest plain row is))
 
 clean_text : (blank : Bool) (text : List ℕ) → may_follow blank text ≡ true → is_line text ≡ true
 clean_text blank [] may = refl
@@ -371,15 +422,15 @@ unfolding begun further
 row_read file c cs rest plain over no_marker =
     let row : Row = first_row (c ∷ cs ++ rest) in
     let made : Node = node_at file row (Scalar (encode_utf8_all (c ∷ cs))) in
-    let blank = (first c cs rest plain over).0 in
+    let blank = (first c cs rest plain).0 in
     let read : begun file 64 (inner file 64) 0 row (row ∷ []) ≡ Ok (made, []) =
     ap (λ head. begun_by file 64 (inner file 64) 0 row head (row ∷ []))
     (head_is c cs rest plain over)
     ∙ rw (no_key c cs rest plain over) (word_is c cs rest plain over file 0 row [] refl refl refl)
     in
     alone file row made
-    (sym (empty_at row c refl blank) ∙ other_first c cs rest plain over 35 refl refl)
-    (no_tab c blank) (other_first c cs rest plain over 37 refl refl)
+    (sym (empty_at row c refl blank) ∙ other_first c cs rest plain 35 refl refl)
+    (no_tab c blank) (other_first c cs rest plain 37 refl refl)
     no_marker refl read
 
 pub text_is : PlainTextIsItself

@@ -18,11 +18,11 @@ use Rattle.pl_line.specs.Quoted.{single, spelled, piece, next_piece, pieces_of, 
 use Rattle.pl_line.proofs.Laws.Left.{empty_at}
 use Rattle.pl_yaml.specs.Heads.{head_at}
 use Rattle.pl_yaml.specs.Inline.{inline, inline_by, with_left, quoted_node}
-use Rattle.pl_yaml.specs.Keys.{colon_at, is_colon}
+use Rattle.pl_yaml.specs.Keys.{colon_at, is_colon, quoted_key, key_by}
 use Rattle.pl_yaml.specs.Nodes.{begun, begun_quoted, inner, mapping}
 use Rattle.pl_yaml.specs.Spells.{document, placed}
 use Rattle.pl_yaml_laws.specs.Lines.{is_line, is_comment_or_blank, is_end}
-use Rattle.pl_yaml_laws.specs.SingleQuotes.{doubled, single_quoted, QuotedReadsAsItsText, QuotedValueIsItsText, QuotedTextIsItsText}
+use Rattle.pl_yaml_laws.specs.SingleQuotes.{doubled, single_quoted, QuotedReadsAsItsText, QuotedValueIsItsText, QuotedKeyIsItsText, QuotedTextIsItsText}
 use Rattle.pl_yaml_laws.proofs.Lines.{blanks, behind_text, no_colon, is_over, first_row, row_is, alone}
 use Rattle.pl_yaml_laws.proofs.Texts.{spelled_is}
 
@@ -123,6 +123,17 @@ value_is file depth parent row rows text rest is whole over =
     ∙ ap (λ end. with_left rows
     (end >>= λ _. Ok (node_at file row (Scalar (encode_utf8_all text)))))
     (is_over row (single_quoted text) rest is whole over)
+
+pub key_is : QuotedKeyIsItsText
+unfolding head_at behind
+key_is file depth row text rest is ends =
+    let end : (behind (length (single_quoted text)) row).text ≡ 58 ∷ rest =
+    behind_text row (single_quoted text) (58 ∷ rest) is in
+    let colon : is_colon (behind (length (single_quoted text)) row) ≡ true =
+    ap (colon_at row.whole) end ∙ ends in
+    ap (λ cs. key_by file depth row (head_at row.whole cs)) (is ∙ begins_so text (58 ∷ rest))
+    ∙ ap (λ read. read >>= quoted_key row) (quoted_reads row text (58 ∷ rest) is refl)
+    ∙ rw colon refl
 
 -- as a row alone
 row_read : (file : FileKey) (text rest : List ℕ) → is_end rest ≡ true

@@ -1,14 +1,17 @@
 -- Plain scalars on one line (YAML 1.2.2, sections 5.3, 7.3.3 and 9.1.2).
-use Rattle.std.specs.Prelude.{◌≡◌, ℕ, Bool, true, false, ◌==◌, ◌&&◌, ◌||◌, not, List, [], ◌∷◌, ◌++◌, Ok, if◌then◌else◌, codes, encode_utf8_all}
+use Rattle.std.specs.Prelude.{◌≡◌, ℕ, ◌+◌, Bool, true, false, ◌==◌, ◌&&◌, ◌||◌, not, List, [], ◌∷◌, ◌++◌, length, Ok, if◌then◌else◌, codes, encode_utf8_all}
 use Rattle.std.specs.List.{list_any}
 use Rattle.pl_base.specs.declared.place.FileKey.{FileKey}
 use Rattle.pl_base.specs.declared.node.NodeBody.TheVariants.{Scalar}
 use Rattle.pl_line.specs.Rows.{Row, is_control}
 use Rattle.pl_reading.specs.Bytes.{is_blank}
+use Rattle.pl_line.specs.Left.{behind}
+use Rattle.pl_line.specs.Scanning.{ends_word}
 use Rattle.pl_line.specs.Trees.{node_at}
-use Rattle.pl_yaml.specs.Heads.{is_marker}
+use Rattle.pl_yaml.specs.Heads.{head_of, is_marker}
 use Rattle.pl_yaml.specs.Plain.{further}
 use Rattle.pl_yaml.specs.Inline.{inline}
+use Rattle.pl_yaml.specs.Keys.{key_by}
 use Rattle.pl_yaml_laws.specs.Lines.{is_line, is_end}
 use Rattle.pl_yaml_laws.specs.Texts.{IsText, spelled, scalar_alone}
 
@@ -55,6 +58,19 @@ PlainValueIsItself =
     → further parent row.number rows ≡ Ok ([], rows)
     → inline file depth parent row rows
     ≡ Ok (node_at file row (Scalar (encode_utf8_all text)), rows)
+
+-- So it does as a key right before its `:`.
+abbrev pub PlainKeyIsItself : Type 0
+PlainKeyIsItself =
+    (file : FileKey) (depth : ℕ) (row : Row) (text rest : List ℕ)
+    → row.text ≡ text ++ 58 ∷ rest → row.whole ≡ true → is_plain text ≡ true
+    → ends_word true rest ≡ true
+    → key_by file depth row (head_of row)
+    ≡ Ok (record {
+      start = row;
+      text = encode_utf8_all text;
+      left = behind (length text + 1) row;
+    })
 
 -- So it does as a whole text of one line, unless it would be a marker of documents.
 abbrev pub PlainTextIsItself : Type 0

@@ -3,10 +3,14 @@ use Rattle.std.specs.Prelude.{◌≡◌, ℕ, true, false, ◌==◌, List, [], �
 use Rattle.pl_base.specs.declared.place.FileKey.{FileKey}
 use Rattle.pl_base.specs.declared.node.NodeBody.TheVariants.{Scalar}
 use Rattle.pl_line.specs.Rows.{Row}
+use Rattle.pl_line.specs.Left.{behind}
+use Rattle.pl_line.specs.Scanning.{ends_word}
 use Rattle.pl_reading.specs.Bytes.{begins_with}
 use Rattle.pl_line.specs.Trees.{node_at}
 use Rattle.pl_line.specs.Quoted.{quoted}
+use Rattle.pl_yaml.specs.Heads.{head_of}
 use Rattle.pl_yaml.specs.Inline.{inline}
+use Rattle.pl_yaml.specs.Keys.{key_by}
 use Rattle.pl_yaml_laws.specs.Lines.{is_line, is_end}
 use Rattle.pl_yaml_laws.specs.Texts.{IsText, spelled, scalar_alone}
 
@@ -32,6 +36,18 @@ QuotedValueIsItsText =
     → row.text ≡ single_quoted text ++ rest → row.whole ≡ true → is_end rest ≡ true
     → inline file depth parent row rows
     ≡ Ok (node_at file row (Scalar (encode_utf8_all text)), rows)
+
+-- So it does as a key right before its `:`.
+abbrev pub QuotedKeyIsItsText : Type 0
+QuotedKeyIsItsText =
+    (file : FileKey) (depth : ℕ) (row : Row) (text rest : List ℕ)
+    → row.text ≡ single_quoted text ++ 58 ∷ rest → ends_word row.whole rest ≡ true
+    → key_by file depth row (head_of row)
+    ≡ Ok (record {
+      start = row;
+      text = encode_utf8_all text;
+      left = behind 1 (behind (length (single_quoted text)) row);
+    })
 
 -- So it does as a whole text of one line.
 abbrev pub QuotedTextIsItsText : Type 0

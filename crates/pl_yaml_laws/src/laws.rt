@@ -3,8 +3,8 @@ ghost use Rattle.pl_yaml_laws.specs.Chomping.{ChompingChangesTheEnd, KeepingKeep
 ghost use Rattle.pl_yaml_laws.specs.EmptyLines.{PassedOverBeforeItems, PassedOverBeforeNodes, PassedOverBeforePairs, PassedOverInDocuments};
 ghost use Rattle.pl_yaml_laws.specs.Faults.{FaultsAreFirst, FaultsStandInTheText};
 ghost use Rattle.pl_yaml_laws.specs.Lines.{RowsAreLines};
-ghost use Rattle.pl_yaml_laws.specs.PlainTexts.{PlainTextIsItself, PlainValueIsItself};
-ghost use Rattle.pl_yaml_laws.specs.SingleQuotes.{QuotedReadsAsItsText, QuotedTextIsItsText, QuotedValueIsItsText};
+ghost use Rattle.pl_yaml_laws.specs.PlainTexts.{PlainKeyIsItself, PlainTextIsItself, PlainValueIsItself};
+ghost use Rattle.pl_yaml_laws.specs.SingleQuotes.{QuotedKeyIsItsText, QuotedReadsAsItsText, QuotedTextIsItsText, QuotedValueIsItsText};
 
 /// A line feed and a carriage return before a line feed end a line alike: a text spells the same, its
 /// places and its faults included, without the carriage returns that stand before line feeds.
@@ -14,18 +14,20 @@ pub fn line_breaks_are_alike()
 
 /// A text in single quotes, each quote in it doubled, spells that text: at any column of a line,
 /// whatever stands behind it (clause `scalar`), as the value of a key or a dash on its line (`value`),
-/// and as a whole text of one line (`text`).
+/// as a key (`key`), and as a whole text of one line (`text`).
 pub fn single_quotes_hold_their_text()
     ensures scalar { QuotedReadsAsItsText }
     ensures value { QuotedValueIsItsText }
+    ensures key { QuotedKeyIsItsText }
     ensures text { QuotedTextIsItsText }
 {}
 
 /// A plain text that the rules of YAML allow on one line outside flow collections spells itself: as the
-/// value of a key or a dash on its line, where no line behind continues it (clause `value`), and as a
-/// whole text of one line, unless that is a marker of documents (`text`).
+/// value of a key or a dash on its line, where no line behind continues it (clause `value`), as a key
+/// (`key`), and as a whole text of one line, unless that is a marker of documents (`text`).
 pub fn plain_texts_are_themselves()
     ensures value { PlainValueIsItself }
+    ensures key { PlainKeyIsItself }
     ensures text { PlainTextIsItself }
 {}
 

@@ -1,8 +1,11 @@
-use Rattle.pl_yaml_laws.proofs.PlainTexts.{value_is, text_is}
+use Rattle.pl_yaml_laws.proofs.PlainTexts.{value_is, key_is, text_is}
 use Rattle.pl_yaml_laws.proofs.laws.plain_texts_are_themselves.Goals as goal
 
 pub returns-clause-value : goal.returns-clause-value
 returns-clause-value c = value_is
+
+pub returns-clause-key : goal.returns-clause-key
+returns-clause-key c = key_is
 
 pub returns-clause-text : goal.returns-clause-text
 returns-clause-text c = text_is
