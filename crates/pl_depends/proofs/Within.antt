@@ -159,7 +159,7 @@ pub on_graph : (count : ℕ) (edges : List (ℕ × ℕ)) (nodes : List ℕ) → 
 on_graph count edges nodes are cycle k d within =
     let node = get_or nodes k d in
     let (b, depends, on) = goes_on (DependsOn edges) nodes node cycle.closed
-        (Contains-get_or nodes k d within) in
+    (Contains-get_or nodes k d within) in
     (All-contains (IsEdge count) edges (node, b) are depends).0
 
 cycle_some : (edges : List (ℕ × ℕ)) (nodes : List ℕ) → IsCycle edges nodes → 0 < length nodes

@@ -1,5 +1,6 @@
 -- Where every node is placed, the places are the least topological order.
-use Rattle.std.proofs.Common.{◌≡◌, ◌≢◌, ℕ, ◌<◌, ◌≤◌, List, [], ◌∷◌, ◌++◌, refl, sym, subst, ◌∙◌, arith}
+use Rattle.std.proofs.Common.{◌≡◌, ◌≢◌, ℕ, ◌<◌, ◌≤◌, List, [], ◌∷◌, ◌++◌, refl, sym, subst, ◌∙◌}
+use Rattle.std.proofs.Common.{arith}
 use Rattle.std.proofs.Common.{append_assoc, Ordering}
 use Rattle.std.specs.Ordering.{nat_cmp, ordering_then}
 use Rattle.std.specs.Cmp.Lexicographic.{slice_cmp}
@@ -10,7 +11,8 @@ use Rattle.std.proofs.lemmas.Map.Lookups.{exact_unsigned}
 use Rattle.std.proofs.lemmas.List.{append-nil}
 use Rattle.pl_graph.proofs.Members.{Contains-here, Contains-same}
 use Rattle.pl_graph.proofs.Turns.{once_before, once_in_turn, turn_of, turn_weaker}
-use Rattle.pl_graph.specs.Graph.{DependsOn, EachOnce, InTurn, IsLeast, IsTopological, IsLeastTopological}
+use Rattle.pl_graph.specs.Graph.{DependsOn, EachOnce, InTurn, IsLeast, IsTopological}
+use Rattle.pl_graph.specs.Graph.{IsLeastTopological}
 use Rattle.pl_graph.specs.Placing.{IsReady, PlacesLeast}
 
 abbrev Least : ℕ → List (ℕ × ℕ) → List ℕ → ℕ → Type 0

@@ -1,5 +1,6 @@
 -- Nodes placed one by one, the least ready one each time.
-use Rattle.std.proofs.Common.{◌≡◌, ℕ, ◌<◌, ◌≤◌, ◌⊎◌, inl, inr, ⊎_elim, List, [], ◌∷◌, ◌++◌, length, get_or}
+use Rattle.std.proofs.Common.{◌≡◌, ℕ, ◌<◌, ◌≤◌, ◌⊎◌, inl, inr, ⊎_elim, List, [], ◌∷◌, ◌++◌, length}
+use Rattle.std.proofs.Common.{get_or}
 use Rattle.std.proofs.Common.{append_assoc, eqb, refl, sym, ◌∙◌, arith}
 use Rattle.std.specs.Prelude.{◌↔◌, Option, Some, None, MatchOption}
 use Rattle.std.specs.List.{Contains, All, IsDistinct, count_by}
@@ -12,9 +13,11 @@ use Rattle.std.proofs.lemmas.Map.Keys.{IsDistinct-push}
 use Rattle.std.proofs.lemmas.Map.Steps.{length-le_from_distinct_below}
 use Rattle.std.proofs.lemmas.List.{append-nil, get_or_past, length_push}
 use Rattle.std.proofs.lemmas.List.Elements.{All-contains, All-map, All-weaker}
-use Rattle.std.proofs.lemmas.List.Elements.{Contains-append_left, Contains-push, Contains-push_cases}
+use Rattle.std.proofs.lemmas.List.Elements.{Contains-append_left, Contains-push}
+use Rattle.std.proofs.lemmas.List.Elements.{Contains-push_cases}
 use Rattle.pl_graph.proofs.Members.{Contains-cases, Contains-head, Contains-tail}
-use Rattle.pl_graph.proofs.Missing.{all_placed, among_from, dependents_of, is_among, none_missing, placing_one}
+use Rattle.pl_graph.proofs.Missing.{all_placed, among_from, dependents_of, is_among, none_missing}
+use Rattle.pl_graph.proofs.Missing.{placing_one}
 use Rattle.pl_graph.proofs.Turns.{turn_of, turn_push, turn_weaker}
 use Rattle.pl_graph.specs.Graph.{AreEdges, InTurn, IsLeast}
 use Rattle.pl_graph.specs.Placing.{CountsMissing, IsPlacement, IsReady, PlacesLeast, Releases}
@@ -65,8 +68,8 @@ length_places n edges placed least =
 placed_none : {n : ℕ} {edges : List (ℕ × ℕ)} {placed missing ready : List ℕ} →
     IsPlacing n edges placed missing ready → (x : ℕ) → Contains placed x → get_or missing x 0 ≡ 0
 placed_none {n = n} {edges = edges} {placed = placed} p x had =
-    let (front, is, within) = turn_of (λ before. IsLeast (IsReady n edges before)) [] placed x p.least
-    had in
+    let (front, is, within) = turn_of (λ before. IsLeast (IsReady n edges before)) [] placed x
+    p.least had in
     p.counts.is x ∙ all_placed edges placed x (λ b depends. within b (is.0.after b depends))
 
 module _ {n : ℕ} {edges : List (ℕ × ℕ)} {placed missing rest : List ℕ} {x : ℕ}

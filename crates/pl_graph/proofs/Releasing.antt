@@ -1,12 +1,14 @@
 -- Missing dependencies taken away one by one, and nodes that have none left made ready.
-use Rattle.std.proofs.Common.{◌≡◌, ℕ, ◌+◌, ◌<◌, ◌⊎◌, inl, inr, ⊎_elim, List, [], ◌∷◌, ◌++◌, length}
-use Rattle.std.proofs.Common.{eqb, get_or, set, refl, subst, sym, ◌∙◌, arith}
+use Rattle.std.proofs.Common.{◌≡◌, ℕ, ◌+◌, ◌<◌, ◌≤◌, ◌⊎◌, inl, inr, ⊎_elim, cond, eqb, List, []}
+use Rattle.std.proofs.Common.{◌∷◌, ◌++◌}
+use Rattle.std.proofs.Common.{length, get_or, set, take, ap, refl, subst, sym, ◌∙◌, arith}
 use Rattle.std.specs.Prelude.{◌↔◌}
 use Rattle.std.specs.List.{Contains, count_by}
-use Rattle.std.proofs.lemmas.Bool.{cases_eq}
+use Rattle.std.proofs.lemmas.Bool.{cases_eq, eq-eqb}
 use Rattle.std.proofs.lemmas.Bool.Decides.{nat_tests}
 use Rattle.std.proofs.lemmas.List.{get_or-set_same, get_or-set_other, length-set}
-use Rattle.std.proofs.lemmas.List.Sums.{sum_by_push}
+use Rattle.std.proofs.lemmas.List.Sums.{sum_by_more_le, sum_by_push}
+use Rattle.pl_graph.proofs.Keys.{IsMore}
 use Rattle.pl_graph.proofs.Turns.{one_at}
 use Rattle.pl_graph.specs.Placing.{Releases}
 
@@ -47,7 +49,7 @@ module _ {nodes missing ready now now_ready : List ℕ} (x left : ℕ) (within :
       (cases_eq y x)
 
   -- the node x is ready next, if it has none left
-  pub releases_push : (next : List ℕ) →
+  releases_push : (next : List ℕ) →
       ((y : ℕ) → Contains next y ↔ (Contains now_ready y ⊎ ((x ≡ y) × (left ≡ 0)))) →
       Releases (nodes ++ x ∷ []) missing ready (set now x left) next
   releases_push next is = record {
@@ -65,3 +67,26 @@ module _ {nodes missing ready now now_ready : List ℕ} (x left : ℕ) (within :
           (λ h. inr h) ((zero_or y).0 zero))),
     );
   }
+
+  pub releases_last : (next : List ℕ) → left ≡ 0 → IsMore now_ready x next →
+      Releases (nodes ++ x ∷ []) missing ready (set now x left) next
+  releases_last next none is = releases_push next (λ y. (
+    λ h. ⊎_elim (λ h. inl h) (λ e. inr (e, none)) ((is y).0 h),
+    ⊎_elim (λ h. (is y).1 (inl h)) (λ h. (is y).1 (inr h.0)),
+  ))
+
+  pub releases_more : 0 < left → Releases (nodes ++ x ∷ []) missing ready (set now x left) now_ready
+  releases_more some = releases_push now_ready
+      (λ y. (λ h. inl h, ⊎_elim (λ h. h) (λ h. absurd (let none = h.1 in omega arith))))
+
+-- the next of the nodes has a missing dependency, where none comes more often than it misses some
+pub has_missing : {missing ready now now_ready : List ℕ} (nodes : List ℕ) (i : ℕ) →
+    i < length nodes → Releases (take i nodes) missing ready now now_ready →
+    count_by (λ y. eqb y (get_or nodes i 0)) nodes ≤ get_or missing (get_or nodes i 0) 0 →
+    0 < get_or now (get_or nodes i 0) 0
+has_missing nodes i below r most =
+    let x = get_or nodes i 0 in
+    let part = sum_by_more_le (one_at x) nodes i 0 below in
+    let one : ◌≡◌ {A = ℕ} (one_at x x) 1 = ap (λ t. cond t 1 0) (eq-eqb x x refl) in
+    let counts = r.counts x in
+    omega arith

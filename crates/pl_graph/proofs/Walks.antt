@@ -1,21 +1,25 @@
--- The walk along least remaining dependencies: none of its nodes twice, and the node to which it goes on.
-use Rattle.std.proofs.Common.{◌≡◌, ℕ, ◌+◌, ◌<◌, ◌≤◌, ◌⊎◌, inl, inr, ⊎_elim, min, List, [], ◌∷◌, ◌++◌}
+-- The walk along least remaining dependencies, and the cycle to which it comes.
+use Rattle.std.proofs.Common.{◌≡◌, ℕ, ◌+◌, ◌<◌, ◌≤◌, ◌⊎◌, inl, inr, ⊎_elim, min, List, [], ◌∷◌}
+use Rattle.std.proofs.Common.{◌++◌}
 use Rattle.std.proofs.Common.{length, get_or, set, take, drop, refl, sym, subst, ap, ◌∙◌, arith}
 use Rattle.std.proofs.Common.{append_assoc}
 use Rattle.std.specs.Prelude.{replicate}
 use Rattle.std.specs.List.{All, Contains, sum_by}
 use Rattle.std.proofs.lemmas.Bool.{cases_eq, cases_lt}
-use Rattle.std.proofs.lemmas.List.{drop_more, get_or_append_left, get_or-replicate, length-replicate}
+use Rattle.std.proofs.lemmas.List.{drop_more, get_or_append_left, get_or-replicate}
+use Rattle.std.proofs.lemmas.List.{length-replicate}
 use Rattle.std.proofs.lemmas.List.{length-set, get_or-set_same, get_or-set_other, take-append-drop}
 use Rattle.std.proofs.lemmas.List.Elements.{Contains-append_left, Contains-append_right}
 use Rattle.std.proofs.lemmas.List.Elements.{All-append, All-drop, All-from_get_or, All-take}
-use Rattle.std.proofs.lemmas.List.Elements.{Contains-append_cases, Contains-push, Contains-push_cases}
+use Rattle.std.proofs.lemmas.List.Elements.{Contains-append_cases, Contains-push}
+use Rattle.std.proofs.lemmas.List.Elements.{Contains-push_cases}
 use Rattle.std.proofs.lemmas.List.Sums.{sum_by-append}
 use Rattle.pl_graph.proofs.Chains.{closed_weaker, part, push, turn}
 use Rattle.pl_graph.proofs.Members.{Contains-head, Contains-same}
 use Rattle.pl_graph.proofs.Reach.{edge_within}
 use Rattle.pl_graph.proofs.Turns.{once_push, one_at}
-use Rattle.pl_graph.specs.Graph.{AreEdges, Chain, ClosedChain, DependsOn, EachOnce, IsCanonicalCycle}
+use Rattle.pl_graph.specs.Graph.{AreEdges, Chain, ClosedChain, DependsOn, EachOnce}
+use Rattle.pl_graph.specs.Graph.{IsCanonicalCycle}
 use Rattle.pl_graph.specs.Graph.{IsCycle, IsLeast, IsLeastDependency, Leads, Remains}
 use Rattle.pl_graph.specs.Walking.{AreLeast, IsTurned, IsWalk, ShowsRemaining}
 
@@ -81,20 +85,20 @@ module _ {n : ℕ} {edges : List (ℕ × ℕ)} {missing least : List ℕ} (edge 
   }
 
 -- of a node that remains it is the least remaining dependency
-pub least_dependency : (n : ℕ) (edges : List (ℕ × ℕ)) (missing least : List ℕ) (a : ℕ) → AreEdges n edges → ShowsRemaining n edges missing → AreLeast n edges missing least → Remains n edges a → IsLeastDependency n edges a (get_or least a 0)
-least_dependency n edges missing least a are shows l (set, keeps, kept) =
+pub least_dependency : {n : ℕ} {edges : List (ℕ × ℕ)} {missing least : List ℕ} (a : ℕ) →
+    AreEdges n edges → ShowsRemaining n edges missing → AreLeast n edges missing least →
+    Remains n edges a → IsLeastDependency n edges a (get_or least a 0)
+least_dependency {n = n} {edges = edges} {least = least} a are shows l (set, keeps, kept) =
     let (within, (b, depends, kept_b)) = keeps a kept in
-    let in_n = (edge_within n edges a b are depends).1 in
-    let some = (shows b in_n).1 (set, keeps, kept_b) in
-    let low = l.lower a b depends some in
-    let less : get_or least a 0 < n = omega arith in
+    let low = l.lower a b depends ((shows b (edge_within n edges a b are depends).1).1
+    (set, keeps, kept_b)) in
+    let less : get_or least a 0 < n =
+    (let in_n = (edge_within n edges a b are depends).1 in omega arith) in
     let p = l.is a within less in (
       (p.0, (shows (get_or least a 0) less).0 p.1),
-      λ y (depends_y, remains_y). l.lower a y depends_y ((shows y (edge_within n edges a y are depends_y).1).1 remains_y),
+      λ y (depends_y, remains_y). l.lower a y depends_y
+          ((shows y (edge_within n edges a y are depends_y).1).1 remains_y),
     )
-
-pub remains_within : (n : ℕ) (edges : List (ℕ × ℕ)) (a : ℕ) → Remains n edges a → a < n
-remains_within n edges a (set, keeps, kept) = (keeps a kept).0
 
 pub record IsWalking (n : ℕ) (edges : List (ℕ × ℕ)) (nodes : List ℕ) (node : ℕ) : Type 0 where
   pub once : EachOnce nodes
@@ -111,6 +115,9 @@ module _ {n : ℕ} {edges : List (ℕ × ℕ)} where
   pub walking_none : (node : ℕ) → IsLeast (Remains n edges) node → IsWalking n edges [] node
   walking_none node first =
       record { once = λ x. omega arith; first = first; along = tt; remains = first.0 }
+
+  pub walking_within : {nodes : List ℕ} {node : ℕ} → IsWalking n edges nodes node → node < n
+  walking_within {node = node} w = let (within, keeps, kept) = w.remains in (keeps node kept).0
 
   -- one step on
   pub walking_more : {nodes : List ℕ} {node : ℕ} (after : ℕ) → IsWalking n edges nodes node →
@@ -166,8 +173,10 @@ canonical_at n edges before after cycle node once first along t =
       from = first;
       node = node;
       leads = leads_to R before after node p.0;
-      on = Contains-same _ _ node (sym t.is) (⊎_elim (Contains-append_right t.back t.front node)
-          (Contains-append_left t.back t.front node) (Contains-append_cases t.front t.back node on));
+      on = Contains-same _ _ node (sym t.is)
+          (⊎_elim (Contains-append_right t.back t.front node)
+          (Contains-append_left t.back t.front node)
+          (Contains-append_cases t.front t.back node on));
     }
 
 pub canonical : {n : ℕ} {edges : List (ℕ × ℕ)} {nodes : List ℕ} {start : ℕ} (cycle : List ℕ) →

@@ -1,5 +1,6 @@
 -- What the functions inside say of lists of neighbors and of marks.
-use Rattle.std.specs.Prelude.{◌≡◌, ℕ, ◌+◌, ◌<◌, ◌==◌, ◌++◌, ◌↔◌, Bool, true, false, not, List, Contains, count_by, filter, map, length, slice_index_or}
+use Rattle.std.specs.Prelude.{◌≡◌, ℕ, ◌+◌, ◌<◌, ◌==◌, ◌++◌, ◌↔◌, Bool, true, false, not, List}
+use Rattle.std.specs.Prelude.{Contains, count_by, filter, map, length, slice_index_or}
 
 -- where the edges lead from a, in their order
 abbrev pub neighbors_of : List (ℕ × ℕ) → ℕ → List ℕ

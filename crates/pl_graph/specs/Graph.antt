@@ -1,6 +1,7 @@
 -- Nodes are the numbers below n. An edge (a, b) says that the node a depends on the node b. An edge
 -- may come twice.
-use Rattle.std.specs.Prelude.{◌≡◌, ◌≢◌, ℕ, zero, suc, ◌<◌, ◌≤◌, ◌==◌, ◌↔◌, Bool, true, List, [], ◌∷◌, ◌++◌, All, Contains, count_by, slice_index}
+use Rattle.std.specs.Prelude.{◌≡◌, ◌≢◌, ℕ, zero, suc, ◌<◌, ◌≤◌, ◌==◌, ◌↔◌, Bool, true, List, []}
+use Rattle.std.specs.Prelude.{◌∷◌, ◌++◌, All, Contains, count_by, slice_index}
 use Rattle.std.specs.Ordering.{nat_cmp}
 use Rattle.std.specs.Cmp.Lexicographic.{slice_cmp}
 use Rattle.std.specs.List.Sorted.{IsStrictlyIncreasing}
@@ -45,10 +46,12 @@ pub record IsTopological (n : ℕ) (edges : List (ℕ × ℕ)) (nodes : List ℕ
   pub once : EachOnce nodes
   pub after : InTurn (λ before x. (b : ℕ) → DependsOn edges x b → Contains before b) [] nodes
 
--- the least of all topological orders: none of them has a smaller node at the first place where the two differ
+-- the least of all topological orders: none of them has a smaller node at the first place where the
+-- two differ
 pub record IsLeastTopological (n : ℕ) (edges : List (ℕ × ℕ)) (nodes : List ℕ) : Type 0 where
   pub topological : IsTopological n edges nodes
-  pub least : (others : List ℕ) → IsTopological n edges others → slice_cmp nat_cmp nodes others ≢ Greater
+  pub least : (others : List ℕ) → IsTopological n edges others →
+      slice_cmp nat_cmp nodes others ≢ Greater
 
 -- each node is related to the next one
 abbrev pub Chain : (ℕ → ℕ → Type 0) → List ℕ → Type 0
@@ -68,10 +71,11 @@ pub record IsCycle (edges : List (ℕ × ℕ)) (nodes : List ℕ) : Type 0 where
 
 -- a set of nodes below n, each of which depends on one of the set
 abbrev pub KeepsItself : ℕ → List (ℕ × ℕ) → (ℕ → Bool) → Type 0
-KeepsItself n edges set = (x : ℕ) → set x ≡ true → (x < n) × ((b : ℕ) × DependsOn edges x b × (set b ≡ true))
+KeepsItself n edges set = (x : ℕ) → set x ≡ true →
+    (x < n) × ((b : ℕ) × DependsOn edges x b × (set b ≡ true))
 
--- x remains when nodes without remaining dependencies are taken away while there are any: it is in a set
--- of nodes, each of which depends on one of the set
+-- x remains when nodes without remaining dependencies are taken away while there are any: it is in
+-- a set of nodes, each of which depends on one of the set
 abbrev pub Remains : ℕ → List (ℕ × ℕ) → ℕ → Type 0
 Remains n edges x = (set : ℕ → Bool) × KeepsItself n edges set × (set x ≡ true)
 
@@ -87,8 +91,8 @@ IsLeastDependency n edges a b = IsLeast (λ d. DependsOn edges a d × Remains n 
 abbrev pub Leads : (ℕ → ℕ → Type 0) → ℕ → ℕ → Type 0
 Leads R a b = (nodes : List ℕ) × Chain R (a ∷ nodes) × Contains (a ∷ nodes) b
 
--- the cycle along least remaining dependencies to which they lead from the least remaining node, begun
--- with its least node
+-- the cycle along least remaining dependencies to which they lead from the least remaining node,
+-- begun with its least node
 pub record IsCanonicalCycle (n : ℕ) (edges : List (ℕ × ℕ)) (cycle : List ℕ) : Type 0 where
   pub once : EachOnce cycle
   pub closed : ClosedChain (IsLeastDependency n edges) cycle

@@ -9,11 +9,13 @@ ShowsRemaining n edges missing = (x : ℕ) → x < n → (0 < slice_index missin
 -- for each node its least dependency among those that miss one themselves, or n where there is none
 pub record AreLeast (n : ℕ) (edges : List (ℕ × ℕ)) (missing least : List ℕ) : Type 0 where
   pub len : length least ≡ n
-  pub is : (a : ℕ) → a < n → slice_index least a < n → DependsOn edges a (slice_index least a) × (0 < slice_index missing (slice_index least a))
-  pub lower : (a b : ℕ) → DependsOn edges a b → 0 < slice_index missing b → slice_index least a ≤ b
+  pub is : (a : ℕ) → a < n → slice_index least a < n →
+      DependsOn edges a (slice_index least a) × (0 < slice_index missing (slice_index least a))
+  pub lower : (a b : ℕ) → DependsOn edges a b → 0 < slice_index missing b →
+      slice_index least a ≤ b
 
--- the walk from the least remaining node along least remaining dependencies, until it would come back
--- to its place `start`
+-- the walk from the least remaining node along least remaining dependencies, until it would come
+-- back to its place `start`
 pub record IsWalk (n : ℕ) (edges : List (ℕ × ℕ)) (nodes : List ℕ) (start : ℕ) : Type 0 where
   pub within : start < length nodes
   pub once : EachOnce nodes

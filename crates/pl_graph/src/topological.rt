@@ -1,5 +1,7 @@
-ghost use Rattle.std.specs.Prelude.{◌≡◌, ◌<◌, ◌≤◌, ℕ, IfErr, IfOk, List, MatchOption, OnOk, length, slice_index};
-ghost use Rattle.pl_graph.specs.Graph.{AreEdges, IsCanonicalCycle, IsCycle, IsLeast, IsLeastTopological, OnCycle};
+ghost use Rattle.std.specs.Prelude.{◌≡◌, ◌<◌, ◌≤◌, ℕ, IfErr, IfOk, List, MatchOption, OnOk, length};
+ghost use Rattle.std.specs.Prelude.{slice_index};
+ghost use Rattle.pl_graph.specs.Graph.{AreEdges, IsCanonicalCycle, IsCycle, IsLeast};
+ghost use Rattle.pl_graph.specs.Graph.{IsLeastTopological, OnCycle};
 
 use crate::fault::GraphFault;
 use crate::placing::{Placement, place_nodes};
@@ -24,7 +26,8 @@ pub fn order(alloc: Global, n: u32, edges: &List<(u32, u32)>) -> Result<List<u32
     ensures len { IfOk result (λ nodes. length nodes ≡ n) }
     ensures acyclic { OnOk result ((nodes : List ℕ) → IsCycle edges.now nodes → ⊥) }
     ensures cycle { IfErr result (λ fault. OnCycle fault (λ nodes. IsCycle edges.now nodes)) }
-    ensures canonical { IfErr result (λ fault. OnCycle fault (λ nodes. IsCanonicalCycle n edges.now nodes)) }
+    ensures canonical { IfErr result (λ fault.
+        OnCycle fault (λ nodes. IsCanonicalCycle n edges.now nodes)) }
 {
     let Placement { placed, missing } = place_nodes(alloc, n, edges.as_slice())?;
     match first_waiting(&missing) {

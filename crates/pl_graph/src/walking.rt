@@ -86,11 +86,7 @@ fn place_of(nodes: &[u32], node: u32) -> usize
     ensures within { result < length nodes.now }
     ensures is { slice_index nodes.now result ≡ node }
 {
-    let mut place = 0;
-    while nodes[place] != node {
-        place += 1;
-    }
-    place
+    nodes.iter().position(|other| *other == node).unwrap_or(0)
 }
 
 /// The nodes turned round, to begin with the least of them.
@@ -108,7 +104,8 @@ fn turned(alloc: Global, nodes: &[u32]) -> Result<Vec<u32>, Memory>
 fn place_of_least(nodes: &[u32]) -> usize
     requires { 0 < length nodes.now }
     ensures within { result < length nodes.now }
-    ensures least { (k : ℕ) → k < length nodes.now → slice_index nodes.now result ≤ slice_index nodes.now k }
+    ensures least { (k : ℕ) → k < length nodes.now →
+        slice_index nodes.now result ≤ slice_index nodes.now k }
 {
     let mut least = 0;
     for place in 1..nodes.len() {

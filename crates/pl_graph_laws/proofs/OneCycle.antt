@@ -5,7 +5,8 @@ use Rattle.std.proofs.lemmas.List.Elements.{All-contains, Contains-append_left, 
 use Rattle.pl_graph.proofs.Chains.{goes_on}
 use Rattle.pl_graph.proofs.Members.{Contains-head, Contains-tail}
 use Rattle.pl_graph.proofs.Turns.{once_head}
-use Rattle.pl_graph.specs.Graph.{Chain, ClosedChain, IsCanonicalCycle, IsLeast, IsLeastDependency, Leads}
+use Rattle.pl_graph.specs.Graph.{Chain, ClosedChain, IsCanonicalCycle, IsLeast}
+use Rattle.pl_graph.specs.Graph.{IsLeastDependency, Leads}
 
 one_least : (P : ℕ → Type 0) (x y : ℕ) → IsLeast P x → IsLeast P y → x ≡ y
 one_least P x y least also =
@@ -25,7 +26,7 @@ module _ (R : ℕ → ℕ → Type 0) (one : (a b c : ℕ) → R a b → R a c �
   one_chain a z (x ∷ xs) (y ∷ ys) left right none also =
       let same : x ≡ y = one a x y left.0 right.0 in
       let rest = one_chain y z xs ys (subst (λ (b : ℕ). Chain R (b ∷ xs ++ z ∷ [])) same left.1)
-          right.1 (λ h. none (Contains-tail x z xs h)) (λ h. also (Contains-tail y z ys h)) in
+      right.1 (λ h. none (Contains-tail x z xs h)) (λ h. also (Contains-tail y z ys h)) in
       cc
 
   -- ---- a set that the relation doesn't leave
@@ -96,17 +97,17 @@ one_cycle n edges (x ∷ xs) (y ∷ ys) left right =
     let c = x ∷ xs in
     let d = y ∷ ys in
     let (z, on, also) = leads_both R single left.start right.start left.node right.node c d
-        (one_least _ left.start right.start left.from right.from) left.leads right.leads left.on
-        right.on left.closed right.closed in
+    (one_least _ left.start right.start left.from right.from) left.leads right.leads left.on
+    right.on left.closed right.closed in
     let x_on : Contains d x = around R single (Contains d) (keeps_on R single d right.closed) c
-        left.closed z on also x (Contains-head x xs) in
+    left.closed z on also x (Contains-head x xs) in
     let y_on : Contains c y = around R single (Contains c) (keeps_on R single c left.closed) d
-        right.closed z also on y (Contains-head y ys) in
+    right.closed z also on y (Contains-head y ys) in
     let low = All-contains (λ a. x ≤ a) c y left.least y_on in
     let high = All-contains (λ a. y ≤ a) d x right.least x_on in
     let same : x ≡ y = omega arith in
     let closed : Chain R (y ∷ xs ++ y ∷ []) =
     subst (λ (a : ℕ). Chain R (a ∷ xs ++ a ∷ [])) same left.closed in
     let rest : xs ≡ ys = one_chain R single y y xs ys closed right.closed
-        (λ h. once_head xs x left.once (rw same h)) (once_head ys y right.once) in
+    (λ h. once_head xs x left.once (rw same h)) (once_head ys y right.once) in
     cc

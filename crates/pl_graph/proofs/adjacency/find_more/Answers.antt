@@ -11,17 +11,19 @@ loop-node-preserved c =
     let x = get_or c.args.nodes.now l.node-index 0 in
     let more = take_more c.args.nodes.now l.node-index 0 c.loop-node-test.true in
     let within : x < length marks =
-    (let h = c.requires.nodes l.node-index 0 c.loop-node-test.true in let len = l.invariant.len in omega arith) in
+    (let h = c.requires.nodes l.node-index 0 c.loop-node-test.true in
+    let len = l.invariant.len in omega arith) in
     let read = sym (c.index.ensures ∙ get_or_default marks x c.index.result.now false within) in
     elim c.if-not-index.branch [
-      | then-not-index+in_ok-push w ↦ rw (w.found-is, w.in_ok-push.ensures.items, w.marks-is) (record {
-        finds = rw more (finds_push x l.invariant.finds);
-        marked = marked_push x within (read ∙ w.if-not-index.true) l.invariant.marked;
-        len = length-set marks x true ∙ l.invariant.len;
-      })
+      | then-not-index+in_ok-push w ↦
+          rw (w.found-is, w.in_ok-push.ensures.items, w.marks-is) (record {
+            finds = rw more (finds_push x l.invariant.finds);
+            marked = marked_push x within (read ∙ w.if-not-index.true) l.invariant.marked;
+            len = length-set marks x true ∙ l.invariant.len;
+          })
       | else-not-index w ↦ rw (w.found-is, w.marks-is) (record {
-        finds = rw more (finds_skip x ((l.invariant.marked.is x within).0 (read ∙ w.if-not-index.false))
-            l.invariant.finds);
+        finds = rw more (finds_skip x
+            ((l.invariant.marked.is x within).0 (read ∙ w.if-not-index.false)) l.invariant.finds);
         marked = l.invariant.marked;
         len = l.invariant.len;
       })

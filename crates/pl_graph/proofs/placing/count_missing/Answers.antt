@@ -1,6 +1,7 @@
 use Rattle.std.proofs.Common.{◌≡◌, ◌+◌, ◌<◌, ◌≤◌, eqb, get_or, length, take, arith, rules, ◌∙◌}
 use Rattle.std.specs.Prelude.{replicate}
-use Rattle.std.proofs.lemmas.List.{get_or_default, length-replicate, length-set, length-take-le, take_more}
+use Rattle.std.proofs.lemmas.List.{get_or_default, length-replicate, length-set, length-take-le}
+use Rattle.std.proofs.lemmas.List.{take_more}
 use Rattle.std.proofs.lemmas.List.Sums.{count_by-le-length}
 use Rattle.pl_graph.proofs.Missing.{counted_none, counted_push}
 use Rattle.pl_graph.proofs.placing.count_missing.Goals as goal

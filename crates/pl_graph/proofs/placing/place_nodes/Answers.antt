@@ -5,7 +5,8 @@ use Rattle.pl_graph.specs.Adjacency.{neighbors_of}
 use Rattle.pl_graph.specs.Placing.{reversed_of}
 use Rattle.pl_graph.proofs.Reach.{neighbors_within}
 use Rattle.pl_graph.proofs.Places.{all_less, none_taken, placing_all, placing_counted}
-use Rattle.pl_graph.proofs.Places.{placing_more, placing_none, placing_shorter, placing_within, reversed_edges}
+use Rattle.pl_graph.proofs.Places.{placing_more, placing_none, placing_shorter, placing_within}
+use Rattle.pl_graph.proofs.Places.{reversed_edges}
 use Rattle.pl_graph.proofs.placing.place_nodes.Goals as goal
 
 pub neighbors-requires : goal.neighbors-requires

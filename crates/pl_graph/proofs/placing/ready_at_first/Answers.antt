@@ -3,7 +3,8 @@ use Rattle.std.specs.BTreeSet.{keys}
 use Rattle.std.proofs.lemmas.List.{get_or_default}
 use Rattle.pl_graph.proofs.Keys.{below_more, below_skip, more_inserted}
 use Rattle.pl_graph.proofs.placing.ready_at_first.Goals as goal
-use Rattle.pl_graph.proofs.placing.ready_at_first.Goals.{then-index-eq0+in_ok-insert, else-index-eq0}
+use Rattle.pl_graph.proofs.placing.ready_at_first.Goals.{then-index-eq0+in_ok-insert}
+use Rattle.pl_graph.proofs.placing.ready_at_first.Goals.{else-index-eq0}
 
 pub loop-node-preserved : goal.loop-node-preserved
 loop-node-preserved c =

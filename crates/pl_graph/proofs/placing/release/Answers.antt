@@ -1,12 +1,8 @@
-use Rattle.std.proofs.Common.{◌≡◌, ◌+◌, ◌-◌, ◌<◌, ℕ, inl, inr, ⊎_elim, cond, get_or, length, refl}
-use Rattle.std.proofs.Common.{arith, ap, ◌∙◌}
+use Rattle.std.proofs.Common.{◌≡◌, ◌+◌, ◌-◌, ◌<◌, get_or, length, arith, ◌∙◌}
 use Rattle.std.specs.BTreeSet.{keys}
-use Rattle.std.proofs.lemmas.Bool.{eq-eqb}
 use Rattle.std.proofs.lemmas.List.{get_or_default, take_more}
-use Rattle.std.proofs.lemmas.List.Sums.{sum_by_more_le}
 use Rattle.pl_graph.proofs.Keys.{more_inserted}
-use Rattle.pl_graph.proofs.Releasing.{releases_none, releases_push}
-use Rattle.pl_graph.proofs.Turns.{one_at}
+use Rattle.pl_graph.proofs.Releasing.{has_missing, releases_last, releases_more, releases_none}
 use Rattle.pl_graph.proofs.placing.release.Goals as goal
 use Rattle.pl_graph.proofs.placing.release.Goals.{then-left-eq0+in_ok-insert, else-left-eq0}
 
@@ -17,12 +13,11 @@ pub overflow_sub-left : goal.overflow_sub-left
 overflow_sub-left c =
     let l = c.loop-node in
     let x = get_or c.args.nodes.now l.node-index 0 in
-    let within : x < length l.missing.items = (let h = c.requires.within l.node-index 0 c.loop-node-test.true in let len = l.invariant.len in omega arith) in
-    let read = c.index.ensures ∙ get_or_default l.missing.items x c.index.result.now 0 within in
-    let part = sum_by_more_le (one_at x) c.args.nodes.now l.node-index 0 c.loop-node-test.true in
-    let one : ◌≡◌ {A = ℕ} (one_at x x) 1 = ap (λ t. cond t 1 0) (eq-eqb x x refl) in
-    let counts = l.invariant.counts x in
-    let most = c.requires.counted x in
+    let h = c.requires.within l.node-index 0 c.loop-node-test.true in
+    let read = c.index.ensures ∙ get_or_default l.missing.items x c.index.result.now 0
+    (let len = l.invariant.len in omega arith) in
+    let some = has_missing c.args.nodes.now l.node-index c.loop-node-test.true l.invariant
+    (c.requires.counted x) in
     omega arith
 
 pub loop-node-preserved : goal.loop-node-preserved
@@ -30,23 +25,18 @@ loop-node-preserved c =
     let l = c.loop-node in
     let x = get_or c.args.nodes.now l.node-index 0 in
     let more = take_more c.args.nodes.now l.node-index 0 c.loop-node-test.true in
-    let within : x < length l.missing.items = (let h = c.requires.within l.node-index 0 c.loop-node-test.true in let len = l.invariant.len in omega arith) in
+    let within : x < length l.missing.items =
+    (let h = c.requires.within l.node-index 0 c.loop-node-test.true in
+    let len = l.invariant.len in omega arith) in
     let read = c.index.ensures ∙ get_or_default l.missing.items x c.index.result.now 0 within in
-    let part = sum_by_more_le (one_at x) c.args.nodes.now l.node-index 0 c.loop-node-test.true in
-    let one : ◌≡◌ {A = ℕ} (one_at x x) 1 = ap (λ t. cond t 1 0) (eq-eqb x x refl) in
-    let counts = l.invariant.counts x in
-    let most = c.requires.counted x in
+    let some = has_missing c.args.nodes.now l.node-index c.loop-node-test.true l.invariant
+    (c.requires.counted x) in
     let left = c.index.result.now - 1 in
     let had : get_or l.missing.items x 0 ≡ left + 1 = omega arith in
     elim c.if-left-eq0.branch [
-      | then-left-eq0+in_ok-insert w ↦
-          let none : ◌≡◌ {A = ℕ} left 0 = w.if-left-eq0.true in
-          let is = more_inserted l.ready w.insert.new.self x w.in_ok-insert.ensures.updates in
-          rw (w.ready-is, more) (releases_push x left within had l.invariant (keys w.insert.new.self)
-          (λ y. (
-            λ h. ⊎_elim (λ h. inl h) (λ e. inr (e, none)) ((is y).0 h),
-            ⊎_elim (λ h. (is y).1 (inl h)) (λ h. (is y).1 (inr h.0)),
-          )))
-      | else-left-eq0 w ↦ rw (w.ready-is, more) (releases_push x left within had l.invariant (keys l.ready)
-          (λ y. (λ h. inl h, ⊎_elim (λ h. h) (λ h. absurd (let e = h.1 in let other = w.if-left-eq0.false in omega arith)))))
+      | then-left-eq0+in_ok-insert w ↦ rw (w.ready-is, more) (releases_last x left within had
+          l.invariant (keys w.insert.new.self) w.if-left-eq0.true
+          (more_inserted l.ready w.insert.new.self x w.in_ok-insert.ensures.updates))
+      | else-left-eq0 w ↦ rw (w.ready-is, more) (releases_more x left within had l.invariant
+          (let other = w.if-left-eq0.false in omega arith))
     ]

@@ -11,7 +11,8 @@ canonical_cycle-requires-clause-shows c =
 pub canonical_cycle-requires-clause-first : goal.canonical_cycle-requires-clause-first
 canonical_cycle-requires-clause-first c =
     rw c.as_slice-in-Some.ensures (first_remains c.requires
-    (rw c.as_slice.ensures at c.in_ok-placed.ensures) (rw c.deref.ensures.value at c.in-Some.ensures))
+    (rw c.as_slice.ensures at c.in_ok-placed.ensures)
+    (rw c.deref.ensures.value at c.in-Some.ensures))
 
 pub returns-in-None-clause-order : goal.returns-in-None-clause-order
 returns-in-None-clause-order c =

@@ -2,7 +2,8 @@ use Rattle.std.proofs.Common.{◌≡◌, ◌<◌, false, length, arith, rules, �
 use Rattle.std.specs.Prelude.{replicate}
 use Rattle.std.proofs.lemmas.List.{length-replicate, get_or_default}
 use Rattle.pl_graph.specs.Adjacency.{neighbors_of}
-use Rattle.pl_graph.proofs.Reach.{found_within, neighbors_within, reach_first, reach_more, reach_whole}
+use Rattle.pl_graph.proofs.Reach.{found_within, neighbors_within, reach_first, reach_more}
+use Rattle.pl_graph.proofs.Reach.{reach_whole}
 use Rattle.pl_graph.proofs.Found.{marked_none}
 use Rattle.pl_graph.proofs.transitive.reach.Goals as goal
 
@@ -22,7 +23,8 @@ loop-at-init c =
     ∙ c.in_ok-dependencies.ensures.each c.args.node _ c.requires.node in
     let marks : c.in_ok-marks.marks.items ≡ replicate c.args.n false = search rules in
     record {
-      reach = reach_first (rw (c.new-found.ensures.items, nodes) at c.in_ok-find_more.ensures.finds);
+      reach = reach_first
+          (rw (c.new-found.ensures.items, nodes) at c.in_ok-find_more.ensures.finds);
       marked = c.in_ok-find_more.ensures.marked;
       len = c.in_ok-find_more.ensures.len ∙ ap length marks ∙ length-replicate c.args.n false;
     }
@@ -58,7 +60,8 @@ loop-at-preserved c =
     ∙ c.in_ok-dependencies.ensures.each x _ (omega arith)
     ∙ ap (neighbors_of c.args.edges.now) here in
     record {
-      reach = reach_more c.loop-at.invariant.reach below (rw nodes at c.in_ok-find_more-2.ensures.finds);
+      reach = reach_more c.loop-at.invariant.reach below
+          (rw nodes at c.in_ok-find_more-2.ensures.finds);
       marked = c.in_ok-find_more-2.ensures.marked;
       len = c.in_ok-find_more-2.ensures.len ∙ c.loop-at.invariant.len;
     }

@@ -3,7 +3,8 @@ use Rattle.std.specs.Prelude.{replicate}
 use Rattle.std.proofs.lemmas.List.{get_or_default, take_more}
 use Rattle.pl_graph.proofs.Walks.{least_none, least_skip, least_more}
 use Rattle.pl_graph.proofs.walking.least_dependencies.Goals as goal
-use Rattle.pl_graph.proofs.walking.least_dependencies.Goals.{then-missing-edge-gt0, else-missing-edge-gt0}
+use Rattle.pl_graph.proofs.walking.least_dependencies.Goals.{then-missing-edge-gt0}
+use Rattle.pl_graph.proofs.walking.least_dependencies.Goals.{else-missing-edge-gt0}
 
 pub loop-edge-init : goal.loop-edge-init
 loop-edge-init c =
@@ -19,7 +20,8 @@ loop-edge-preserved c =
     let within = (c.requires.edges i (0, 0) c.loop-edge-test.true).0 in
     elim c.if-missing-edge-gt0.branch [
       | then-missing-edge-gt0 w ↦
-          let in_least : edge.0 < length least = (let l = c.loop-edge.invariant.len in omega arith) in
+          let in_least : edge.0 < length least =
+          (let l = c.loop-edge.invariant.len in omega arith) in
           let read = w.min-smaller.ensures ∙ ap (λ z. min z edge.1)
           (w.index.ensures ∙ get_or_default least edge.0 w.index.result.now 0 in_least) in
           rw (w.least-is, read, more)
