@@ -1,5 +1,5 @@
 -- Two readings of rows that begin alike: they agree, until one reads past these rows.
-use Rattle.std.proofs.Common.{◌≡◌, ℕ, zero, suc, ◌+◌, ◌<◌, ◌≤◌, Bool, true, false, not, ◌&&◌, ◌||◌, cond, ◌⊎◌, Option, Some, None, Result, Ok, Err, List, [], ◌∷◌, ◌++◌, length, drop, refl, ap, sym, subst, ◌∙◌, arith, inl, inr}
+use Rattle.std.proofs.Common.{◌≡◌, ℕ, zero, suc, ◌+◌, ◌<◌, ◌≤◌, Bool, true, false, not, ◌&&◌, ◌||◌, cond, ◌⊎◌, Option, Some, None, Result, Ok, Err, List, [], ◌∷◌, ◌++◌, length, refl, ap, sym, subst, ◌∙◌, arith, inl, inr}
 use Rattle.std.specs.Prelude.{◌==◌, nat_lt, max, encode_utf8_all}
 use Rattle.std.specs.List.{list_all}
 use Rattle.std.proofs.lemmas.Bool.{cases_Bool, both_ways, and_parts, not-true}
@@ -13,13 +13,11 @@ use Rattle.pl_line.specs.Rows.{Row, size}
 use Rattle.pl_line.specs.Reading.{fault_at}
 use Rattle.pl_reading.specs.Steps.{◌>>=◌}
 use Rattle.pl_line.specs.Left.{behind, line_end, is_bare, is_comment, is_empty, is_done, spaces_only}
-use Rattle.pl_line.specs.Scanning.{ends_word, plain_len, is_stray}
-use Rattle.pl_reading.specs.Bytes.{begins_with}
 use Rattle.pl_line.specs.Trees.{node_at}
 use Rattle.pl_line.specs.Quoted.{quoted}
 use Rattle.pl_line.specs.Flow.{flow}
 use Rattle.pl_yaml.specs.Reading.{Read, has_row, many, many_step}
-use Rattle.pl_yaml.specs.Heads.{head_at, head_of, is_start, is_quote, is_bracket, is_block}
+use Rattle.pl_yaml.specs.Heads.{head_at, head_of, is_start}
 use Rattle.pl_yaml.specs.Content.{stands, content, begins, lead, closed}
 use Rattle.pl_yaml.specs.Plain.{continued, further, word}
 use Rattle.pl_yaml.specs.BlockScalars.{header_of, first_column, within_column, found_column, content_column, reaches, inside, line_from, lines, block_text, block}
@@ -27,6 +25,7 @@ use Rattle.pl_yaml.specs.Inline.{quoted_node, flow_node, inline_by, inline}
 use Rattle.pl_yaml.specs.Keys.{FoundKey, key_by, key_in, next_key}
 use Rattle.pl_yaml.specs.Nodes.{Values, is_dash, item_in, next_item, below, value, item, pair, items, pairs, sequence, mapping, in_brackets, begun_by, begun, node_in, node_with, inner, node}
 use Rattle.pl_yaml.specs.Spells.{whole_text, nothing_left, document}
+use Rattle.pl_yaml_laws.proofs.Heads.{by_head}
 use Rattle.pl_yaml_laws.proofs.Lines.{bare_done}
 use Rattle.pl_yaml_laws.proofs.Told as T
 use Rattle.pl_yaml_laws.proofs.Told.{Told, Whatever, is_ok, is_err, weaker}
@@ -316,79 +315,14 @@ module _ (P : ℕ → Type 0) (one two : List Row) where
           → Agree Sync Late (inline_by file depth parent row (head_at whole text) (front ++ one))
           (inline_by file depth parent row (head_at whole text) (front ++ two))
       unfolding head_at
-      inline_at_agrees file depth parent row front fits whole [] = same_err _
-      inline_at_agrees file depth parent row front fits whole (c ∷ cs) =
-          elim (cases_Bool (c == 45 && ends_word whole cs)) [
-            | inl is ↦ rw is (same_err _)
-            | inr no_dash ↦ elim (cases_Bool (c == 63 && ends_word whole cs)) [
-              | inl is ↦ rw (no_dash, is) (same_err _)
-              | inr no_question ↦ elim (cases_Bool (c == 38 || c == 42)) [
-                | inl is ↦ rw (no_dash, no_question, is) (same_err _)
-                | inr no_anchor ↦ elim (cases_Bool (c == 33)) [
-                  | inl is ↦ rw (no_dash, no_question, no_anchor, is) (same_err _)
-                  | inr no_tag ↦ elim (cases_Bool (is_quote c)) [
-                    | inl is ↦
-                        rw (no_dash, no_question, no_anchor, no_tag, is)
-                        (at (quoted row >>= quoted_node file row)
-                        (λ made. same_ok _ _ (sync made front fits)))
-                    | inr no_quote ↦ elim (cases_Bool (is_bracket c)) [
-                      | inl is ↦
-                          rw (no_dash, no_question, no_anchor, no_tag, no_quote, is)
-                          (at (flow file depth row >>= flow_node row)
-                          (λ made. same_ok _ _ (sync made front fits)))
-                      | inr no_bracket ↦ elim (cases_Bool (is_block c)) [
-                        | inl is ↦
-                            rw (no_dash, no_question, no_anchor, no_tag, no_quote, no_bracket, is)
-                            (block_agrees file parent row front fits)
-                        | inr no_block ↦
-                            elim (cases_Bool (is_stray c || c == 58 && ends_word whole cs)) [
-                              | inl is ↦
-                                  rw (
-                                    no_dash,
-                                    no_question,
-                                    no_anchor,
-                                    no_tag,
-                                    no_quote,
-                                    no_bracket,
-                                    no_block,
-                                    is,
-                                  ) (same_err _)
-                              | inr no_stray ↦
-                                  elim (cases_Bool
-                                  (begins_with 58 (drop (plain_len whole false (c ∷ cs)) (c ∷ cs)))) [
-                                    | inl is ↦
-                                        rw (
-                                          no_dash,
-                                          no_question,
-                                          no_anchor,
-                                          no_tag,
-                                          no_quote,
-                                          no_bracket,
-                                          no_block,
-                                          no_stray,
-                                          is,
-                                        ) (same_err _)
-                                    | inr no_colon ↦
-                                        rw (
-                                          no_dash,
-                                          no_question,
-                                          no_anchor,
-                                          no_tag,
-                                          no_quote,
-                                          no_bracket,
-                                          no_block,
-                                          no_stray,
-                                          no_colon,
-                                        ) (word_agrees file parent row _ front fits)
-                                  ]
-                            ]
-                      ]
-                    ]
-                  ]
-                ]
-              ]
-            ]
-          ]
+      inline_at_agrees file depth parent row front fits whole text =
+          by_head (λ head. Agree Sync Late (inline_by file depth parent row head (front ++ one))
+          (inline_by file depth parent row head (front ++ two))) whole text
+          (same_err _) (same_err _) (same_err _) (same_err _)
+          (at (quoted row >>= quoted_node file row) (λ made. same_ok _ _ (sync made front fits)))
+          (at (flow file depth row >>= flow_node row) (λ made. same_ok _ _ (sync made front fits)))
+          (block_agrees file parent row front fits) (same_err _) (λ text n is. rw is (same_err _))
+          (λ text n isnt. rw isnt (word_agrees file parent row n front fits))
 
       inline_agrees : (file : FileKey) (depth parent : ℕ) (row : Row) (front : List Row)
           → Fits front
@@ -640,85 +574,19 @@ module _ (P : ℕ → Type 0) (one two : List Row) where
             (begun_by file depth inside parent row (head_at whole text) (row ∷ front ++ one))
             (begun_by file depth inside parent row (head_at whole text) (row ∷ front ++ two))
         unfolding head_at
-        begun_agrees parent row front fits whole [] = same_err _
-        begun_agrees parent row front fits whole (c ∷ cs) =
-            elim (cases_Bool (c == 45 && ends_word whole cs)) [
-              | inl is ↦
-                  rw is (sequence_agrees file inside sound any alike parent row (row ∷ front) fits)
-              | inr no_dash ↦ elim (cases_Bool (c == 63 && ends_word whole cs)) [
-                | inl is ↦ rw (no_dash, is) (same_err _)
-                | inr no_question ↦ elim (cases_Bool (c == 38 || c == 42)) [
-                  | inl is ↦ rw (no_dash, no_question, is) (same_err _)
-                  | inr no_anchor ↦ elim (cases_Bool (c == 33)) [
-                    | inl is ↦ rw (no_dash, no_question, no_anchor, is) (same_err _)
-                    | inr no_tag ↦ elim (cases_Bool (is_quote c)) [
-                      | inl is ↦
-                          rw (no_dash, no_question, no_anchor, no_tag, is)
-                          (at (quoted row)
-                          (λ read. either _
-                          (mapping_agrees file inside sound any alike row (row ∷ front) fits)
-                          (at (quoted_node file row read)
-                          (λ made. same_ok _ _ (sync made front fits.1)))))
-                      | inr no_quote ↦ elim (cases_Bool (is_bracket c)) [
-                        | inl is ↦
-                            rw (no_dash, no_question, no_anchor, no_tag, no_quote, is)
-                            (at (in_brackets file depth row)
-                            (λ made. same_ok _ _ (sync made front fits.1)))
-                        | inr no_bracket ↦ elim (cases_Bool (is_block c)) [
-                          | inl is ↦
-                              rw (no_dash, no_question, no_anchor, no_tag, no_quote, no_bracket, is)
-                              (block_agrees file parent row front fits.1)
-                          | inr no_block ↦
-                              elim (cases_Bool (is_stray c || c == 58 && ends_word whole cs)) [
-                                | inl is ↦
-                                    rw (
-                                      no_dash,
-                                      no_question,
-                                      no_anchor,
-                                      no_tag,
-                                      no_quote,
-                                      no_bracket,
-                                      no_block,
-                                      is,
-                                    ) (same_err _)
-                                | inr no_stray ↦
-                                    elim (cases_Bool
-                                    (begins_with 58 (drop (plain_len whole false (c ∷ cs)) (c ∷ cs)))) [
-                                      | inl is ↦
-                                          rw (
-                                            no_dash,
-                                            no_question,
-                                            no_anchor,
-                                            no_tag,
-                                            no_quote,
-                                            no_bracket,
-                                            no_block,
-                                            no_stray,
-                                            is,
-                                          )
-                                          (mapping_agrees file inside sound any alike row (row ∷ front) fits)
-                                      | inr no_colon ↦
-                                          rw (
-                                            no_dash,
-                                            no_question,
-                                            no_anchor,
-                                            no_tag,
-                                            no_quote,
-                                            no_bracket,
-                                            no_block,
-                                            no_stray,
-                                            no_colon,
-                                          )
-                                          (word_agrees file parent row _ front fits.1)
-                                    ]
-                              ]
-                        ]
-                      ]
-                    ]
-                  ]
-                ]
-              ]
-            ]
+        begun_agrees parent row front fits whole text =
+            by_head (λ head. Agree Sync Late
+            (begun_by file depth inside parent row head (row ∷ front ++ one))
+            (begun_by file depth inside parent row head (row ∷ front ++ two))) whole text
+            (sequence_agrees file inside sound any alike parent row (row ∷ front) fits) (same_err _)
+            (same_err _) (same_err _)
+            (at (quoted row)
+            (λ read. either _ (mapping_agrees file inside sound any alike row (row ∷ front) fits)
+            (at (quoted_node file row read) (λ made. same_ok _ _ (sync made front fits.1)))))
+            (at (in_brackets file depth row) (λ made. same_ok _ _ (sync made front fits.1)))
+            (block_agrees file parent row front fits.1) (same_err _)
+            (λ text n is. rw is (mapping_agrees file inside sound any alike row (row ∷ front) fits))
+            (λ text n isnt. rw isnt (word_agrees file parent row n front fits.1))
 
         node_in_agrees : (slot : _) (front : List Row) → Fits front
             → Agree Sync Late (node_in file depth inside slot (front ++ one))

@@ -1,6 +1,8 @@
 -- Rows that are passed over.
-use Rattle.std.proofs.Common.{◌≡◌, true, cond, Ok, List, ◌∷◌, refl, ap, ◌∙◌}
+use Rattle.std.proofs.Common.{◌≡◌, true, cond, Ok, List, ◌∷◌, refl, ap, ◌∙◌, [], ◌++◌, subst}
+use Rattle.std.specs.List.{AllByRecursion}
 use Rattle.std.proofs.lemmas.Bool.{or_left}
+use Rattle.pl_base.specs.declared.place.FileKey.{FileKey}
 use Rattle.pl_line.specs.Rows.{Row}
 use Rattle.pl_line.specs.Left.{line_end, is_empty}
 use Rattle.pl_reading.specs.Steps.{◌>>=◌}
@@ -9,8 +11,10 @@ use Rattle.pl_yaml.specs.Heads.{is_start}
 use Rattle.pl_yaml.specs.Content.{begins, stands, content, lead}
 use Rattle.pl_yaml.specs.Keys.{key_in, next_key}
 use Rattle.pl_yaml.specs.Nodes.{below, item, item_in, next_item, pair, inner, node_in, node}
-use Rattle.pl_yaml.specs.Spells.{whole_text, nothing_left, document}
-use Rattle.pl_yaml_laws.specs.EmptyLines.{IsPassedOver, PassedOverInDocuments, PassedOverBeforeNodes, PassedOverBeforeItems, PassedOverBeforePairs}
+use Rattle.pl_yaml.specs.Spells.{whole_text, nothing_left, document, placed}
+use Rattle.pl_yaml_laws.specs.EmptyLines.{IsPassedOver, PassedOverInDocuments, PassedOverInTexts, PassedOverBeforeNodes, PassedOverBeforeItems, PassedOverBeforePairs}
+use Rattle.pl_yaml_laws.proofs.Texts.{spelled_is}
+use Rattle.pl_yaml_laws.proofs.Fronts.{rows_before, rows_behind, front_rows}
 
 ended : (row : Row) → row.whole ≡ true → line_end row ≡ Ok tt
 ended row whole = rw whole refl
@@ -33,6 +37,25 @@ unfolding document
 in_documents file row rows is =
     ap (λ read. read >>= λ left. node file 64 whole_text left >>= λ read. content read.1
     >>= λ rest. nothing_left rest >>= λ _. Ok read.0) (in_lead row rows is)
+
+all_front : (P : Row → Type 0) (front rows : List Row) → AllByRecursion P (front ++ rows)
+    → AllByRecursion P front
+all_front P [] rows all = tt
+all_front P (row ∷ front) rows all = (all.0, all_front P front rows all.1)
+
+all_passed : (file : FileKey) (front rows : List Row) → AllByRecursion IsPassedOver front
+    → document file (front ++ rows) ≡ document file rows
+all_passed file [] rows all = refl
+all_passed file (row ∷ front) rows all =
+    in_documents file row (front ++ rows) all.0 ∙ all_passed file front rows all.1
+
+pub in_texts : PassedOverInTexts
+in_texts file front text is all =
+    let passed = all_front IsPassedOver (rows_before front) (rows_behind front [])
+    (subst (AllByRecursion IsPassedOver) (front_rows front []) all) in
+    spelled_is file (front ++ 10 ∷ text) is
+    ∙ ap (λ rows. placed file (document file rows)) (front_rows front text)
+    ∙ ap (placed file) (all_passed file (rows_before front) (rows_behind front text) passed)
 
 pub before_nodes : PassedOverBeforeNodes
 unfolding node

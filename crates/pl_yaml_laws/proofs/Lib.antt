@@ -3,6 +3,8 @@ pub mod Breaks
 pub mod Chomping
 pub mod EmptyLines
 pub mod Faults
+pub mod Fronts
+pub mod Heads
 pub mod Lines
 pub mod PlainTexts
 pub mod SingleQuotes

@@ -1,7 +1,7 @@
 -- The lines on which faults are told, where rows are read, and the rows that are left.
-use Rattle.std.proofs.Common.{◌≡◌, ℕ, zero, suc, ◌+◌, ◌<◌, ◌≤◌, Bool, true, false, ◌&&◌, ◌||◌, cond, Option, Some, None, Ok, Err, List, [], ◌∷◌, ◌++◌, length, drop, refl, ap, sym, subst, arith, inl, inr}
+use Rattle.std.proofs.Common.{◌≡◌, ℕ, zero, suc, ◌+◌, ◌<◌, ◌≤◌, Bool, true, false, ◌||◌, cond, Option, Some, None, Ok, Err, List, [], ◌∷◌, ◌++◌, length, refl, ap, sym, subst, arith}
 use Rattle.std.specs.Prelude.{◌==◌}
-use Rattle.std.proofs.lemmas.Bool.{cases_Bool, both_ways}
+use Rattle.std.proofs.lemmas.Bool.{both_ways}
 use Rattle.std.proofs.lemmas.List.{length-drop}
 use Rattle.pl_base.specs.declared.place.FileKey.{FileKey}
 use Rattle.pl_base.specs.declared.node.Node.{Node}
@@ -10,10 +10,9 @@ use Rattle.pl_line.specs.declared.code.YamlCode.TheVariants as codes_of
 use Rattle.pl_line.specs.Rows.{Row, size}
 use Rattle.pl_line.specs.Reading.{fault_at}
 use Rattle.pl_line.specs.Left.{behind, is_bare, is_comment, is_empty, is_done}
-use Rattle.pl_line.specs.Scanning.{ends_word, plain_len, is_stray}
 use Rattle.pl_reading.specs.Bytes.{begins_with}
 use Rattle.pl_yaml.specs.Reading.{Read, many, many_step}
-use Rattle.pl_yaml.specs.Heads.{head_at, head_of, is_marker, is_start, is_quote, is_bracket, is_block}
+use Rattle.pl_yaml.specs.Heads.{head_at, head_of, is_marker, is_start}
 use Rattle.pl_yaml.specs.Content.{stands, content, begins, lead, is_closed, closed}
 use Rattle.pl_yaml.specs.Plain.{continued, further, word}
 use Rattle.pl_yaml.specs.BlockScalars.{header_of, first_column, within_column, content_column, reaches, inside, lines, block}
@@ -21,6 +20,7 @@ use Rattle.pl_yaml.specs.Inline.{quoted_node, flow_node, inline_by, inline}
 use Rattle.pl_yaml.specs.Keys.{FoundKey, is_colon, quoted_key, key_by, key_in, next_key}
 use Rattle.pl_yaml.specs.Nodes.{Values, is_dash, item_in, next_item, value, item, pair, items, pairs, sequence, mapping, fits, begun_by, begun, node_in, node_with, inner, node}
 use Rattle.pl_yaml.specs.Spells.{whole_text, nothing_left, document}
+use Rattle.pl_yaml_laws.proofs.Heads.{by_head}
 use Rattle.pl_yaml_laws.proofs.Told.{Told, Whatever, is_ok, is_err, goes, either, weaker, ended, quoted_told, flow_told, behind_on}
 
 module _ (P : ℕ → Type 0) where
@@ -154,78 +154,16 @@ module _ (P : ℕ → Type 0) where
       → Each rows → (whole : Bool) (text : List ℕ)
       → Told P (Left (size rows)) (inline_by file depth parent row (head_at whole text) rows)
   unfolding head_at
-  inline_at file depth parent row rows on all whole [] = is_err _ on
-  inline_at file depth parent row rows on all whole (c ∷ cs) =
-      elim (cases_Bool (c == 45 && ends_word whole cs)) [
-        | inl is ↦ rw is (is_err _ on)
-        | inr no_dash ↦ elim (cases_Bool (c == 63 && ends_word whole cs)) [
-          | inl is ↦ rw (no_dash, is) (is_err _ on)
-          | inr no_question ↦ elim (cases_Bool (c == 38 || c == 42)) [
-            | inl is ↦ rw (no_dash, no_question, is) (is_err _ on)
-            | inr no_anchor ↦ elim (cases_Bool (c == 33)) [
-              | inl is ↦ rw (no_dash, no_question, no_anchor, is) (is_err _ on)
-              | inr no_tag ↦ elim (cases_Bool (is_quote c)) [
-                | inl is ↦
-                    rw (no_dash, no_question, no_anchor, no_tag, is)
-                    (goes (goes (quoted_told row on) (λ read _. quoted_node_told file row on read))
-                    (λ made _. is_ok _ (all, omega arith)))
-                | inr no_quote ↦ elim (cases_Bool (is_bracket c)) [
-                  | inl is ↦
-                      rw (no_dash, no_question, no_anchor, no_tag, no_quote, is)
-                      (goes (goes (flow_told P file depth row on)
-                      (λ read _. flow_node_told row on read)) (λ made _. is_ok _ (all, omega arith)))
-                  | inr no_bracket ↦ elim (cases_Bool (is_block c)) [
-                    | inl is ↦
-                        rw (no_dash, no_question, no_anchor, no_tag, no_quote, no_bracket, is)
-                        (block_told file parent row rows on all)
-                    | inr no_block ↦ elim (cases_Bool (is_stray c || c == 58 && ends_word whole cs)) [
-                      | inl is ↦
-                          rw (
-                            no_dash,
-                            no_question,
-                            no_anchor,
-                            no_tag,
-                            no_quote,
-                            no_bracket,
-                            no_block,
-                            is,
-                          ) (is_err _ on)
-                      | inr no_stray ↦
-                          elim (cases_Bool
-                          (begins_with 58 (drop (plain_len whole false (c ∷ cs)) (c ∷ cs)))) [
-                            | inl is ↦
-                                rw (
-                                  no_dash,
-                                  no_question,
-                                  no_anchor,
-                                  no_tag,
-                                  no_quote,
-                                  no_bracket,
-                                  no_block,
-                                  no_stray,
-                                  is,
-                                ) (is_err _ on)
-                            | inr no_colon ↦
-                                rw (
-                                  no_dash,
-                                  no_question,
-                                  no_anchor,
-                                  no_tag,
-                                  no_quote,
-                                  no_bracket,
-                                  no_block,
-                                  no_stray,
-                                  no_colon,
-                                ) (word_told file parent row _ rows on all)
-                          ]
-                    ]
-                  ]
-                ]
-              ]
-            ]
-          ]
-        ]
-      ]
+  inline_at file depth parent row rows on all whole text =
+      by_head (λ head. Told P (Left (size rows))
+      (inline_by file depth parent row head rows)) whole text
+      (is_err _ on) (is_err _ on) (is_err _ on) (is_err _ on)
+      (goes (goes (quoted_told row on) (λ read _. quoted_node_told file row on read))
+      (λ made _. is_ok _ (all, omega arith)))
+      (goes (goes (flow_told P file depth row on) (λ read _. flow_node_told row on read))
+      (λ made _. is_ok _ (all, omega arith)))
+      (block_told file parent row rows on all) (is_err _ on) (λ text n is. rw is (is_err _ on))
+      (λ text n isnt. rw isnt (word_told file parent row n rows on all))
 
   pub inline_told : (file : FileKey) (depth parent : ℕ) (row : Row) (rows : List Row) → P row.number
       → Each rows → Told P (Left (size rows)) (inline file depth parent row rows)
@@ -249,76 +187,13 @@ module _ (P : ℕ → Type 0) where
   pub key_at : (file : FileKey) (depth : ℕ) (row : Row) → P row.number
       → (whole : Bool) (text : List ℕ) → Told P Begun (key_by file depth row (head_at whole text))
   unfolding head_at Begun
-  key_at file depth row on whole [] = is_err _ on
-  key_at file depth row on whole (c ∷ cs) = elim (cases_Bool (c == 45 && ends_word whole cs)) [
-    | inl is ↦ rw is (is_err _ on)
-    | inr no_dash ↦ elim (cases_Bool (c == 63 && ends_word whole cs)) [
-      | inl is ↦ rw (no_dash, is) (is_err _ on)
-      | inr no_question ↦ elim (cases_Bool (c == 38 || c == 42)) [
-        | inl is ↦ rw (no_dash, no_question, is) (is_err _ on)
-        | inr no_anchor ↦ elim (cases_Bool (c == 33)) [
-          | inl is ↦ rw (no_dash, no_question, no_anchor, is) (is_err _ on)
-          | inr no_tag ↦ elim (cases_Bool (is_quote c)) [
-            | inl is ↦
-                rw (no_dash, no_question, no_anchor, no_tag, is)
-                (goes (quoted_told row on) (λ read _. quoted_key_told row on read))
-            | inr no_quote ↦ elim (cases_Bool (is_bracket c)) [
-              | inl is ↦
-                  rw (no_dash, no_question, no_anchor, no_tag, no_quote, is)
-                  (goes (flow_told P file depth row on)
-                  (λ read _. is_err _ (behind_on P read.1 row on)))
-              | inr no_bracket ↦ elim (cases_Bool (is_block c)) [
-                | inl is ↦
-                    rw (no_dash, no_question, no_anchor, no_tag, no_quote, no_bracket, is)
-                    (is_err _ on)
-                | inr no_block ↦ elim (cases_Bool (is_stray c || c == 58 && ends_word whole cs)) [
-                  | inl is ↦
-                      rw (
-                        no_dash,
-                        no_question,
-                        no_anchor,
-                        no_tag,
-                        no_quote,
-                        no_bracket,
-                        no_block,
-                        is,
-                      ) (is_err _ on)
-                  | inr no_stray ↦
-                      elim (cases_Bool
-                      (begins_with 58 (drop (plain_len whole false (c ∷ cs)) (c ∷ cs)))) [
-                        | inl is ↦
-                            rw (
-                              no_dash,
-                              no_question,
-                              no_anchor,
-                              no_tag,
-                              no_quote,
-                              no_bracket,
-                              no_block,
-                              no_stray,
-                              is,
-                            ) (is_ok _ (on, behind_on P _ row on))
-                        | inr no_colon ↦
-                            rw (
-                              no_dash,
-                              no_question,
-                              no_anchor,
-                              no_tag,
-                              no_quote,
-                              no_bracket,
-                              no_block,
-                              no_stray,
-                              no_colon,
-                            ) (is_err _ on)
-                      ]
-                ]
-              ]
-            ]
-          ]
-        ]
-      ]
-    ]
-  ]
+  key_at file depth row on whole text =
+      by_head (λ head. Told P Begun (key_by file depth row head)) whole text
+      (is_err _ on) (is_err _ on) (is_err _ on) (is_err _ on)
+      (goes (quoted_told row on) (λ read _. quoted_key_told row on read))
+      (goes (flow_told P file depth row on) (λ read _. is_err _ (behind_on P read.1 row on)))
+      (is_err _ on) (is_err _ on) (λ text n is. rw is (is_ok _ (on, behind_on P _ row on)))
+      (λ text n isnt. rw isnt (is_err _ on))
 
   -- ---- the next entry of a collection
 
@@ -525,85 +400,22 @@ module _ (P : ℕ → Type 0) where
         → Told P (Left (size (row ∷ rows)))
         (begun_by file depth inside parent row (head_at whole text) (row ∷ rows))
     unfolding head_at
-    begun_at parent row rows on all whole [] = is_err _ on
-    begun_at parent row rows on all whole (c ∷ cs) =
-        elim (cases_Bool (c == 45 && ends_word whole cs)) [
-          | inl is ↦ rw is (sequence_told file inside sound parent row (row ∷ rows) on (on, all))
-          | inr no_dash ↦ elim (cases_Bool (c == 63 && ends_word whole cs)) [
-            | inl is ↦ rw (no_dash, is) (is_err _ on)
-            | inr no_question ↦ elim (cases_Bool (c == 38 || c == 42)) [
-              | inl is ↦ rw (no_dash, no_question, is) (is_err _ on)
-              | inr no_anchor ↦ elim (cases_Bool (c == 33)) [
-                | inl is ↦ rw (no_dash, no_question, no_anchor, is) (is_err _ on)
-                | inr no_tag ↦ elim (cases_Bool (is_quote c)) [
-                  | inl is ↦
-                      rw (no_dash, no_question, no_anchor, no_tag, is)
-                      (goes (quoted_told row on)
-                      (λ read _. either _ (mapping_told file inside sound row (row ∷ rows) on (on, all))
-                      (goes (quoted_node_told file row on read)
-                      (λ made _. is_ok _ (all, omega arith)))))
-                  | inr no_quote ↦ elim (cases_Bool (is_bracket c)) [
-                    | inl is ↦
-                        rw (no_dash, no_question, no_anchor, no_tag, no_quote, is)
-                        (goes (goes (flow_told P file depth row on)
-                        (λ read _. either _ (is_err _ (behind_on P read.1 row on))
-                        (flow_node_told row on read))) (λ made _. is_ok _ (all, omega arith)))
-                    | inr no_bracket ↦ elim (cases_Bool (is_block c)) [
-                      | inl is ↦
-                          rw (no_dash, no_question, no_anchor, no_tag, no_quote, no_bracket, is)
-                          (fewer (size rows) (size (row ∷ rows)) (omega arith)
-                          (block_told file parent row rows on all))
-                      | inr no_block ↦ elim (cases_Bool (is_stray c || c == 58 && ends_word whole cs)) [
-                        | inl is ↦
-                            rw (
-                              no_dash,
-                              no_question,
-                              no_anchor,
-                              no_tag,
-                              no_quote,
-                              no_bracket,
-                              no_block,
-                              is,
-                            ) (is_err _ on)
-                        | inr no_stray ↦
-                            elim (cases_Bool
-                            (begins_with 58 (drop (plain_len whole false (c ∷ cs)) (c ∷ cs)))) [
-                              | inl is ↦
-                                  rw (
-                                    no_dash,
-                                    no_question,
-                                    no_anchor,
-                                    no_tag,
-                                    no_quote,
-                                    no_bracket,
-                                    no_block,
-                                    no_stray,
-                                    is,
-                                  )
-                                  (mapping_told file inside sound row (row ∷ rows) on (on, all))
-                              | inr no_colon ↦
-                                  rw (
-                                    no_dash,
-                                    no_question,
-                                    no_anchor,
-                                    no_tag,
-                                    no_quote,
-                                    no_bracket,
-                                    no_block,
-                                    no_stray,
-                                    no_colon,
-                                  )
-                                  (fewer (size rows) (size (row ∷ rows)) (omega arith)
-                                  (word_told file parent row _ rows on all))
-                            ]
-                      ]
-                    ]
-                  ]
-                ]
-              ]
-            ]
-          ]
-        ]
+    begun_at parent row rows on all whole text =
+        by_head (λ head. Told P (Left (size (row ∷ rows)))
+        (begun_by file depth inside parent row head (row ∷ rows))) whole text
+        (sequence_told file inside sound parent row (row ∷ rows) on (on, all)) (is_err _ on)
+        (is_err _ on) (is_err _ on)
+        (goes (quoted_told row on)
+        (λ read _. either _ (mapping_told file inside sound row (row ∷ rows) on (on, all))
+        (goes (quoted_node_told file row on read) (λ made _. is_ok _ (all, omega arith)))))
+        (goes (goes (flow_told P file depth row on)
+        (λ read _. either _ (is_err _ (behind_on P read.1 row on)) (flow_node_told row on read)))
+        (λ made _. is_ok _ (all, omega arith)))
+        (fewer (size rows) (size (row ∷ rows)) (omega arith)
+        (block_told file parent row rows on all)) (is_err _ on)
+        (λ text n is. rw is (mapping_told file inside sound row (row ∷ rows) on (on, all)))
+        (λ text n isnt. rw isnt (fewer (size rows) (size (row ∷ rows)) (omega arith)
+        (word_told file parent row n rows on all)))
 
     pub node_in_told : (slot : _) (rows : List Row) → Each rows
         → Told P (Left (size rows)) (node_in file depth inside slot rows)

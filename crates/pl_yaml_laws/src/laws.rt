@@ -1,6 +1,6 @@
 ghost use Rattle.pl_yaml_laws.specs.Breaks.{LineBreaksAreAlike};
 ghost use Rattle.pl_yaml_laws.specs.Chomping.{ChompingChangesTheEnd, KeepingKeepsAll};
-ghost use Rattle.pl_yaml_laws.specs.EmptyLines.{PassedOverBeforeItems, PassedOverBeforeNodes, PassedOverBeforePairs, PassedOverInDocuments};
+ghost use Rattle.pl_yaml_laws.specs.EmptyLines.{PassedOverBeforeItems, PassedOverBeforeNodes, PassedOverBeforePairs, PassedOverInDocuments, PassedOverInTexts};
 ghost use Rattle.pl_yaml_laws.specs.Faults.{FaultsAreFirst, FaultsStandInTheText};
 ghost use Rattle.pl_yaml_laws.specs.Lines.{RowsAreLines};
 ghost use Rattle.pl_yaml_laws.specs.PlainTexts.{PlainKeyIsItself, PlainTextIsItself, PlainValueIsItself};
@@ -43,11 +43,13 @@ pub fn chomping_changes_the_end()
 {}
 
 /// A comment line or an empty line changes nothing but the numbers of the lines behind it, where an
-/// entry or a node is to begin: before the first entry of a text (clause `text`), before the value of a
-/// key or a dash on later lines (`value`), and before the next entry of a sequence (`items`) or of a
-/// mapping (`pairs`). Rows keep their numbers, so the places of what is read are told by the rows alone.
+/// entry or a node is to begin: before the rows of a text (clause `rows`) and so before a text (`text`),
+/// before the value of a key or a dash on later lines (`value`), and before the next entry of a sequence
+/// (`items`) or of a mapping (`pairs`). Rows keep their numbers, so the places of what is read are told
+/// by the rows alone.
 pub fn empty_lines_are_passed_over()
-    ensures text { PassedOverInDocuments }
+    ensures rows { PassedOverInDocuments }
+    ensures text { PassedOverInTexts }
     ensures value { PassedOverBeforeNodes }
     ensures items { PassedOverBeforeItems }
     ensures pairs { PassedOverBeforePairs }

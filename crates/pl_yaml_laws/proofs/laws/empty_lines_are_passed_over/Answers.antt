@@ -1,8 +1,11 @@
-use Rattle.pl_yaml_laws.proofs.EmptyLines.{in_documents, before_nodes, before_items, before_pairs}
+use Rattle.pl_yaml_laws.proofs.EmptyLines.{in_documents, in_texts, before_nodes, before_items, before_pairs}
 use Rattle.pl_yaml_laws.proofs.laws.empty_lines_are_passed_over.Goals as goal
 
+pub returns-clause-rows : goal.returns-clause-rows
+returns-clause-rows c = in_documents
+
 pub returns-clause-text : goal.returns-clause-text
-returns-clause-text c = in_documents
+returns-clause-text c = in_texts
 
 pub returns-clause-value : goal.returns-clause-value
 returns-clause-value c = before_nodes
