@@ -1,7 +1,8 @@
 #!/bin/sh
 # Counts by callgrind the instructions of `pl_expand::expand` on hostile root files, reading them left out, and those of
 # reading with `pl_yaml::read` a plain text of the same bytes and nodes, or of as many nodes as the expansion counts; those
-# of an empty text are taken off. Then the instructions of one use of a name, beside more and more of what isn't used.
+# of an empty text are taken off. Then the instructions of one use of a name, beside more and more of what isn't used,
+# and of one turn of longer and longer loops that names an item of what the loop goes over.
 # Needs valgrind and python3 beside the kit. The program is proved before it is built: on a machine that has none of these
 # crates proved that takes an hour and more, and else some minutes. Not a part of the gate.
 set -e
@@ -62,4 +63,10 @@ for name in ("item-of", "length-of", "last-variable-of"):
         text = f"{work}/texts/{name}-{many}"
         each.append((expanding(f"{text}.uses") - expanding(f"{text}.none")) // 1_000)
     print(f"{name:18} " + " ".join(f"{one:11}" for one in each), flush=True)
+print("instructions of one turn that names an item of the parameter that the loop goes over, of so many turns:")
+each = []
+for many in (1_000, 2_000, 4_000):
+    text = f"{work}/texts/item-in-turns-of-{many}"
+    each.append((expanding(f"{text}.uses") - expanding(f"{text}.none")) // many)
+print(f"{'item-in-turns-of':18} " + " ".join(f"{one:11}" for one in each), flush=True)
 PYTHON

@@ -100,3 +100,15 @@ for many in (1_000, 2_000, 4_000):
     used(f"item-of-{many}", numbered(many), "parameters.l[0]")
     used(f"length-of-{many}", numbered(many), "length(parameters.l)")
     used(f"last-variable-of-{many}", variables, f"variables.v{many - 1}")
+
+
+def turns(name, count, expression):
+    """A loop over so many items whose body is an expression, and the same with a text for a body."""
+    declared = numbered(count) + "steps:\n- ${{ each v in parameters.l }}:\n  - "
+    write(name + ".uses", declared + f"${{{{{expression}}}}}\n")
+    write(name + ".none", declared + "a\n")
+
+
+# what one turn costs that names an item of the parameter that the loop goes over
+for many in (1_000, 2_000, 4_000):
+    turns(f"item-in-turns-of-{many}", many, "parameters.l[0]")

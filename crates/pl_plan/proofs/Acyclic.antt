@@ -29,7 +29,7 @@ no_circle n edges legs job_of order (leg ∷ rest) are topological all cycle =
     let on : IsOn job_of (leg ∷ rest) (job_of leg) = (leg, Contains-head leg rest, refl) in
     let (b, depends, also) = keeps (job_of leg) on in
     let small = (All-contains (λ edge. (edge.0 < n) × (edge.1 < n)) edges (job_of leg, b) are
-        depends).0 in
+    depends).0 in
     none_in_turn edges (IsOn job_of (leg ∷ rest)) keeps [] order
     (λ b (k, below, is). absurd (omega arith)) topological.after (job_of leg)
     ((topological.members (job_of leg)).1 small) on
