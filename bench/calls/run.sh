@@ -10,9 +10,10 @@ command -v valgrind >/dev/null || { echo "valgrind is needed: apt-get install va
 work=$(mktemp -d)
 trap 'rm -rf "$work"' EXIT
 mkdir -p "$work/crates/calls/src" "$work/texts"
-below='pl_base pl_calls pl_directives pl_eval pl_expand pl_expanding pl_expr pl_frame pl_line pl_literal pl_params pl_paths pl_printing pl_root pl_template pl_texts pl_yaml'
-for crate in $below; do cp -r "$top/crates/$crate" "$work/crates/"; done
-grep -E "^($(echo "$below" | tr ' ' '|')):" "$top/crates.txt" >"$work/crates.txt"
+for crate in $("$top/tools/below" pl_expand); do
+    cp -r "$top/crates/$crate" "$work/crates/"
+    grep "^$crate[: ]" "$top/crates.txt" >>"$work/crates.txt"
+done
 echo "calls: pl_base pl_expand" >>"$work/crates.txt"
 cp "$top/HANDLES" "$work/"
 cp "$here/calls.rt.in" "$work/crates/calls/src/main.rt"

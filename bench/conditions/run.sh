@@ -8,10 +8,10 @@ top=$(cd "$here/../.." && pwd)
 work=$(mktemp -d)
 trap 'rm -rf "$work"' EXIT
 mkdir -p "$work/crates/conditions/src"
-below='pl_base pl_texts pl_expr pl_eval pl_line pl_literal pl_printing pl_schema pl_graph pl_depends pl_uses pl_plan
-pl_yaml pl_results pl_cond'
-for crate in $below; do cp -r "$top/crates/$crate" "$work/crates/"; done
-grep -E "^($(echo "$below" | tr ' \n' '||')):" "$top/crates.txt" >"$work/crates.txt"
+for crate in $("$top/tools/below" pl_cond pl_yaml); do
+    cp -r "$top/crates/$crate" "$work/crates/"
+    grep "^$crate[: ]" "$top/crates.txt" >>"$work/crates.txt"
+done
 echo "conditions: pl_base pl_literal pl_schema pl_plan pl_yaml pl_results pl_cond" >>"$work/crates.txt"
 cp "$here/conditions.rt.in" "$work/crates/conditions/src/main.rt"
 cp "$top/HANDLES" "$work/"

@@ -7,8 +7,10 @@ top=$(cd "$here/../.." && pwd)
 work=$(mktemp -d)
 trap 'rm -rf "$work"' EXIT
 mkdir -p "$work/crates/binds/src"
-for crate in pl_base pl_expr pl_literal pl_params; do cp -r "$top/crates/$crate" "$work/crates/"; done
-grep -E '^(pl_base|pl_expr|pl_literal|pl_params):' "$top/crates.txt" >"$work/crates.txt"
+for crate in $("$top/tools/below" pl_params); do
+    cp -r "$top/crates/$crate" "$work/crates/"
+    grep "^$crate[: ]" "$top/crates.txt" >>"$work/crates.txt"
+done
 echo "binds: pl_base pl_literal pl_params" >>"$work/crates.txt"
 cp "$here/binds.rt.in" "$work/crates/binds/src/main.rt"
 cp "$top/HANDLES" "$work/"

@@ -7,10 +7,10 @@ top=$(cd "$here/../.." && pwd)
 work=$(mktemp -d)
 trap 'rm -rf "$work"' EXIT
 mkdir -p "$work/crates/plan/src"
-below='pl_base pl_expr pl_line pl_literal pl_printing pl_schema pl_graph pl_depends pl_uses pl_plan pl_report
-pl_plan_report pl_yaml'
-for crate in $below; do cp -r "$top/crates/$crate" "$work/crates/"; done
-grep -E "^($(echo "$below" | tr ' \n' '||')):" "$top/crates.txt" >"$work/crates.txt"
+for crate in $("$top/tools/below" pl_plan_report pl_yaml); do
+    cp -r "$top/crates/$crate" "$work/crates/"
+    grep "^$crate[: ]" "$top/crates.txt" >>"$work/crates.txt"
+done
 echo "plan: pl_base pl_literal pl_schema pl_plan pl_plan_report pl_yaml" >>"$work/crates.txt"
 cp "$here/plan.rt.in" "$work/crates/plan/src/main.rt"
 cp "$top/HANDLES" "$work/"

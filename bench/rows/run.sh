@@ -9,10 +9,9 @@ top=$(cd "$here/../.." && pwd)
 work=$(mktemp -d)
 trap 'rm -rf "$work"' EXIT
 mkdir -p "$work/crates/rows/src"
-crates="pl_base pl_texts pl_rules pl_zones pl_checks pl_fields pl_keeper"
-for crate in $crates; do
+for crate in $("$top/tools/below" pl_keeper); do
     cp -r "$top/crates/$crate" "$work/crates/"
-    grep -E "^$crate:" "$top/crates.txt" >>"$work/crates.txt"
+    grep "^$crate[: ]" "$top/crates.txt" >>"$work/crates.txt"
 done
 echo "rows: pl_base pl_keeper" >>"$work/crates.txt"
 cp "$here/rows.rt.in" "$work/crates/rows/src/main.rt"

@@ -7,9 +7,10 @@ top=$(cd "$here/../.." && pwd)
 work=$(mktemp -d)
 trap 'rm -rf "$work"' EXIT
 mkdir -p "$work/crates/pipeline/src"
-below='pl_base pl_expr pl_line pl_literal pl_printing pl_schema pl_yaml'
-for crate in $below; do cp -r "$top/crates/$crate" "$work/crates/"; done
-grep -E "^($(echo "$below" | tr ' ' '|')):" "$top/crates.txt" >"$work/crates.txt"
+for crate in $("$top/tools/below" pl_schema pl_yaml); do
+    cp -r "$top/crates/$crate" "$work/crates/"
+    grep "^$crate[: ]" "$top/crates.txt" >>"$work/crates.txt"
+done
 echo "pipeline: pl_base pl_literal pl_schema pl_yaml" >>"$work/crates.txt"
 cp "$here/pipeline.rt.in" "$work/crates/pipeline/src/main.rt"
 cp "$top/HANDLES" "$work/"

@@ -12,12 +12,12 @@ here=$(cd "$(dirname "$0")" && pwd)
 top=$(cd "$here/../.." && pwd)
 work=$(mktemp -d)
 trap 'rm -rf "$work"' EXIT
-# builds a program: its name, its source, its libraries, and all crates below it
+# builds a program: its name, its source and its libraries
 build() {
     mkdir -p "$work/$1/crates/$1/src"
     cp "$2" "$work/$1/crates/$1/src/main.rt"
     cp "$top/HANDLES" "$work/$1/"
-    for crate in $4; do
+    for crate in $("$top/tools/below" $3); do
         mkdir "$work/$1/crates/$crate"
         for part in src specs proofs; do
             [ -d "$top/crates/$crate/$part" ] && cp -r "$top/crates/$crate/$part" "$work/$1/crates/$crate/"
@@ -31,8 +31,8 @@ if [ $# -eq 2 ]; then
     read=$1
     evaluate=$2
 else
-    build yaml_read "$here/../yaml/read.rt.in" 'pl_base pl_yaml' 'pl_base pl_line pl_printing pl_yaml'
-    build evaluate "$here/evaluate.rt.in" 'pl_base pl_expr pl_frame' 'pl_base pl_texts pl_expr pl_eval pl_literal pl_params pl_frame'
+    build yaml_read "$here/../yaml/read.rt.in" 'pl_base pl_yaml'
+    build evaluate "$here/evaluate.rt.in" 'pl_base pl_expr pl_frame'
     read=$work/yaml_read/crates/yaml_read/out/yaml_read
     evaluate=$work/evaluate/crates/evaluate/out/evaluate
 fi

@@ -7,8 +7,10 @@ top=$(cd "$here/../.." && pwd)
 work=$(mktemp -d)
 trap 'rm -rf "$work"' EXIT
 mkdir -p "$work/crates/forms/src"
-for crate in pl_base pl_texts pl_template; do cp -r "$top/crates/$crate" "$work/crates/"; done
-grep -E '^(pl_base|pl_texts|pl_template):' "$top/crates.txt" >"$work/crates.txt"
+for crate in $("$top/tools/below" pl_template); do
+    cp -r "$top/crates/$crate" "$work/crates/"
+    grep "^$crate[: ]" "$top/crates.txt" >>"$work/crates.txt"
+done
 echo "forms: pl_base pl_template" >>"$work/crates.txt"
 cp "$here/forms.rt.in" "$work/crates/forms/src/main.rt"
 cp "$top/HANDLES" "$work/"

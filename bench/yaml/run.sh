@@ -23,11 +23,11 @@ if [ $# -gt 0 ]; then
     ours=$(cd "$(dirname "$1")" && pwd)/$(basename "$1")
 else
     mkdir -p "$work/repository/crates/yaml_read/src"
-    for crate in pl_base pl_line pl_printing pl_yaml; do
+    for crate in $("$top/tools/below" pl_yaml); do
         mkdir "$work/repository/crates/$crate"
         (cd "$top/crates/$crate" && cp -r src specs proofs "$work/repository/crates/$crate/" 2>/dev/null) || true
     done
-    grep -E '^(pl_base|pl_line|pl_printing|pl_yaml):' "$top/crates.txt" >"$work/repository/crates.txt"
+    for crate in $("$top/tools/below" pl_yaml); do grep "^$crate[: ]" "$top/crates.txt"; done >"$work/repository/crates.txt"
     echo "yaml_read: pl_base pl_yaml" >>"$work/repository/crates.txt"
     cp "$here/read.rt.in" "$work/repository/crates/yaml_read/src/main.rt"
     cp "$top/HANDLES" "$work/repository/"
