@@ -33,12 +33,12 @@ const INPUTS: [(&str, Ending, &str); 10] = [
     (
         "%%% app refs/heads/main /ci.yml\nparameters:\n- name: who\nstep: x\nsteps: []\n",
         Ending::Refused,
-        "refused S1 app refs/heads/main /ci.yml:4:1\n",
+        "refused S1 app refs/heads/main /ci.yml:3:1\n",
     ),
     (
         "%%% app refs/heads/main /ci.yml\nparameters:\n- name: who\njobs:\n- job: A\n  dependsOn: B\n  steps: []\n",
         Ending::Refused,
-        "refused L1 app refs/heads/main /ci.yml:6:14\n",
+        "refused L1 app refs/heads/main /ci.yml:5:14\n",
     ),
     ("a: b\n", Ending::NotBundle, ""),
     ("", Ending::NotBundle, ""),
