@@ -7,7 +7,8 @@ ghost use Rattle.pl_yaml_laws.specs.PlainTexts.{PlainKeyIsItself, PlainTextIsIts
 ghost use Rattle.pl_yaml_laws.specs.SingleQuotes.{QuotedKeyIsItsText, QuotedReadsAsItsText, QuotedTextIsItsText, QuotedValueIsItsText};
 
 /// A line feed and a carriage return before a line feed end a line alike: a text spells the same, its
-/// places and its faults included, without the carriage returns that stand before line feeds.
+/// places and its faults included, without the carriage returns that stand before line feeds, unless
+/// another one then stands before a line feed.
 pub fn line_breaks_are_alike()
     ensures { LineBreaksAreAlike }
 {}
