@@ -1,5 +1,7 @@
 -- Chomping of block scalars (YAML 1.2.2, sections 8.1.1 and 8.1.2).
-use Rattle.std.specs.Prelude.{◌≡◌, ℕ, min, Bool, true, false, ◌==◌, ◌||◌, List, [], ◌∷◌, ◌++◌, length, replicate, flat_map, Option, Some, None, Ok, Err, codes, if◌then◌else◌, encode_utf8_all}
+use Rattle.std.specs.Prelude.{◌≡◌, ℕ, min, Bool, true, false, ◌==◌, ◌||◌, List, [], ◌∷◌, ◌++◌}
+use Rattle.std.specs.Prelude.{length, replicate, flat_map, Option, Some, None, Ok, Err, codes}
+use Rattle.std.specs.Prelude.{if◌then◌else◌, encode_utf8_all}
 use Rattle.std.specs.List.{list_all, last_or}
 use Rattle.pl_base.specs.declared.place.FileKey.{FileKey}
 use Rattle.pl_base.specs.declared.node.Node.{Node}
@@ -7,7 +9,8 @@ use Rattle.pl_base.specs.declared.node.NodeBody.TheVariants.{Scalar}
 use Rattle.pl_line.specs.Rows.{Row}
 use Rattle.pl_line.specs.Trees.{node_at}
 use Rattle.pl_yaml.specs.Reading.{Read}
-use Rattle.pl_yaml.specs.BlockScalars.{TextLine, is_digit, digit, content_column, lines, own_break, block}
+use Rattle.pl_yaml.specs.BlockScalars.{TextLine, is_digit, digit, content_column, lines, own_break}
+use Rattle.pl_yaml.specs.BlockScalars.{block}
 use Rattle.pl_yaml_laws.specs.Lines.{is_line, is_end}
 
 -- a header that begins at a place

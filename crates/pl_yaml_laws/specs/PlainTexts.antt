@@ -1,5 +1,6 @@
 -- Plain scalars on one line (YAML 1.2.2, sections 5.3, 7.3.3 and 9.1.2).
-use Rattle.std.specs.Prelude.{◌≡◌, ℕ, ◌+◌, Bool, true, false, ◌==◌, ◌&&◌, ◌||◌, not, List, [], ◌∷◌, ◌++◌, length, Ok, if◌then◌else◌, codes, encode_utf8_all}
+use Rattle.std.specs.Prelude.{◌≡◌, ℕ, ◌+◌, Bool, true, false, ◌==◌, ◌&&◌, ◌||◌, not, List, [], ◌∷◌}
+use Rattle.std.specs.Prelude.{◌++◌, length, Ok, if◌then◌else◌, codes, encode_utf8_all}
 use Rattle.std.specs.List.{list_any}
 use Rattle.pl_base.specs.declared.place.FileKey.{FileKey}
 use Rattle.pl_base.specs.declared.node.NodeBody.TheVariants.{Scalar}
