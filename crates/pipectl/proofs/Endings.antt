@@ -1,5 +1,6 @@
 -- How a session ends, by what was served until then.
-use Rattle.std.proofs.Common.{◌≡◌, ◌<◌, ◌≤◌, ℕ, ◌+◌, List, [], ◌∷◌, ◌++◌, length, refl, sym, ◌∙◌, ap, subst, length-append, arith}
+use Rattle.std.proofs.Common.{◌≡◌, ◌<◌, ◌≤◌, ℕ, ◌+◌, List, [], ◌∷◌, ◌++◌, length, refl, sym, ◌∙◌}
+use Rattle.std.proofs.Common.{ap, subst, length-append, arith}
 use Rattle.pl_base.specs.Counts.{one_more}
 use Rattle.pl_base.specs.Streams.{with_front, with_end}
 use Rattle.pl_wire.specs.Message.{IsPartial, IsBad}
@@ -11,9 +12,11 @@ use Rattle.pipectl.specs.declared.served.Served.{Served}
 use Rattle.pipectl.specs.declared.served.Served.TheVariants as served
 use Rattle.pipectl.specs.Acts.{Acts, Tells, refused, replies, joined}
 use Rattle.pipectl.specs.Replay.{Advances, Breaks}
-use Rattle.pipectl.specs.Session.{Point, Session, Ends, EndsTold, CountsReads, CountsWrites, taken_limit}
+use Rattle.pipectl.specs.Session.{Point, Session, Ends, EndsTold, CountsReads, CountsWrites}
+use Rattle.pipectl.specs.Session.{taken_limit}
 use Rattle.pipectl.specs.Told.{SameWriting, Writes, Begun, IsAtEnd}
-use Rattle.pipectl.proofs.Sessions.{append-nil, with_front-nil, with_end-append, stays, goes_on, breaks_off, breaks_here, breaks_unread, reads_on, bad_cut}
+use Rattle.pipectl.proofs.Sessions.{append-nil, with_front-nil, with_end-append, stays, goes_on}
+use Rattle.pipectl.proofs.Sessions.{breaks_off, breaks_here, breaks_unread, reads_on, bad_cut}
 
 -- what was served so far: the bytes that were taken, and what they led to, without a fault
 pub record Serving (old new : Point) (buffer : List ℕ) (taken : ℕ) : Type 0 where
@@ -154,7 +157,8 @@ pub ends_spent : (a c : Point) (rest : List ℕ) (taken : ℕ)
 ends_spent a c rest taken s partial reached =
     let all : length s.read ≡ taken_limit = omega (arith, s.taken_is, s.within, reached) in
     written_whole a c s.read rest served.Spent s.advances
-    (within_limit s.read taken s.taken_is s.within) (partial, all, refl) tt s.read_faults s.write_faults
+    (within_limit s.read taken s.taken_is s.within) (partial, all, refl) tt s.read_faults
+    s.write_faults
 
 -- a read failed
 pub ends_failed : (a c d : Point) (rest : List ℕ) (taken : ℕ)
@@ -227,7 +231,8 @@ pub write_broke : (a c d : Point) (rest : List ℕ) (taken : ℕ)
     → d.link.write_faults ≡ one_more c.link.write_faults → Session a d served.WriteFault
 write_broke a c d rest taken s x reads writes =
     let all = serving_breaks a c d rest taken s x in
-    cut_short a d s.read served.WriteFault all (within_limit s.read taken s.taken_is s.within) all.cut
+    cut_short a d s.read served.WriteFault all (within_limit s.read taken s.taken_is s.within)
+    all.cut
     tt (reads ∙ s.read_faults) (writes ∙ ap one_more s.write_faults)
 
 pub memory_broke : (a c d : Point) (rest : List ℕ) (taken : ℕ)

@@ -1,5 +1,6 @@
 -- How the parts of a session follow one another.
-use Rattle.std.proofs.Common.{◌≡◌, ℕ, List, [], ◌∷◌, ◌++◌, Option, Some, None, refl, sym, ◌∙◌, ap, subst, inl, inr, append_assoc, ◌⊎◌, Result, Ok, Err, OnOk, take, drop}
+use Rattle.std.proofs.Common.{◌≡◌, ℕ, List, [], ◌∷◌, ◌++◌, Option, Some, None, refl, sym, ◌∙◌, ap}
+use Rattle.std.proofs.Common.{subst, inl, inr, append_assoc, ◌⊎◌, Result, Ok, Err, OnOk, take, drop}
 use Rattle.std.proofs.lemmas.List.{take-append-drop}
 use Rattle.pl_base.specs.Streams.{with_front, with_end, after_next}
 use Rattle.pl_wire.specs.Message.{IsMessage, IsBad}
@@ -7,7 +8,8 @@ use Rattle.pl_heads.specs.declared.fault.HttpFault.{HttpFault}
 use Rattle.pl_wire.specs.declared.message.Message.{Message}
 use Rattle.pipectl.specs.declared.served.Broken.{Broken}
 use Rattle.pipectl.specs.declared.served.Broken.TheVariants as broken
-use Rattle.pipectl.specs.Acts.{Parts, Turn, messages_of, Act, Acts, Tells, sent, refused, replies, joined}
+use Rattle.pipectl.specs.Acts.{Parts, Turn, messages_of, Act, Acts, Tells, sent, refused, replies}
+use Rattle.pipectl.specs.Acts.{joined}
 use Rattle.pipectl.specs.Messages.{Spelled}
 use Rattle.pipectl.specs.Replay.{Advances, Breaks, Answers, OnlyWrites, Sends}
 use Rattle.pipectl.specs.Session.{Point, IsCut}

@@ -1,5 +1,6 @@
 -- How a session over whole messages ends.
-use Rattle.std.proofs.Common.{◌≡◌, ℕ, ◌<◌, List, [], ◌∷◌, ◌++◌, length, refl, sym, ◌∙◌, ap, subst, arith, length-append, Option, Some, None}
+use Rattle.std.proofs.Common.{◌≡◌, ℕ, ◌<◌, List, [], ◌∷◌, ◌++◌, length, refl, sym, ◌∙◌, ap, subst}
+use Rattle.std.proofs.Common.{arith, length-append, Option, Some, None}
 use Rattle.std.specs.Prelude.{IfSome}
 use Rattle.std.proofs.Math.Seq.{take-nil}
 use Rattle.pl_base.specs.Streams.{with_front}
@@ -47,7 +48,8 @@ all_read read bytes (Some rest) is end = let all : bytes ≡ read ++ rest = cc i
     r. read ++ r) end ∙ append-nil read))
 
 none_first : NoneFirst []
-none_first len message is = nothing_none message (subst (λ b. IsMessage b message) (take-nil len) is)
+none_first len message is = nothing_none message (subst (λ b. IsMessage b message) (take-nil len)
+    is)
 
 no_rest : OneReading → (bytes rest : List ℕ) (messages others : List Message)
     → Spelled bytes messages [] → Spelled bytes others rest → NoneFirst rest → [] ≡ rest
@@ -62,7 +64,9 @@ not_cut one bytes read rest messages others whole all spelled partial some =
     others rest) all spelled) (partial_none rest partial) in
     omega (arith, some, ap length none)
 
-not_bad : OneReading → (bytes read rest more : List ℕ) (messages others : List Message) (fault : HttpFault)
+not_bad :
+    OneReading →
+    (bytes read rest more : List ℕ) (messages others : List Message) (fault : HttpFault)
     → Spelled bytes messages [] → bytes ≡ read ++ more → Spelled read others rest
     → IsBad rest fault → ⊥
 not_bad one bytes read rest more messages others fault whole all spelled bad =

@@ -37,7 +37,8 @@ abbrev pub call_at : ℕ → Digest → Request → Call
 call_at moment caller request = record { moment = moment; caller = caller; request = request }
 
 -- The answer is the step's reply, and the state the step's; or memory was wanting, and the desk is
--- as before. A message that is no request gets the reply of its fault, and leaves the desk as it was.
+-- as before. A message that is no request gets the reply of its fault, and leaves the desk as it
+-- was.
 abbrev pub Act : Parts → ℕ → Message → Answer → Parts → Type 0
 Act old moment (Ask caller request) (Reply reply) new =
     (reply ≡ reply_of old.seen (call_at moment caller request))

@@ -11,7 +11,8 @@ use Rattle.pl_wire.specs.Message.{IsPartial, IsBad}
 use Rattle.pipectl.specs.declared.alone.Alone.{Alone}
 use Rattle.pipectl.specs.declared.served.Served.{Served}
 use Rattle.pipectl.specs.declared.served.Served.TheVariants as served
-use Rattle.pipectl.specs.Acts.{Parts, parts, Turn, messages_of, Acts, Tells, refused, replies, joined}
+use Rattle.pipectl.specs.Acts.{Parts, parts, Turn, messages_of, Acts, Tells, refused, replies}
+use Rattle.pipectl.specs.Acts.{joined}
 use Rattle.pipectl.specs.Messages.{Spelled}
 use Rattle.pipectl.specs.Told.{Told, told, IsAtEnd}
 

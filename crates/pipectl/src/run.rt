@@ -2,7 +2,8 @@
 
 ghost use Rattle.std.specs.Prelude.{◌≡◌, ◌↔◌, None, map, string_bytes};
 ghost use Rattle.pipectl.specs.Outfit.{outside};
-ghost use Rattle.pipectl.specs.Run.{Compiles, Replays, ShowsUsage, Runs, ReadsCounted, WritesCounted};
+ghost use Rattle.pipectl.specs.Run.{Compiles, Replays, ShowsUsage, Runs, ReadsCounted};
+ghost use Rattle.pipectl.specs.Run.{WritesCounted};
 ghost use Rattle.pipectl.specs.Statuses.{compile_status, status_of};
 ghost use Rattle.pipectl.specs.Told.{IsAtEnd};
 ghost use Rattle.pl_words.specs.Words.{command_of};
@@ -22,14 +23,13 @@ use std::alloc::Global;
 const USAGE: &[u8] = b"usage: pipectl replay, serve, compile or rehearse\n";
 
 /// Runs the command that the words are.
-///
-/// `replay --admin HEX` answers the messages of the source on the sink, as one session of a service
-/// whose admin's token has the SHA-256 digest HEX: 0 where the source was read to its end between
-/// messages, 9 where it ended inside a message or isn't messages, 10 where 67,108,864 bytes were
-/// taken, 1 and 3 where a read or a write failed, 6 where memory was wanting. `compile`, with as many
-/// `--param NAME=TEXT` as wanted, writes what the bundle of the source compiles to: 0 where that is
-/// the text of the expanded tree, 8 where it is the line of a refusal, 9 where the source holds no
-/// bundle; 10, 1, 3 and 6 as before. Other words are a usage line and 2.
+///  `replay --admin HEX` answers the messages of the source on the sink, as one session of a
+/// service whose admin's token has the SHA-256 digest HEX: 0 where the source was read to its end
+/// between messages, 9 where it ended inside a message or isn't messages, 10 where 67,108,864 bytes
+/// were taken, 1 and 3 where a read or a write failed, 6 where memory was wanting. `compile`, with
+/// as many `--param NAME=TEXT` as wanted, writes what the bundle of the source compiles to: 0 where
+/// that is the text of the expanded tree, 8 where it is the line of a refusal, 9 where the source
+/// holds no bundle; 10, 1, 3 and 6 as before. Other words are a usage line and 2.
 pub fn run<O: Outfit>(alloc: Global, words: &[String], outfit: &mut O) -> Status
     ensures usage { (result ≡ Status.Usage)
         ↔ (command_of (map (λ word. string_bytes word) words.now) ≡ None) }

@@ -1,11 +1,13 @@
 //! The parts of serving a link: reading, answering and writing.
 
-ghost use Rattle.std.specs.Prelude.{◌≡◌, ◌++◌, ◌-◌, ℕ, List, length, min, OnOk, OnErr, IfOk, MatchOption};
+ghost use Rattle.std.specs.Prelude.{◌≡◌, ◌++◌, ◌-◌, ℕ, List, length, min, OnOk, OnErr, IfOk};
+ghost use Rattle.std.specs.Prelude.{MatchOption};
 ghost use Rattle.pl_base.specs.Counts.{one_more};
 ghost use Rattle.pl_wire.specs.Message.{IsMessage, IsPartial, IsBad};
 ghost use Rattle.pl_wire.specs.Waiting.{Awaits};
 ghost use Rattle.pipectl.specs.Acts.{sent, refused};
-ghost use Rattle.pipectl.specs.Replay.{Answers, CountsUnread, EndsAtNone, OnlyWrites, ReadsPiece, Sends};
+ghost use Rattle.pipectl.specs.Replay.{Answers, CountsUnread, EndsAtNone, OnlyWrites, ReadsPiece};
+ghost use Rattle.pipectl.specs.Replay.{Sends};
 ghost use Rattle.pipectl.specs.Session.{point, taken_limit};
 ghost use Rattle.pipectl.specs.Told.{told, Begun, SameWriting, Writes};
 

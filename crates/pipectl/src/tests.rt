@@ -65,7 +65,11 @@ impl Outfit for InMemory {
 
     type Time = MemClock;
 
-    ghost view = { λ outfit. record { ends = outfit.ends; coming = Some (λ call. min (min outfit.first 4102444799 + call) 4102444799) } };
+    ghost view = { λ outfit. record {
+      ends = outfit.ends;
+      coming =
+          Some (λ call. min (min outfit.first 4102444799 + call) 4102444799);
+    } };
 
     ghost with_ends = { λ outfit ends. record outfit { ends = ends } };
 
@@ -228,8 +232,8 @@ fn refusal_between(alloc: Global, line: &str, rule: &str, last: &[u8]) -> Result
     Ok(all)
 }
 
-/// Whether `replay` answers a text and then bytes by two replies, ends with this status, and goes on
-/// to a draw behind them exactly where it ends well.
+/// Whether `replay` answers a text and then bytes by two replies, ends with this status, and goes
+/// on to a draw behind them exactly where it ends well.
 fn answers(
     alloc: Global,
     bytes: &[u8],
@@ -432,7 +436,8 @@ fn a_sink_may_take_one_byte_at_a_time(rt: HostRuntime) -> Result<(), Fail> {
     Ok(())
 }
 
-/// A stream whose first calls a signal interrupts. Then it is at its end, and takes all that is written.
+/// A stream whose first calls a signal interrupts. Then it is at its end, and takes all that is
+/// written.
 #[derive(Drop)]
 struct Interrupted {
     times: u32,

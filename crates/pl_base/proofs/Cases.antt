@@ -5,7 +5,8 @@ use Rattle.std.proofs.lemmas.Str.Ascii.{lowercase-uppercase}
 use Rattle.std.specs.Char.{to_ascii_uppercase, to_ascii_lowercase}
 use Rattle.pl_base.specs.Folding.{folded}
 
-lower_of_folded : (text : List ℕ) → map to_ascii_lowercase (folded text) ≡ map to_ascii_lowercase text
+lower_of_folded :
+    (text : List ℕ) → map to_ascii_lowercase (folded text) ≡ map to_ascii_lowercase text
 lower_of_folded [] = refl
 lower_of_folded (byte ∷ text) = λ i. lowercase-uppercase byte i ∷ lower_of_folded text i
 
@@ -16,7 +17,9 @@ folded_of_lower : (text : List ℕ) → folded (map to_ascii_lowercase text) ≡
 folded_of_lower [] = refl
 folded_of_lower (byte ∷ text) = λ i. upper_of_lower byte i ∷ folded_of_lower text i
 
-pub alike : (left right : List ℕ) → (map to_ascii_lowercase left ≡ map to_ascii_lowercase right) ↔ (folded left ≡ folded right)
+pub alike :
+    (left right : List ℕ) →
+    (map to_ascii_lowercase left ≡ map to_ascii_lowercase right) ↔ (folded left ≡ folded right)
 alike left right = (
   (λ same. sym (folded_of_lower left) ∙ ap folded same ∙ folded_of_lower right),
   (λ same. sym (lower_of_folded left) ∙ ap (map to_ascii_lowercase) same ∙ lower_of_folded right),

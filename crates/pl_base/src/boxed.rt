@@ -4,7 +4,8 @@ use crate::memory::Memory;
 use std::alloc::Global;
 use std::marker::Model;
 
-/// A value on the heap, which contracts see as that value: so a tree that is built with it is plain data.
+/// A value on the heap, which contracts see as that value: so a tree that is built with it is plain
+/// data.
 #[derive(Debug, Drop)]
 pub struct Boxed<T> {
     place: Box<T>,

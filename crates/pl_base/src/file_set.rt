@@ -38,8 +38,8 @@ impl FileSet {
         }
     }
 
-    /// Puts a file's text at its key, in the place of the text that is there. After Memory the files
-    /// are as before, and the text is dropped.
+    /// Puts a file's text at its key, in the place of the text that is there. After Memory the
+    /// files are as before, and the text is dropped.
     pub fn put(&mut self, key: FileKey, text: Bytes) -> Result<(), Memory>
         ensures ok { OnOk result (self.new ≡ map.insert self.old key text) }
         ensures err { OnErr result (self.new ≡ self.old) }

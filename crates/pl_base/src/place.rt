@@ -16,8 +16,8 @@ pub struct FileKey {
     pub path: Text,
 }
 
-/// A place in a file: its line and its column, both from 1. Columns count Unicode scalar values. The
-/// places of one file share its key.
+/// A place in a file: its line and its column, both from 1. Columns count Unicode scalar values.
+/// The places of one file share its key.
 #[derive(Debug, Drop, PartialEq, Eq)]
 pub struct Place {
     pub file: Shared<FileKey>,

@@ -3,7 +3,8 @@ use crate::memory::Memory;
 use crate::text::Text;
 use std::alloc::Global;
 
-/// What kind of resource a stage can use (Microsoft Learn, Azure Pipelines, "Approvals and checks").
+/// What kind of resource a stage can use (Microsoft Learn, Azure Pipelines, "Approvals and
+/// checks").
 #[derive(Clone, Copy, Debug, PartialEq, Eq, PartialOrd, Ord)]
 pub enum Kind {
     Environment,

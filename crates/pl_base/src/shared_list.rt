@@ -65,7 +65,8 @@ impl<T: Drop> SharedList<T> {
 
 /// Puts a chain's items behind the last one.
 fn put_all<'a, T>(chain: &'a Chain<T>, items: &mut Vec<&'a T>) -> Result<(), Memory>
-    ensures { OnOk result (map (λ item. item.now) items.new.items ≡ map (λ item. item.now) items.old.items ++ in_order chain.now) }
+    ensures { OnOk result (map (λ item. item.now) items.new.items ≡
+        map (λ item. item.now) items.old.items ++ in_order chain.now) }
 {
     if let Chain::Then(before, last) = chain {
         put_all(before, items)?;

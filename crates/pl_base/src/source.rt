@@ -1,4 +1,5 @@
-ghost use Rattle.std.specs.Prelude.{◌≡◌, ◌<◌, ◌≤◌, ℕ, Bool, List, Option, IsTrue, length, take, IfOk, OnOk, OnErr, IfSome, []};
+ghost use Rattle.std.specs.Prelude.{◌≡◌, ◌<◌, ◌≤◌, ℕ, Bool, List, Option, IsTrue, length, take};
+ghost use Rattle.std.specs.Prelude.{IfOk, OnOk, OnErr, IfSome, []};
 ghost use Rattle.pl_base.specs.Counts.{one_more};
 ghost use Rattle.pl_base.specs.Streams.{with_front};
 
@@ -19,8 +20,11 @@ pub trait Source {
     /// empty is the end. Failed leaves the bytes as they were. Only the end is told as the end.
     fn read(&mut self, into: &mut [u8]) -> Result<usize, Failed>
         ensures within { IfOk result (λ count. count ≤ length into.old) }
-        ensures bytes { IfOk result (λ count. left self.old ≡ with_front (take count into.new) (left self.new)) }
-        ensures end { 0 < length into.old → IfOk result (λ count. count ≡ 0 → IsTrue (ended self.new) × IfSome (left self.new) (λ rest. rest ≡ [])) }
+        ensures bytes { IfOk result (λ count. left self.old ≡ with_front (take count into.new)
+            (left self.new)) }
+        ensures end { 0 < length into.old →
+            IfOk result (λ count. count ≡ 0 → IsTrue (ended self.new) ×
+            IfSome (left self.new) (λ rest. rest ≡ [])) }
         ensures quiet { OnOk result (faults self.new ≡ faults self.old) }
         ensures failed { OnErr result (faults self.new ≡ one_more (faults self.old)) }
         ensures running { IfOk result (λ count. 0 < count → ended self.new ≡ ended self.old) }

@@ -1,4 +1,5 @@
-ghost use Rattle.std.specs.Prelude.{◌≡◌, ◌++◌, [], true, nat_eq, length, string_bytes, ◌↔◌, IsTrue, IfOk, OnOk, OnErr};
+ghost use Rattle.std.specs.Prelude.{◌≡◌, ◌++◌, [], true, nat_eq, length, string_bytes, ◌↔◌, IsTrue};
+ghost use Rattle.std.specs.Prelude.{IfOk, OnOk, OnErr};
 ghost use Rattle.std.specs.Str.{is_utf8};
 ghost use Rattle.std.specs.Ordering.{nat_cmp, as_partial_cmp};
 ghost use Rattle.std.specs.Cmp.{partial_order_from_own_ties};
@@ -14,8 +15,8 @@ use std::fmt;
 use std::marker::Model;
 use std::sync::Arc;
 
-/// UTF-8 text, which contracts see as the list of its bytes. Copies of a text that is shared keep its
-/// characters in one place.
+/// UTF-8 text, which contracts see as the list of its bytes. Copies of a text that is shared keep
+/// its characters in one place.
 #[derive(Drop)]
 pub struct Text {
     kept: Kept,
@@ -166,7 +167,8 @@ impl Eq for Text {
 impl PartialOrd for Text {
     ghost partial_cmp = { as_partial_cmp (slice_cmp nat_cmp) };
 
-    ghost laws = { partial_order_from_own_ties (Prim.search (comparing, rules)) (Prim.search (comparing, rules)) };
+    ghost laws = { partial_order_from_own_ties (Prim.search (comparing, rules))
+        (Prim.search (comparing, rules)) };
 
     fn partial_cmp(&self, other: &Text) -> Option<Ordering> {
         Some(self.cmp(other))

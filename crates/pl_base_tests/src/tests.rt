@@ -45,8 +45,8 @@ fn of_argument(alloc: Global, line: u32) -> Result<Crossing, Memory> {
     Ok(Crossing::Argument(Text::from_str(alloc, "size")?, place(alloc, line, 9)?))
 }
 
-// Lists of crossings, each one longer. Each function holds two of them at most: with more of them alive the proof takes
-// minutes.
+// Lists of crossings, each one longer. Each function holds two of them at most: with more of them
+// alive the proof takes minutes.
 fn extended(alloc: Global) -> Result<SharedList<Crossing>, Memory> {
     let none = SharedList::new(alloc)?;
     none.with(alloc, extends(alloc)?)
@@ -279,7 +279,8 @@ fn is_left(alloc: Global, text: &Text, more: &str, both: &str) -> Result<bool, M
     Ok(grown.as_str() == both && text.len() == before)
 }
 
-/// A shared text and its copies are equal, and what is added to one of them doesn't show in another.
+/// A shared text and its copies are equal, and what is added to one of them doesn't show in
+/// another.
 #[test]
 fn shared_texts_are_texts_of_their_own(rt: HostRuntime) -> Result<(), Fail> {
     let alloc = rt.alloc();
@@ -574,8 +575,8 @@ fn a_source_and_a_sink_are_a_link(rt: HostRuntime) -> Result<(), Fail> {
     Ok(())
 }
 
-/// What a node of a template costs, beside its text and its items: the places of a file share its key, and crossings
-/// that begin alike share these.
+/// What a node of a template costs, beside its text and its items: the places of a file share its
+/// key, and crossings that begin alike share these.
 #[test]
 fn a_marked_node_takes_64_bytes(rt: HostRuntime) -> Result<(), Fail> {
     assert_eq!(rt; size_of::<Place>(), 16);

@@ -9,7 +9,8 @@ use Rattle.pl_base.specs.declared.place.FileKey.{FileKey}
 use Rattle.pl_bundle.specs.Bundles.{Texts, is_readable, of_files}
 use Rattle.pl_bundle.specs.Bundles.{of_read, placed, readable_key}
 
-there : (found : Option (Bor (List ℕ))) → is_some found ≡ true → is_none (option_copied found) ≡ false
+there :
+    (found : Option (Bor (List ℕ))) → is_some found ≡ true → is_none (option_copied found) ≡ false
 there None some = absurd (grind (arith, some))
 there (Some text) some = refl
 

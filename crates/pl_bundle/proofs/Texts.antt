@@ -1,5 +1,6 @@
 -- Whether bytes are a text, and how many parts a line has.
-use Rattle.std.proofs.Common.{inl, inr, ◌≡◌, ◌<◌, ℕ, List, Some, None, true, length, refl, ap, sym, arith}
+use Rattle.std.proofs.Common.{inl, inr, ◌≡◌, ◌<◌, ℕ, List, Some, None, true, length, refl, ap, sym}
+use Rattle.std.proofs.Common.{arith}
 use Rattle.std.specs.Prelude.{◌∷◌, [], codes, nat_eq, if◌then◌else◌}
 use Rattle.std.specs.Cmp.Lexicographic.{pointwise}
 use Rattle.std.specs.List.{slice_split}

@@ -35,8 +35,8 @@ pub record CanStand (file : FileKey × List ℕ) : Type 0 where
   pub text_is : file.1 ≡ flat_map with_feed lines
   pub plain : All IsPlain lines
 
--- What is written of files that can stand in a bundle is read as these files: they are a bundle where
--- each key keeps the rules, and no other file has it.
+-- What is written of files that can stand in a bundle is read as these files: they are a bundle
+-- where each key keeps the rules, and no other file has it.
 abbrev pub WrittenIsRead : Type 0
 WrittenIsRead =
     (files : List (FileKey × List ℕ)) → All CanStand files →

@@ -1,4 +1,5 @@
-ghost use Rattle.std.specs.Prelude.{◌≡◌, ◌∷◌, ◌++◌, ◌<◌, ◌≤◌, [], length, take, drop, None, Some, IfOk};
+ghost use Rattle.std.specs.Prelude.{◌≡◌, ◌∷◌, ◌++◌, ◌<◌, ◌≤◌, [], length, take, drop, None, Some};
+ghost use Rattle.std.specs.Prelude.{IfOk};
 ghost use Rattle.std.specs.Prelude.{MatchOption, if◌then◌else◌};
 ghost use Rattle.pl_bundle.specs.Bundles.{bundle_of, files_in, lines_of, placed};
 ghost use Rattle.pl_bundle.specs.Bundles.{of_files, readable_key};
@@ -69,8 +70,8 @@ fn take_file<'a>(
     }
 }
 
-/// Puts a file whose key keeps the rules, and gives what stands behind it, or None where its key has
-/// a file.
+/// Puts a file whose key keeps the rules, and gives what stands behind it, or None where its key
+/// has a file.
 fn place<'a>(
     alloc: Global,
     key: FileKey,
@@ -123,9 +124,9 @@ fn of_files(alloc: Global, bytes: &[u8], opened: &Opened<'_>) -> Result<Option<B
     }
 }
 
-/// The bundle that bytes hold, read in one pass: files in one text, each behind a line
-/// `%%% REPO REF PATH` whose parts are parted by single spaces, the root file first. A file's text is
-/// the lines up to the next such line, byte for byte. None where the bytes are no bundle: something
+/// The bundle that bytes hold, read in one pass: files in one text, each behind a line `%%% REPO
+/// REF PATH` whose parts are parted by single spaces, the root file first. A file's text is the
+/// lines up to the next such line, byte for byte. None where the bytes are no bundle: something
 /// stands before the first such line, there is none, a key isn't UTF-8 or breaks the rules of
 /// repositories, refs and paths, or two files have one key. Memory where memory is wanting.
 pub fn bundle_of(alloc: Global, bytes: &[u8]) -> Result<Option<Bundle>, Memory>

@@ -1,6 +1,8 @@
 -- Outputs under their keys.
-use Rattle.std.proofs.Common.{◌≡◌, ℕ, zero, suc, ◌+◌, ◌<◌, ◌≤◌, ◌⊎◌, inl, inr, Bool, true, false, cond}
-use Rattle.std.proofs.Common.{Option, Some, None, List, [], ◌∷◌, ◌++◌, length, take, drop, get_or, map}
+use Rattle.std.proofs.Common.{◌≡◌, ℕ, zero, suc, ◌+◌, ◌<◌, ◌≤◌, ◌⊎◌, inl, inr, Bool, true, false}
+use Rattle.std.proofs.Common.{cond}
+use Rattle.std.proofs.Common.{Option, Some, None, List, [], ◌∷◌, ◌++◌, length, take, drop, get_or}
+use Rattle.std.proofs.Common.{map}
 use Rattle.std.proofs.Common.{refl, ap, sym, ◌∙◌, arith}
 use Rattle.std.specs.Prelude.{find, flat_map, nat_eq, ◌&&◌, unwrap_or}
 use Rattle.std.specs.Option.{option_map, option_or, option_map_or}
@@ -77,9 +79,11 @@ pub no_output_behind : (leg : Leg) (key : List ℕ) → None ≡ behind leg.pref
     None ≡ output_in leg key
 no_output_behind leg key none =
     sym (ap (option_map (λ (output : List ℕ × List ℕ). output.1))
-    (find_alike (λ (output : List ℕ × List ℕ). same_name key (leg.prefix ++ output.0)) (λ (output : List ℕ × List ℕ). false)
+    (find_alike (λ (output : List ℕ × List ℕ). same_name key (leg.prefix ++ output.0))
+    (λ (output : List ℕ × List ℕ). false)
     (in_order leg.outputs)
-    (λ (output : List ℕ × List ℕ). same_behind leg.prefix key output.0 ∙ ap (λ o. same_if o output.0) (sym none))
+    (λ (output : List ℕ × List ℕ). same_behind leg.prefix key output.0 ∙
+    ap (λ o. same_if o output.0) (sym none))
     ∙ find_nothing (in_order leg.outputs)))
 
 -- ---- the test for a prefix
@@ -137,7 +141,8 @@ property_append (x ∷ xs) ys key = by (same_name key x.key) (property_append xs
         option_map (λ (pair : MarkedPair). pair.item)
         (cond b (Some x) (find (λ (pair : MarkedPair). same_name key pair.key) (xs ++ ys))) ≡
         option_or (option_map (λ (pair : MarkedPair). pair.item)
-        (cond b (Some x) (find (λ (pair : MarkedPair). same_name key pair.key) xs))) (property ys key)
+        (cond b (Some x) (find (λ (pair : MarkedPair). same_name key pair.key) xs)))
+        (property ys key)
     by true later = refl
     by false later = later
 

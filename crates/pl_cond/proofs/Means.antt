@@ -15,7 +15,8 @@ use Rattle.pl_expr.specs.declared.expr.Function.TheVariants as call
 use Rattle.pl_eval.specs.Known.{Known}
 use Rattle.pl_eval.specs.LookUps.{looked_up}
 use Rattle.pl_eval.specs.Means.{Meaning, called, truth, up_to, values}
-use Rattle.pl_eval.specs.Statuses.{results, results_named, status_of, was_run, went_well, went_wrong}
+use Rattle.pl_eval.specs.Statuses.{results, results_named, status_of, was_run, went_well}
+use Rattle.pl_eval.specs.Statuses.{went_wrong}
 use Rattle.pl_reading.specs.Steps.{◌>>=◌}
 use Rattle.pl_cond.specs.Paths.{along}
 

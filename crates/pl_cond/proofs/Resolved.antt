@@ -1,5 +1,6 @@
 -- Expressions with the values of names in their place.
-use Rattle.std.proofs.Common.{◌≡◌, ℕ, false, Option, Some, None, List, [], ◌∷◌, ◌++◌, map, refl, ap, ap₂}
+use Rattle.std.proofs.Common.{◌≡◌, ℕ, false, Option, Some, None, List, [], ◌∷◌, ◌++◌, map, refl, ap}
+use Rattle.std.proofs.Common.{ap₂}
 use Rattle.std.proofs.Common.{subst, sym, ◌∙◌, rules}
 use Rattle.std.specs.Prelude.{MatchOption, Ok, Err, ⊤}
 use Rattle.std.specs.FinMap as finite

@@ -30,7 +30,8 @@ use Rattle.pl_cond.specs.Paths.{LeadsTo, along, inside, path_means}
 
 -- the roots are three, or two where the second one isn't there; only a name that no other root has
 -- is looked up behind the first
-looked_up : (here : Origin) (first : Value) (second : Option Value) (third : Value) (name : List ℕ) →
+looked_up :
+    (here : Origin) (first : Value) (second : Option Value) (third : Value) (name : List ℕ) →
     finite.find text_cmp (folded name) (
     (codes "DEPENDENCIES", made here first)
     ∷ root_if here (codes "STAGEDEPENDENCIES") second
@@ -100,9 +101,11 @@ Finds plan view node variables here root names value = MatchOption value
     (names ≡ [] → root_of (known_at plan view node variables) root ≡ None)
     (λ found. path_means (known_at plan view node variables) here root names ≡ answer here found)
 
-module _ (plan : Plan) (view : RunView) (node : PlanNode) (variables : List Variable) (root : List ℕ)
+module _ (plan : Plan) (view : RunView) (node : PlanNode) (variables : List Variable)
+    (root : List ℕ)
     (names : List (List ℕ)) where
-  from_root : (o : Option MarkedNode) (m : Meaning) → root_of (known_at plan view node variables) root
+  from_root :
+      (o : Option MarkedNode) (m : Meaning) → root_of (known_at plan view node variables) root
       ≡ o → along (here_in plan) (rooted o) names ≡ m →
       path_means (known_at plan view node variables) (here_in plan) root names ≡ m
   from_root o m is rest = ap (λ o. along (here_in plan) (rooted o) names) is ∙ rest
@@ -153,9 +156,11 @@ module _ (plan : Plan) (view : RunView) (node : PlanNode) (variables : List Vari
       LeadsTo here (stage_dependencies_at here plan view node) names value →
       Finds plan view node variables here root names value
   at_stage_dependencies here value is other same =
-      let P : Origin → Type 0 = λ h. LeadsTo h (stage_dependencies_at h plan view node) names value →
+      let P : Origin → Type 0 = λ h. LeadsTo h (stage_dependencies_at h plan view node) names
+      value →
       Finds plan view node variables h root names value in
-      subst P (sym is) (λ found. stage_by (stage_dependencies_at (here_in plan) plan view node) value
+      subst P (sym is) (λ found. stage_by (stage_dependencies_at (here_in plan) plan view node)
+      value
       (sym (behind (second_is (here_in plan) (stage_dependencies_at (here_in plan) plan view node)
       (variables_value (here_in plan) variables) root) other refl)) same found)
 

@@ -1,5 +1,6 @@
 -- The last segment of a ref, and variables put one after the other.
-use Rattle.std.proofs.Common.{◌≡◌, ◌≢◌, ℕ, suc, ◌+◌, ◌<◌, ◌==◌, false, None, List, [], ◌∷◌, ◌++◌, length}
+use Rattle.std.proofs.Common.{◌≡◌, ◌≢◌, ℕ, suc, ◌+◌, ◌<◌, ◌==◌, false, None, List, [], ◌∷◌, ◌++◌}
+use Rattle.std.proofs.Common.{length}
 use Rattle.std.proofs.Common.{get_or, take, drop, lit<, fold, refl, ap, sym, ◌∙◌, inl, inr, arith}
 use Rattle.std.proofs.Common.{append_assoc, append-nil}
 use Rattle.std.proofs.lemmas.List.{at_drop_more, take-append-drop}
@@ -13,7 +14,8 @@ use Rattle.pl_cond.specs.Variables.{last_segment}
 
 -- ---- a turn of a loop
 
-pub folds_on : {S X : Type 0} (step : S → X → S) (xs : List X) (at : ℕ) (x : X) (whole old new : S) →
+pub folds_on :
+    {S X : Type 0} (step : S → X → S) (xs : List X) (at : ℕ) (x : X) (whole old new : S) →
     at < length xs → x ≡ get_or xs at x → new ≡ step old x →
     whole ≡ fold step old (drop at xs) → whole ≡ fold step new (drop (at + 1) xs)
 folds_on step xs at x whole old new within is made walked =

@@ -1,5 +1,6 @@
 -- The limits of plans: each of them has few stages, and each stage few jobs.
-use Rattle.std.proofs.Common.{◌≡◌, ℕ, zero, suc, ◌+◌, ◌-◌, ◌<◌, ◌≤◌, ◌^◌, Some, None, Option, Ok, Err}
+use Rattle.std.proofs.Common.{◌≡◌, ℕ, zero, suc, ◌+◌, ◌-◌, ◌<◌, ◌≤◌, ◌^◌, Some, None, Option, Ok}
+use Rattle.std.proofs.Common.{Err}
 use Rattle.std.proofs.Common.{List, [], ◌∷◌, ◌++◌, length, map, refl, sym, ap, subst, ◌∙◌, arith}
 use Rattle.std.specs.Prelude.{Result, flat_map, replicate, slice_get, All}
 use Rattle.std.specs.List.{AllByRecursion}
@@ -149,7 +150,8 @@ can_run pipeline plan passed made sound =
     All-from_recursion (λ (stage : PlanStage). length stage.jobs < 2 ^ 32) (stages_of pipeline)
     (wider (stages_of pipeline) (each_few pipeline find 0 256 pipeline.stages
     (all_counted pipeline.stages passed) (few_jobs pipeline.stages kept))) in
-    let P : List PlanStage → Type 0 = λ ss. All (λ (stage : PlanStage). length stage.jobs < 2 ^ 32) ss
+    let P : List PlanStage → Type 0 = λ ss. All (λ (stage : PlanStage). length stage.jobs < 2 ^ 32)
+    ss
     in record {
       sound = sound;
       stages = omega (arith, count, few);

@@ -1,5 +1,6 @@
 -- Whether a stage or a job is to run (Microsoft Learn, "Specify conditions").
-use Rattle.std.specs.Prelude.{ℕ, Bool, false, List, [], slice_get, Option, Some, None, Result, Ok, Err}
+use Rattle.std.specs.Prelude.{ℕ, Bool, false, List, [], slice_get, Option, Some, None, Result, Ok}
+use Rattle.std.specs.Prelude.{Err}
 use Rattle.std.specs.Option.{option_and_then}
 use Rattle.pl_base.specs.declared.value.MarkedNode.{MarkedNode}
 use Rattle.pl_expr.specs.Conversions.{bool_of}

@@ -1,6 +1,7 @@
 -- What the names of conditions and of `$[ ]` variables stand for (Microsoft Learn, "Expressions",
 -- Dependencies and Variables; "Specify conditions").
-use Rattle.std.specs.Prelude.{◌≡◌, ℕ, List, [], ◌∷◌, ◌++◌, map, codes, slice_get, Option, Some, None}
+use Rattle.std.specs.Prelude.{◌≡◌, ℕ, List, [], ◌∷◌, ◌++◌, map, codes, slice_get, Option, Some}
+use Rattle.std.specs.Prelude.{None}
 use Rattle.std.specs.Option.{option_map_or}
 use Rattle.std.specs.FinMap as finite
 use Rattle.pl_base.specs.declared.origin.Crossing.TheVariants.{Made}
@@ -35,7 +36,8 @@ abbrev pub stage_depends : Plan → ℕ → List ℕ
 stage_depends plan stage = option_map_or (λ one. one.depends) (slice_get plan.stages stage) []
 
 abbrev pub job_depends : Plan → ℕ → ℕ → List ℕ
-job_depends plan stage job = option_map_or (λ one. one.depends) (slice_get (jobs_of plan stage) job) []
+job_depends plan stage job = option_map_or (λ one. one.depends) (slice_get (jobs_of plan stage) job)
+    []
 
 abbrev pub root : Origin → List ℕ → Value → List ℕ × MarkedNode
 root here name value = (name, made here value)
@@ -48,7 +50,8 @@ stage_dependencies here plan view stage =
 -- in a job's they are the jobs of its stage
 abbrev pub job_dependencies : Origin → Plan → RunView → ℕ → ℕ → Value
 job_dependencies here plan view stage job = parts_value here
-    (job_parts (direct_legs (jobs_of plan stage) (views_of view stage) (job_depends plan stage job)))
+    (job_parts (direct_legs (jobs_of plan stage) (views_of view stage)
+    (job_depends plan stage job)))
 
 -- `stageDependencies`: the stages for which a job's stage waits directly, with their jobs
 abbrev pub stages_of_job : Origin → Plan → RunView → ℕ → Value

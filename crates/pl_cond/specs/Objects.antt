@@ -1,5 +1,5 @@
--- Stages, jobs and variables as values of expressions (Microsoft Learn, "Expressions", Dependencies:
--- each has `result` and `outputs`).
+-- Stages, jobs and variables as values of expressions (Microsoft Learn, "Expressions",
+-- Dependencies: each has `result` and `outputs`).
 use Rattle.std.specs.Prelude.{ℕ, List, [], ◌∷◌, ◌++◌, map, flat_map, codes, Option, Some, None}
 use Rattle.pl_base.specs.declared.origin.Origin.{Origin}
 use Rattle.pl_base.specs.declared.outcome.Outcome.{Outcome}

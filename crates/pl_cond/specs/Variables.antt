@@ -1,6 +1,8 @@
 -- The variables of a stage or of a job (Microsoft Learn, "Define variables" and "Predefined
--- variables"): those of the pipeline, of the stage, of the job and of its leg, and three of the run.
-use Rattle.std.specs.Prelude.{ℕ, List, [], ◌∷◌, ◌++◌, map, fold, codes, slice_get, Option, Some, None}
+-- variables"): those of the pipeline, of the stage, of the job and of its leg, and three of the
+-- run.
+use Rattle.std.specs.Prelude.{ℕ, List, [], ◌∷◌, ◌++◌, map, fold, codes, slice_get, Option, Some}
+use Rattle.std.specs.Prelude.{None}
 use Rattle.std.specs.Prelude.{Result, Ok, Err, ◌==◌, if◌then◌else◌}
 use Rattle.std.specs.Option.{option_map_or}
 use Rattle.pl_base.specs.declared.value.Value.{Value, Null, Str}

@@ -82,17 +82,17 @@ fn holds(alloc: Global, plan: &Plan, view: &RunView, node: PlanNode) -> Result<b
     holds_in(alloc, &context, condition_at(plan, node))
 }
 
-/// Whether a stage is to run, asked once those for which it waits have ended (Microsoft Learn, Azure
-/// Pipelines, "Specify conditions" and "Expressions").
-///
-/// `stage` is its place in the plan, and `view` how the run stands. The value of its condition counts
-/// by its cast to Boolean, and a fault in it counts as false; without a condition it is
+/// Whether a stage is to run, asked once those for which it waits have ended (Microsoft Learn,
+/// Azure Pipelines, "Specify conditions" and "Expressions").
+///  `stage` is its place in the plan, and `view` how the run stands. The value of its condition
+/// counts by its cast to Boolean, and a fault in it counts as false; without a condition it is
 /// `succeeded()`. It sees
 ///
 /// - `dependencies.N`, for the stages for which it waits directly: `result`, and `outputs`, each by
 ///   `J.step.variable` with the job's name J, by `J.leg.step.variable` for a leg, and by
 ///   `J.J.step.variable` for a deployment;
-/// - `variables`: the pipeline's and its own, a later one in the place of an earlier one of its name,
+/// - `variables`: the pipeline's and its own, a later one in the place of an earlier one of its
+///   name,
 ///   `$[ ]` evaluated in order over those before it (a fault gives Null), and at the end
 ///   `Build.SourceBranch`, `Build.SourceBranchName` and `Build.Reason`, which win;
 /// - by status functions all stages for which it waits, directly or through others; one that isn't
@@ -116,10 +116,9 @@ pub fn stage_condition(
 }
 
 /// Whether a job is to run, asked once the jobs of its stage for which it waits have ended.
-///
-/// `stage` is its stage's place in the plan and `job` its own in that stage, where each leg of a job
-/// has one. As for a stage, except that `dependencies.J` are the jobs of its stage for which it waits
-/// directly, with outputs by `step.variable`, `leg.step.variable` and, for a deployment,
+///  `stage` is its stage's place in the plan and `job` its own in that stage, where each leg of a
+/// job has one. As for a stage, except that `dependencies.J` are the jobs of its stage for which it
+/// waits directly, with outputs by `step.variable`, `leg.step.variable` and, for a deployment,
 /// `J.step.variable`; that it sees `stageDependencies.S.J` besides, for the stages S for which its
 /// stage waits directly; that its variables and its leg's stand behind the stage's; and that status
 /// functions look at jobs of its stage. A job's result is the combined one of its legs, once all of
@@ -140,10 +139,10 @@ pub fn job_condition(
 }
 
 /// The variables that a job is handed, as texts (Microsoft Learn, Azure Pipelines, "Define
-/// variables"): the pipeline's, its stage's, its own and its leg's, in this order, a later one in the
-/// place of an earlier one of its name with its own spelling. `$[ ]` is evaluated in order over those
-/// before it, in the job's contexts, and cast to text; a fault gives the empty text. The run's own
-/// variables aren't among them. Memory may come at any time, and nothing else.
+/// variables"): the pipeline's, its stage's, its own and its leg's, in this order, a later one in
+/// the place of an earlier one of its name with its own spelling. `$[ ]` is evaluated in order over
+/// those before it, in the job's contexts, and cast to text; a fault gives the empty text. The
+/// run's own variables aren't among them. Memory may come at any time, and nothing else.
 #[tactic(auto, unfolding(crate::specs::Variables::variables_of))]
 pub fn variables_of(
     alloc: Global,

@@ -1,5 +1,6 @@
 -- The plan of a text that is queued.
-use Rattle.std.specs.Prelude.{◌≡◌, ℕ, List, [], ◌∷◌, Option, Some, None, Result, Ok, Err, nat_eq, if◌then◌else◌, codes}
+use Rattle.std.specs.Prelude.{◌≡◌, ℕ, List, [], ◌∷◌, Option, Some, None, Result, Ok, Err, nat_eq}
+use Rattle.std.specs.Prelude.{if◌then◌else◌, codes}
 use Rattle.std.specs.Option.{option_and_then, option_map}
 use Rattle.std.specs.Cmp.Lexicographic.{pointwise}
 use Rattle.pl_base.specs.declared.place.FileKey.{FileKey}
@@ -17,7 +18,12 @@ use Rattle.pl_core.specs.declared.plan.TextLater.{TextLater}
 
 -- the file as which a queued text is read
 abbrev pub text_file : FileKey
-text_file = record { repo = codes "text"; git_ref = codes "refs/heads/text"; path = codes "/text.yml" }
+text_file = record {
+  repo = codes "text";
+  git_ref = codes "refs/heads/text";
+  path =
+      codes "/text.yml";
+}
 
 -- what is written in the root file crossed no border of templates
 abbrev pub written_at : Place → Origin
@@ -45,7 +51,8 @@ step_with place key key_place item_place body = None
 
 -- a step is a mapping of one key, the step's form, to a scalar
 abbrev pub step_in : Place → OpenBody → Option PlanStep
-step_in place (Map (pair ∷ [])) = step_with place pair.key pair.key_place pair.item.place (out-NodeBody pair.item.body)
+step_in place (Map (pair ∷ [])) = step_with place pair.key pair.key_place pair.item.place
+    (out-NodeBody pair.item.body)
 step_in place body = None
 
 abbrev pub step_of : Node → Option PlanStep
@@ -54,7 +61,8 @@ step_of node = step_in node.place (out-NodeBody node.body)
 -- all of them, where each item is a step
 abbrev pub steps_of : List Node → Option (List PlanStep)
 steps_of [] = Some []
-steps_of (node ∷ nodes) = option_and_then (λ step. option_map (λ steps. step ∷ steps) (steps_of nodes)) (step_of node)
+steps_of (node ∷ nodes) =
+    option_and_then (λ step. option_map (λ steps. step ∷ steps) (steps_of nodes)) (step_of node)
 
 abbrev pub steps_in : OpenBody → Option (List PlanStep)
 steps_in (Seq nodes) = steps_of nodes
@@ -70,7 +78,8 @@ plan_in body = None
 
 -- the plan of a text, where it is a step list
 abbrev pub plan_of_text : List ℕ → Option FirstPlan
-plan_of_text text = option_and_then (λ node. plan_in (out-NodeBody node.body)) (step_list text_file text)
+plan_of_text text = option_and_then (λ node. plan_in (out-NodeBody node.body))
+    (step_list text_file text)
 
 -- the plan, or that there is none
 abbrev pub PlansText : List ℕ → Result FirstPlan TextLater → Type 0

@@ -23,4 +23,9 @@ kept_or None plan = plan
 -- the state after the change, which is a run to be queued or nothing
 abbrev pub changed : Option Queued → State → State
 changed None state = state
-changed (Some queued) state = record { admin = state.admin; runs = queued.run; first = kept_or state.first queued.plan }
+changed (Some queued) state = record {
+  admin = state.admin;
+  runs = queued.run;
+  first =
+      kept_or state.first queued.plan;
+}

@@ -1,5 +1,6 @@
 -- The service so far: its state, and what a call is answered and leaves.
-use Rattle.std.specs.Prelude.{map, ℕ, ◌+◌, Bool, List, [], ◌∷◌, Option, Some, None, nat_eq, nat_lt, if◌then◌else◌, codes}
+use Rattle.std.specs.Prelude.{map, ℕ, ◌+◌, Bool, List, [], ◌∷◌, Option, Some, None, nat_eq, nat_lt}
+use Rattle.std.specs.Prelude.{if◌then◌else◌, codes}
 use Rattle.std.specs.Option.{option_map_or}
 use Rattle.std.specs.Cmp.Lexicographic.{pointwise}
 use Rattle.pl_base.specs.declared.digest.Digest.{Digest}
@@ -67,7 +68,8 @@ step_with form origin (pair ∷ []) = json.Object (
     member (codes "form") (json.Text form)
     ∷ member (codes "key") (origin_object pair.key_origin)
     ∷ member (codes "origin") (origin_object origin)
-    ∷ member (codes "step") (json.Object (member pair.key (scalar_object (out-Value pair.item.value)) ∷ [])) ∷ [])
+    ∷ member (codes "step")
+    (json.Object (member pair.key (scalar_object (out-Value pair.item.value)) ∷ [])) ∷ [])
 step_with form origin pairs = json.Null
 
 abbrev pub step_value : List ℕ → Origin → OpenValue → Json
@@ -94,12 +96,18 @@ kept None plan = Some plan
 kept (Some first) plan = Some first
 
 abbrev pub with_run : State → FirstPlan → State
-with_run state plan = record { admin = state.admin; runs = state.runs + 1; first = kept state.first plan }
+with_run state plan = record {
+  admin = state.admin;
+  runs = state.runs + 1;
+  first =
+      kept state.first plan;
+}
 
 -- the reply to a text, by its plan
 abbrev pub reply_to_plan : State → Option FirstPlan → Reply
 reply_to_plan state None = refusal 422 (codes "text.later")
-reply_to_plan state (Some plan) = if nat_lt state.runs last_run then created (state.runs + 1) else refusal 409 (codes "journal.full")
+reply_to_plan state (Some plan) = if nat_lt state.runs last_run then created (state.runs + 1)
+    else refusal 409 (codes "journal.full")
 
 abbrev pub after_plan : State → Option FirstPlan → State
 after_plan state None = state
@@ -118,7 +126,8 @@ is_admin state caller = pointwise nat_eq caller.bytes state.admin.bytes
 
 -- the step's reply: a caller who isn't the admin is unknown
 abbrev pub reply_of : State → Call → Reply
-reply_of state call = if is_admin state call.caller then reply_to state call.request else refusal 401 (codes "token.unknown")
+reply_of state call = if is_admin state call.caller then reply_to state call.request
+    else refusal 401 (codes "token.unknown")
 
 -- the step's state: an unknown caller changes nothing
 abbrev pub after : State → Call → State

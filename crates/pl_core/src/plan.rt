@@ -113,7 +113,8 @@ fn step_of(alloc: Global, node: &Node) -> Result<Option<PlanStep>, Memory>
 
 /// The step of a mapping at a place that has this pair alone, or None where its value is no scalar.
 fn step_with(alloc: Global, place: &Place, pair: &NodePair) -> Result<Option<PlanStep>, Memory>
-    ensures { IfOk result (λ step. step ≡ spec.step_with place.now pair.now.key pair.now.key_place pair.now.item.place (out-NodeBody pair.now.item.body)) }
+    ensures { IfOk result (λ step. step ≡ spec.step_with place.now pair.now.key pair.now.key_place
+        pair.now.item.place (out-NodeBody pair.now.item.body)) }
 {
     match &pair.item.body {
         NodeBody::Scalar(text) => Ok(Some(scalar_step(alloc, place, pair, text)?)),
@@ -128,7 +129,8 @@ fn scalar_step(
     pair: &NodePair,
     text: &Text,
 ) -> Result<PlanStep, Memory>
-    ensures { IfOk result (λ step. Some step ≡ spec.step_with place.now pair.now.key pair.now.key_place pair.now.item.place (open_body.Scalar text.now)) }
+    ensures { IfOk result (λ step. Some step ≡ spec.step_with place.now pair.now.key
+        pair.now.key_place pair.now.item.place (open_body.Scalar text.now)) }
 {
     let key = pair.key.copy(alloc)?;
     let key_origin = written_at(alloc, &pair.key_place)?;

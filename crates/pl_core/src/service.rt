@@ -63,7 +63,8 @@ impl Core {
     ) -> Result<Prepared, Memory>
         requires { IsPlanOf call.now.request planned }
         ensures reply { IfOk result (λ prepared. prepared.reply ≡ reply_of self.old call.now) }
-        ensures after { IfOk result (λ prepared. changed prepared.queued self.old ≡ after self.old call.now) }
+        ensures after { IfOk result (λ prepared. changed prepared.queued self.old ≡
+            after self.old call.now) }
         ensures same { self.new ≡ self.old }
     {
         if call.caller != self.admin {
@@ -78,8 +79,10 @@ impl Core {
 
     /// Queues a run with this plan, where a number is left for it.
     fn queue(&self, alloc: Global, plan: FirstPlan) -> Result<Prepared, Memory>
-        ensures reply { IfOk result (λ prepared. prepared.reply ≡ state.reply_to_plan self.now (Some plan)) }
-        ensures after { IfOk result (λ prepared. changed prepared.queued self.now ≡ state.after_plan self.now (Some plan)) }
+        ensures reply { IfOk result (λ prepared. prepared.reply ≡ state.reply_to_plan self.now
+            (Some plan)) }
+        ensures after { IfOk result (λ prepared. changed prepared.queued self.now ≡
+            state.after_plan self.now (Some plan)) }
     {
         if self.runs == LAST_RUN {
             return Prepared::refusal(alloc, 409, "journal.full");
@@ -99,7 +102,8 @@ impl Core {
 
     /// Gives the job of run 1, or nothing where no run is there.
     fn draw(&self, alloc: Global) -> Result<Prepared, Memory>
-        ensures reply { IfOk result (λ prepared. prepared.reply ≡ option_map_or state.job self.now.first state.no_content) }
+        ensures reply { IfOk result (λ prepared. prepared.reply ≡
+            option_map_or state.job self.now.first state.no_content) }
         ensures same { IfOk result (λ prepared. prepared.queued ≡ None) }
     {
         let reply = match &self.first {

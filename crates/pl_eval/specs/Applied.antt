@@ -1,5 +1,7 @@
--- What functions make of their arguments' values (Microsoft Learn, Azure Pipelines, "Expressions", Functions).
-use Rattle.std.specs.Prelude.{ℕ, Bool, true, false, not, List, length, drop, map, slice_get, Option, Some, None, Result, Ok, Err, pos}
+-- What functions make of their arguments' values (Microsoft Learn, Azure Pipelines, "Expressions",
+-- Functions).
+use Rattle.std.specs.Prelude.{ℕ, Bool, true, false, not, List, length, drop, map, slice_get, Option}
+use Rattle.std.specs.Prelude.{Some, None, Result, Ok, Err, pos}
 use Rattle.std.specs.Option.{option_map_or}
 use Rattle.std.specs.List.{list_any}
 use Rattle.std.specs.Str.{chars}
@@ -11,13 +13,16 @@ use Rattle.pl_base.specs.declared.value.Value.TheOpen as layer
 use Rattle.pl_base.specs.declared.value.MarkedNode.{MarkedNode}
 use Rattle.pl_expr.specs.Conversions.{bool_of, cast_text, order_of, equals}
 use Rattle.pl_texts.specs.Matching.{begins, ends, holds}
-use Rattle.pl_eval.specs.Texts.{searched, lower_of, upper_of, trim_of, join_of, split_of, replace_of, format_of}
+use Rattle.pl_eval.specs.Texts.{searched, lower_of, upper_of, trim_of, join_of, split_of}
+use Rattle.pl_eval.specs.Texts.{replace_of, format_of}
 use Rattle.pl_eval.specs.LookUps.{Opened}
 use Rattle.pl_reading.specs.Steps.{◌>>=◌}
 use Rattle.pl_eval.specs.declared.fault.EvalCode.{EvalCode}
 use Rattle.pl_eval.specs.declared.fault.EvalCode.TheVariants.{NotConvertible, NoLength}
 use Rattle.pl_eval.specs.declared.manner.BinaryFunction.{BinaryFunction}
-use Rattle.pl_eval.specs.declared.manner.BinaryFunction.TheVariants.{Xor, Eq, Ne, Lt, Le, Gt, Ge, Contains, StartsWith, EndsWith, ContainsValue, Join, Split}
+use Rattle.pl_eval.specs.declared.manner.BinaryFunction.TheVariants.{Xor, Eq, Ne, Lt, Le, Gt, Ge}
+use Rattle.pl_eval.specs.declared.manner.BinaryFunction.TheVariants.{Contains, StartsWith, EndsWith}
+use Rattle.pl_eval.specs.declared.manner.BinaryFunction.TheVariants.{ContainsValue, Join, Split}
 use Rattle.pl_eval.specs.declared.manner.Operation.{Operation}
 use Rattle.pl_eval.specs.declared.manner.Operation.TheVariants.{One, Two, Replace, Format}
 use Rattle.pl_eval.specs.declared.manner.UnaryFunction.{UnaryFunction}
@@ -90,4 +95,5 @@ abbrev pub applied : Origin → Operation → List MarkedNode → Result Value E
 applied here (One function) nodes = of_one function (value_at nodes 0)
 applied here (Two function) nodes = of_two here function (value_at nodes 0) (value_at nodes 1)
 applied here Replace nodes = replace_of (value_at nodes 0) (value_at nodes 1) (value_at nodes 2)
-applied here Format nodes = format_of (value_at nodes 0) (map (λ node. cast_text node.value) (drop 1 nodes))
+applied here Format nodes = format_of (value_at nodes 0)
+    (map (λ node. cast_text node.value) (drop 1 nodes))

@@ -1,5 +1,7 @@
--- Look-ups and projections (Microsoft Learn, Azure Pipelines, "Expressions", References and Filtered arrays).
-use Rattle.std.specs.Prelude.{ℕ, List, [], ◌∷◌, map, find, slice_get, Option, Some, None, unwrap_or, ℤ, pos, negsuc}
+-- Look-ups and projections (Microsoft Learn, Azure Pipelines, "Expressions", References and
+-- Filtered arrays).
+use Rattle.std.specs.Prelude.{ℕ, List, [], ◌∷◌, map, find, slice_get, Option, Some, None, unwrap_or}
+use Rattle.std.specs.Prelude.{ℤ, pos, negsuc}
 use Rattle.std.specs.Option.{option_map, option_and_then}
 use Rattle.std.specs.List.{filter_map}
 use Rattle.pl_base.specs.declared.origin.Origin.{Origin}
@@ -30,8 +32,9 @@ abbrev pub item_at : List MarkedNode → ℤ → Option MarkedNode
 item_at items (pos at) = slice_get items at
 item_at items (negsuc at) = None
 
--- What an index finds: in an array the item at the number that the index converts to, in an object the property of the
--- name that the index converts to, and nothing in anything else, or where the index doesn't convert.
+-- What an index finds: in an array the item at the number that the index converts to, in an object
+-- the property of the name that the index converts to, and nothing in anything else, or where the
+-- index doesn't convert.
 abbrev pub found_in : Opened → Value → Option MarkedNode
 found_in (layer.Array items) at = option_and_then (item_at items) (number_of_value at)
 found_in (layer.Object pairs) at = option_and_then (property pairs) (text_of at)
@@ -80,6 +83,7 @@ items_in value = []
 abbrev pub items_of : Value → List MarkedNode
 items_of of = items_in (out-Value of)
 
--- a projection makes an array of what the names give in each item, and leaves out the items that lack one
+-- a projection makes an array of what the names give in each item, and leaves out the items that
+-- lack one
 abbrev pub projected : List (List ℕ) → Value → Value
 projected names of = Array (filter_map (member_behind names) (items_of of))

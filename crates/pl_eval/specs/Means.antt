@@ -1,6 +1,8 @@
--- The meaning of an expression (Microsoft Learn, Azure Pipelines, "Expressions"): a value and where it comes from, or
--- the first fault. Arguments are looked at from left to right.
-use Rattle.std.specs.Prelude.{ℕ, zero, suc, Bool, true, false, not, List, [], ◌∷◌, drop, take, map, min, slice_get, Option, Some, None, unwrap_or, Result, Ok, Err, if◌then◌else◌}
+-- The meaning of an expression (Microsoft Learn, Azure Pipelines, "Expressions"): a value and where
+-- it comes from, or the first fault. Arguments are looked at from left to right.
+use Rattle.std.specs.Prelude.{ℕ, zero, suc, Bool, true, false, not, List, [], ◌∷◌, drop, take, map}
+use Rattle.std.specs.Prelude.{min, slice_get, Option, Some, None, unwrap_or, Result, Ok, Err}
+use Rattle.std.specs.Prelude.{if◌then◌else◌}
 use Rattle.pl_base.specs.declared.origin.Origin.{Origin}
 use Rattle.pl_base.specs.declared.value.Value.{Value, Null, Bool as Truth}
 use Rattle.pl_base.specs.declared.value.MarkedNode.{MarkedNode}
@@ -10,14 +12,21 @@ use Rattle.pl_expr.specs.declared.expr.Expr.{Expr}
 use Rattle.pl_expr.specs.declared.expr.Expr.TheOpen.{Expr-F, Lit, Root, Index, Project, Call}
 use Rattle.pl_expr.specs.declared.expr.Expr.TheFolds.{fold-Expr}
 use Rattle.pl_expr.specs.declared.expr.Function.{Function}
-use Rattle.pl_expr.specs.declared.expr.Function.TheVariants.{Not, Length, Lower, Upper, Trim, Xor, Eq, Ne, Lt, Le, Gt, Ge, Contains, StartsWith, EndsWith, ContainsValue, Join, Split, Replace, Iif, And, Or, Coalesce, In, NotIn, Format, Always, Canceled, Failed, Succeeded, SucceededOrFailed}
+use Rattle.pl_expr.specs.declared.expr.Function.TheVariants.{Not, Length, Lower, Upper, Trim, Xor}
+use Rattle.pl_expr.specs.declared.expr.Function.TheVariants.{Eq, Ne, Lt, Le, Gt, Ge, Contains}
+use Rattle.pl_expr.specs.declared.expr.Function.TheVariants.{StartsWith, EndsWith, ContainsValue}
+use Rattle.pl_expr.specs.declared.expr.Function.TheVariants.{Join, Split, Replace, Iif, And, Or}
+use Rattle.pl_expr.specs.declared.expr.Function.TheVariants.{Coalesce, In, NotIn, Format, Always}
+use Rattle.pl_expr.specs.declared.expr.Function.TheVariants.{Canceled, Failed, Succeeded}
+use Rattle.pl_expr.specs.declared.expr.Function.TheVariants.{SucceededOrFailed}
 use Rattle.pl_eval.specs.declared.fault.EvalCode.{EvalCode}
 use Rattle.pl_eval.specs.declared.fault.EvalCode.TheVariants.{UnknownRoot}
 use Rattle.pl_eval.specs.Known.{Known, root_of}
 use Rattle.pl_eval.specs.LookUps.{made, looked_up, projected}
 use Rattle.pl_eval.specs.Applied.{applied}
 use Rattle.pl_eval.specs.declared.manner.Manner.{Manner}
-use Rattle.pl_eval.specs.declared.manner.Manner.TheVariants.{Choosing, All, Any, First, Among, NotAmong, Status, Strict}
+use Rattle.pl_eval.specs.declared.manner.Manner.TheVariants.{Choosing, All, Any, First, Among}
+use Rattle.pl_eval.specs.declared.manner.Manner.TheVariants.{NotAmong, Status, Strict}
 use Rattle.pl_eval.specs.declared.manner.Operation.TheVariants as operation
 use Rattle.pl_eval.specs.declared.manner.UnaryFunction.TheVariants as unary
 use Rattle.pl_eval.specs.declared.manner.BinaryFunction.TheVariants as binary
@@ -45,22 +54,27 @@ filled here (suc least) (first ∷ arguments) = first ∷ filled here least argu
 -- whether all arguments count as true: the first that doesn't decides
 unfoldable pub all_true : List Meaning → Result Bool EvalCode
 all_true [] = Ok true
-all_true (first ∷ arguments) = first >>= λ node. if bool_of node.value then all_true arguments else Ok false
+all_true (first ∷ arguments) = first >>= λ node. if bool_of node.value then all_true arguments
+    else Ok false
 
 -- whether one argument counts as true: the first that does decides
 unfoldable pub any_true : List Meaning → Result Bool EvalCode
 any_true [] = Ok false
-any_true (first ∷ arguments) = first >>= λ node. if bool_of node.value then Ok true else any_true arguments
+any_true (first ∷ arguments) = first >>= λ node. if bool_of node.value then Ok true
+    else any_true arguments
 
 -- the first argument that is neither Null nor the empty text, else Null
 unfoldable pub first_filled : Origin → List Meaning → Meaning
 first_filled here [] = Ok (null here)
-first_filled here (first ∷ arguments) = first >>= λ node. if is_null node.value then first_filled here arguments else Ok node
+first_filled here (first ∷ arguments) = first >>= λ node. if is_null node.value
+    then first_filled here arguments else Ok node
 
--- whether an argument is equal to the value that is sought, which is on the left: the first that is decides
+-- whether an argument is equal to the value that is sought, which is on the left: the first that is
+-- decides
 unfoldable pub is_among : Value → List Meaning → Result Bool EvalCode
 is_among sought [] = Ok false
-is_among sought (first ∷ arguments) = first >>= λ node. if equals sought node.value then Ok true else is_among sought arguments
+is_among sought (first ∷ arguments) = first >>= λ node. if equals sought node.value then Ok true
+    else is_among sought arguments
 
 -- the values of all arguments
 unfoldable pub values : List Meaning → Result (List MarkedNode) EvalCode
@@ -100,11 +114,13 @@ chosen here arguments =
 
 -- whether the first argument is equal to one of the others
 abbrev pub first_is_among : Origin → List Meaning → Result Bool EvalCode
-first_is_among here arguments = argument here arguments 0 >>= λ first. is_among first.value (drop 1 arguments)
+first_is_among here arguments = argument here arguments 0 >>= λ first. is_among first.value
+    (drop 1 arguments)
 
 -- a status function takes the casts of its arguments for names
 abbrev pub status : Known → Origin → Function → List MarkedNode → Meaning
-status known here function nodes = truth here (status_of known function (map (λ node. cast_text node.value) nodes))
+status known here function nodes =
+    truth here (status_of known function (map (λ node. cast_text node.value) nodes))
 
 -- how a call looks at its arguments
 abbrev pub called_by : Manner → Known → Origin → Function → List Meaning → Meaning
@@ -114,8 +130,11 @@ called_by Any known here function arguments = told here (any_true arguments)
 called_by First known here function arguments = first_filled here arguments
 called_by Among known here function arguments = told here (first_is_among here arguments)
 called_by NotAmong known here function arguments = contrary here (first_is_among here arguments)
-called_by Status known here function arguments = values (up_to (most_of function) arguments) >>= status known here function
-called_by (Strict operation) known here function arguments = values (up_to (most_of function) arguments) >>= λ nodes. applied here operation nodes >>= answer here
+called_by Status known here function arguments = values (up_to (most_of function) arguments) >>=
+    status known here function
+called_by (Strict operation) known here function arguments =
+    values (up_to (most_of function) arguments) >>= λ nodes. applied here operation nodes >>=
+    answer here
 
 abbrev pub manner_of : Function → Manner
 manner_of Iif = Choosing

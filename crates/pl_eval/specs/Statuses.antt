@@ -1,11 +1,14 @@
--- The status functions (Microsoft Learn, Azure Pipelines, "Expressions", Job status check functions).
-use Rattle.std.specs.Prelude.{ℕ, Bool, true, false, not, ◌&&◌, List, [], ◌∷◌, map, find, Option, Some}
+-- The status functions (Microsoft Learn, Azure Pipelines, "Expressions", Job status check
+-- functions).
+use Rattle.std.specs.Prelude.{ℕ, Bool, true, false, not, ◌&&◌, List, [], ◌∷◌, map, find, Option}
+use Rattle.std.specs.Prelude.{Some}
 use Rattle.std.specs.Option.{option_map}
 use Rattle.std.specs.List.{list_all, list_any}
 use Rattle.pl_base.specs.declared.outcome.Outcome.{Outcome}
 use Rattle.pl_base.specs.declared.outcome.Outcome.TheVariants as ended
 use Rattle.pl_expr.specs.declared.expr.Function.{Function}
-use Rattle.pl_expr.specs.declared.expr.Function.TheVariants.{Always, Canceled, Failed, Succeeded, SucceededOrFailed}
+use Rattle.pl_expr.specs.declared.expr.Function.TheVariants.{Always, Canceled, Failed, Succeeded}
+use Rattle.pl_expr.specs.declared.expr.Function.TheVariants.{SucceededOrFailed}
 use Rattle.pl_eval.specs.Known.{Known, same_name}
 
 abbrev pub is_status : Function → Bool
@@ -52,5 +55,6 @@ status_of known Canceled names = known.canceled
 status_of known Succeeded names = not known.canceled && list_all went_well (results known names)
 status_of known Failed names = list_any went_wrong (results known names)
 status_of known SucceededOrFailed [] = not known.canceled
-status_of known SucceededOrFailed (name ∷ names) = not known.canceled && list_any was_run (results_named known.named (name ∷ names))
+status_of known SucceededOrFailed (name ∷ names) = not known.canceled &&
+    list_any was_run (results_named known.named (name ∷ names))
 status_of known function names = false

@@ -1,4 +1,5 @@
--- What the functions on texts make (Microsoft Learn, Azure Pipelines, "Expressions", Functions). Arguments are cast to text.
+-- What the functions on texts make (Microsoft Learn, Azure Pipelines, "Expressions", Functions).
+-- Arguments are cast to text.
 use Rattle.std.specs.Prelude.{ℕ, Bool, List, [], ◌∷◌, map, Result, Ok, Err}
 use Rattle.std.specs.Str.{trim}
 use Rattle.pl_base.specs.Folding.{folded}
@@ -45,10 +46,12 @@ abbrev pub trim_of : Value → Result Value EvalCode
 trim_of value = text_value (bounded (trim (cast_text value)))
 
 abbrev pub replace_of : Value → Value → Value → Result Value EvalCode
-replace_of text sought new = text_value (bounded (replaced (cast_text text) (cast_text sought) (cast_text new)))
+replace_of text sought new =
+    text_value (bounded (replaced (cast_text text) (cast_text sought) (cast_text new)))
 
 abbrev pub split_of : Origin → Value → Value → Result Value EvalCode
-split_of here text separators = texts_value here (all_bounded (pieces (cast_text text) (cast_text separators)))
+split_of here text separators =
+    texts_value here (all_bounded (pieces (cast_text text) (cast_text separators)))
 
 -- the casts of an array's items; what isn't an array counts as its only item
 abbrev pub casts_in : Opened → Value → List (List ℕ)

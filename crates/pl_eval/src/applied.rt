@@ -65,7 +65,8 @@ fn is_an_item(alloc: Global, items: &List<MarkedNode>, sought: &Value) -> Result
 
 #[tactic(auto, using(crate::proofs::Finding::any_drop_yes, crate::proofs::Finding::any_drop_no))]
 fn is_a_property(alloc: Global, pairs: &List<MarkedPair>, sought: &Value) -> Result<bool, Memory>
-    ensures { IfOk result (λ is. is ≡ list_any (λ pair. equals sought.now pair.item.value) pairs.now) }
+    ensures { IfOk result (λ is. is ≡ list_any (λ pair. equals sought.now pair.item.value)
+        pairs.now) }
 {
     for pair in pairs.as_slice() {
         if loosely_equal(alloc, sought, &pair.item.value)? {
@@ -87,7 +88,8 @@ fn contains_value(alloc: Global, of: &Value, sought: &Value) -> Result<bool, Mem
 
 /// Both values cast to text.
 fn cast_both(alloc: Global, left: &Value, right: &Value) -> Result<(Text, Text), Memory>
-    ensures { IfOk result (λ texts. (texts.0 ≡ cast_text left.now) × (texts.1 ≡ cast_text right.now)) }
+    ensures { IfOk result (λ texts. (texts.0 ≡ cast_text left.now) ×
+        (texts.1 ≡ cast_text right.now)) }
 {
     let left = to_text(alloc, left)?;
     let right = to_text(alloc, right)?;

@@ -3,7 +3,9 @@ ghost use Rattle.pl_expr.specs.Conversions.{equals, is_null};
 ghost use Rattle.pl_expr.specs.Functions.{most_of};
 ghost use Rattle.pl_eval.specs.Statuses.{is_status};
 ghost use Rattle.pl_eval.specs.declared.fault.EvalCode.{EvalCode as Code};
-ghost use Rattle.pl_eval.specs.Means.{Meaning, means, called, told, contrary, argument, filled, counted, up_to, all_true, any_true, first_filled, first_is_among, values, status, chosen};
+ghost use Rattle.pl_eval.specs.Means.{Meaning, means, called, told, contrary, argument, filled};
+ghost use Rattle.pl_eval.specs.Means.{counted, up_to, all_true, any_true, first_filled};
+ghost use Rattle.pl_eval.specs.Means.{first_is_among, values, status, chosen};
 ghost use Rattle.pl_eval.specs.Gives.{Gives};
 ghost use Rattle.pl_eval.specs.Held.{Holds};
 
@@ -20,16 +22,15 @@ use pl_expr::{Expr, Function, loosely_equal, to_bool};
 use std::alloc::Global;
 
 /// The value of an expression and where it comes from.
-///
-/// `here` is the origin of the values that the expression makes: literals, results of functions, the arrays of
-/// projections and of `split` with its texts, the Null of a look-up without a match and of `coalesce` without a value.
-/// Roots, look-ups, `iif` and `coalesce` hand values on with the origins that they have. In a tree that the grammar
-/// never gives, an argument that is missing up to a function's least count is Null, and one past its greatest count
-/// isn't looked at.
-///
-/// A fault is the first one, arguments being looked at from left to right, and none that the functions don't look at:
-/// NotConvertible in `lt`, `le`, `gt` and `ge`, FormatIndex, NoLength in `length`, TextTooLong where a function makes a
-/// text of more than 65,536 bytes, UnknownRoot where the names have no such root. Memory may come at any time.
+///  `here` is the origin of the values that the expression makes: literals, results of functions,
+/// the arrays of projections and of `split` with its texts, the Null of a look-up without a match
+/// and of `coalesce` without a value. Roots, look-ups, `iif` and `coalesce` hand values on with the
+/// origins that they have. In a tree that the grammar never gives, an argument that is missing up
+/// to a function's least count is Null, and one past its greatest count isn't looked at.
+///  A fault is the first one, arguments being looked at from left to right, and none that the
+/// functions don't look at: NotConvertible in `lt`, `le`, `gt` and `ge`, FormatIndex, NoLength in
+/// `length`, TextTooLong where a function makes a text of more than 65,536 bytes, UnknownRoot where
+/// the names have no such root. Memory may come at any time.
 pub fn eval<N: Names>(
     alloc: Global,
     expr: &Expr,
@@ -136,7 +137,8 @@ fn hold<'e, N: Names>(
     names: &N,
     here: &Origin,
 ) -> Result<Held<'e>, EvalFault>
-    ensures { Holds (N.known names.now) here.now result (means (N.known names.now) here.now expr.now) }
+    ensures { Holds (N.known names.now) here.now result
+        (means (N.known names.now) here.now expr.now) }
 {
     match expr {
         Expr::Lit(value) => Ok(Held::Node(make(alloc, value.copy(alloc)?, here)?)),
@@ -167,7 +169,8 @@ fn call<N: Names>(
     names: &N,
     here: &Origin,
 ) -> Result<MarkedNode, EvalFault>
-    ensures { Gives result (called (N.known names.now) here.now function (map (means (N.known names.now) here.now) arguments.now)) }
+    ensures { Gives result (called (N.known names.now) here.now function
+        (map (means (N.known names.now) here.now) arguments.now)) }
 {
     match manner_of(function) {
         Manner::Choosing => choose(alloc, arguments, names, here),
@@ -196,7 +199,8 @@ fn evaluate_argument<N: Names>(
     names: &N,
     here: &Origin,
 ) -> Result<MarkedNode, EvalFault>
-    ensures { Gives result (argument here.now (map (means (N.known names.now) here.now) arguments.now) at) }
+    ensures { Gives result
+        (argument here.now (map (means (N.known names.now) here.now) arguments.now) at) }
 {
     match arguments.get(at) {
         Some(expr) => evaluate(alloc, expr, names, here),
@@ -212,7 +216,8 @@ fn choose<N: Names>(
     names: &N,
     here: &Origin,
 ) -> Result<MarkedNode, EvalFault>
-    ensures { Gives result (chosen here.now (map (means (N.known names.now) here.now) arguments.now)) }
+    ensures { Gives result
+        (chosen here.now (map (means (N.known names.now) here.now) arguments.now)) }
 {
     let condition = evaluate_argument(alloc, arguments, 0, names, here)?;
     if to_bool(&condition.value) {
@@ -230,7 +235,8 @@ fn are_all_true<N: Names>(
     names: &N,
     here: &Origin,
 ) -> Result<bool, EvalFault>
-    ensures { Gives result (all_true (filled here.now 2 (map (means (N.known names.now) here.now) arguments.now))) }
+    ensures { Gives result
+        (all_true (filled here.now 2 (map (means (N.known names.now) here.now) arguments.now))) }
 {
     for expr in arguments.as_slice() {
         let node = evaluate(alloc, expr, names, here)?;
@@ -268,7 +274,8 @@ fn coalesce<N: Names>(
     names: &N,
     here: &Origin,
 ) -> Result<MarkedNode, EvalFault>
-    ensures { Gives result (first_filled here.now (map (means (N.known names.now) here.now) arguments.now)) }
+    ensures { Gives result
+        (first_filled here.now (map (means (N.known names.now) here.now) arguments.now)) }
 {
     for expr in arguments.as_slice() {
         let node = evaluate(alloc, expr, names, here)?;
@@ -287,7 +294,8 @@ fn is_first_among<N: Names>(
     names: &N,
     here: &Origin,
 ) -> Result<bool, EvalFault>
-    ensures { Gives result (first_is_among here.now (map (means (N.known names.now) here.now) arguments.now)) }
+    ensures { Gives result
+        (first_is_among here.now (map (means (N.known names.now) here.now) arguments.now)) }
 {
     let sought = evaluate_argument(alloc, arguments, 0, names, here)?;
     for (index, expr) in arguments.as_slice().iter().enumerate() {
@@ -311,7 +319,8 @@ fn evaluate_all<N: Names>(
     names: &N,
     here: &Origin,
 ) -> Result<List<MarkedNode>, EvalFault>
-    ensures { Gives result (values (up_to (most_of function) (map (means (N.known names.now) here.now) arguments.now))) }
+    ensures { Gives result
+        (values (up_to (most_of function) (map (means (N.known names.now) here.now) arguments.now))) }
 {
     let count = count_of(function, arguments);
     let mut nodes = List::new(alloc);

@@ -4,8 +4,8 @@ ghost use Rattle.pl_eval.specs.Gives.{fault_of};
 use pl_base::Memory;
 use pl_texts::TextFault;
 
-/// What is wrong with an evaluation. Of several faults the first counts, arguments being looked at from left to right
-/// before the call in which they stand.
+/// What is wrong with an evaluation. Of several faults the first counts, arguments being looked at
+/// from left to right before the call in which they stand.
 #[derive(Clone, Copy, Debug, PartialEq, Eq)]
 pub enum EvalCode {
     /// V1: `lt`, `le`, `gt` or `ge` of values that have no order.

@@ -10,8 +10,8 @@ use crate::parts::RootPart;
 use pl_base::{List, MarkedNode, Origin, Text, Value};
 use std::alloc::Global;
 
-/// What is held of an expression while the indices behind it are evaluated: a part of a root is looked up once its last
-/// index is known, so that the root isn't copied.
+/// What is held of an expression while the indices behind it are evaluated: a part of a root is
+/// looked up once its last index is known, so that the root isn't copied.
 #[derive(Drop)]
 pub enum Held<'e> {
     /// What a path of indices finds in the root of that name.
@@ -20,8 +20,8 @@ pub enum Held<'e> {
     Node(MarkedNode),
 }
 
-/// What a path finds in a root, or a Null that is made where it finds nothing. UnknownRoot comes where there is no such
-/// root.
+/// What a path finds in a root, or a Null that is made where it finds nothing. UnknownRoot comes
+/// where there is no such root.
 fn part<N: Names>(
     alloc: Global,
     root: &Text,
@@ -53,7 +53,8 @@ pub fn value_of<N: Names>(
     }
 }
 
-/// A root with one index more behind those of its path. An unknown root comes before a fault of the index.
+/// A root with one index more behind those of its path. An unknown root comes before a fault of the
+/// index.
 fn lengthen<'e, N: Names>(
     alloc: Global,
     root: &'e Text,
@@ -62,7 +63,8 @@ fn lengthen<'e, N: Names>(
     names: &N,
     here: &Origin,
 ) -> Result<Held<'e>, EvalFault>
-    ensures { (meant : Meaning) → Gives at meant → Holds (N.known names.now) here.now result (indexed here.now (part_means (N.known names.now) here.now root.now path) meant) }
+    ensures { (meant : Meaning) → Gives at meant → Holds (N.known names.now) here.now result
+        (indexed here.now (part_means (N.known names.now) here.now root.now path) meant) }
 {
     match at {
         Ok(at) => {
@@ -85,7 +87,8 @@ pub fn look_behind<'e, N: Names>(
     names: &N,
     here: &Origin,
 ) -> Result<Held<'e>, EvalFault>
-    ensures { (meant : Meaning) → Gives at meant → Holds (N.known names.now) here.now result (indexed here.now (held_means (N.known names.now) here.now of.entry) meant) }
+    ensures { (meant : Meaning) → Gives at meant → Holds (N.known names.now) here.now result
+        (indexed here.now (held_means (N.known names.now) here.now of.entry) meant) }
 {
     match of {
         Held::Part(root, path) => lengthen(alloc, root, path, at, names, here),

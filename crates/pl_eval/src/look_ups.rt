@@ -1,7 +1,8 @@
 ghost use Rattle.std.specs.Prelude.{◌≡◌, ◌<◌, IfOk, find, length, slice_get, MatchOption};
 ghost use Rattle.std.specs.Option.{option_copied};
 ghost use Rattle.pl_eval.specs.Known.{same_name};
-ghost use Rattle.pl_eval.specs.LookUps.{made, property, item_at, found, looked_up, member, member_behind};
+ghost use Rattle.pl_eval.specs.LookUps.{made, property, item_at, found, looked_up, member};
+ghost use Rattle.pl_eval.specs.LookUps.{member_behind};
 
 use pl_base::{
     ExactCopy, List, MarkedNode, MarkedPair, Memory, Origin, Text, Value, equals_ignoring_case,
@@ -27,7 +28,9 @@ pub fn is_named(key: &Text, name: &Text) -> bool
 /// Where the first property of that name stands, the case of letters aside.
 #[tactic(auto, using(crate::proofs::Finding::find_drop_yes, crate::proofs::Finding::find_drop_no))]
 pub fn place_of(pairs: &List<MarkedPair>, name: &Text) -> Option<usize>
-    ensures { MatchOption result (find (λ pair. same_name name.now pair.key) pairs.now ≡ None) (λ place. (place < length pairs.now) × (find (λ pair. same_name name.now pair.key) pairs.now ≡ slice_get pairs.now place)) }
+    ensures { MatchOption result (find (λ pair. same_name name.now pair.key) pairs.now ≡ None)
+        (λ place. (place < length pairs.now) ×
+        (find (λ pair. same_name name.now pair.key) pairs.now ≡ slice_get pairs.now place)) }
 {
     for (index, pair) in pairs.as_slice().iter().enumerate() {
         if is_named(&pair.key, name) {
@@ -66,9 +69,10 @@ fn property_of<'p>(pairs: &'p List<MarkedPair>, name: &Text) -> Option<&'p Marke
     Some(&pair.item)
 }
 
-/// What an index finds in a value (Microsoft Learn, Azure Pipelines, "Expressions", References): in an array the item at
-/// the number that the index converts to, from 0; in an object the first property of the name that it converts to, the
-/// case of letters aside; None in anything else, or where the index doesn't convert.
+/// What an index finds in a value (Microsoft Learn, Azure Pipelines, "Expressions", References): in
+/// an array the item at the number that the index converts to, from 0; in an object the first
+/// property of the name that it converts to, the case of letters aside; None in anything else, or
+/// where the index doesn't convert.
 pub fn find_member<'v>(
     alloc: Global,
     of: &'v Value,

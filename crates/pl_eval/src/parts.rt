@@ -17,8 +17,8 @@ pub enum RootPart {
     Found(MarkedNode),
 }
 
-/// What the indices of a path find in a node, each looked up in what the one before it found; the node itself where the
-/// path is empty, and None where one of them finds nothing.
+/// What the indices of a path find in a node, each looked up in what the one before it found; the
+/// node itself where the path is empty, and None where one of them finds nothing.
 #[tactic(auto, using(crate::proofs::Finding::path_some, crate::proofs::Finding::path_none))]
 pub fn find_behind<'v>(
     alloc: Global,

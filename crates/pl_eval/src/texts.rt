@@ -4,7 +4,8 @@ ghost use Rattle.pl_expr.specs.Conversions.{cast_text};
 ghost use Rattle.pl_texts.specs.Bound as texts;
 ghost use Rattle.pl_texts.specs.declared.fault.TextFault as faults;
 ghost use Rattle.pl_eval.specs.LookUps.{made};
-ghost use Rattle.pl_eval.specs.Texts.{text_value, texts_value, lower_of, upper_of, trim_of, replace_of, split_of, casts_of, join_of, format_of};
+ghost use Rattle.pl_eval.specs.Texts.{text_value, texts_value, lower_of, upper_of, trim_of};
+ghost use Rattle.pl_eval.specs.Texts.{replace_of, split_of, casts_of, join_of, format_of};
 ghost use Rattle.pl_eval.specs.Gives.{Gives};
 
 use crate::fault::EvalFault;
@@ -16,7 +17,8 @@ use std::alloc::Global;
 
 /// A text that a function made, as a value, or its fault.
 fn text_value(made: Result<Text, TextFault>) -> Result<Value, EvalFault>
-    ensures { (meant : Result (List ℕ) faults.TextFault) → texts.Gives made meant → Gives result (text_value meant) }
+    ensures { (meant : Result (List ℕ) faults.TextFault) → texts.Gives made meant →
+        Gives result (text_value meant) }
 {
     match made {
         Ok(text) => Ok(Value::Str(text)),

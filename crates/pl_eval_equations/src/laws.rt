@@ -1,8 +1,8 @@
 ghost use Rattle.pl_eval_equations.specs.Equations as equation;
 
-/// The equations of evaluation (Microsoft Learn, Azure Pipelines, "Expressions"): one for each kind of
-/// expression, and one for each function, over all that the names stand for and all arguments of the
-/// function's count.
+/// The equations of evaluation (Microsoft Learn, Azure Pipelines, "Expressions"): one for each kind
+/// of expression, and one for each function, over all that the names stand for and all arguments of
+/// the function's count.
 pub fn equations()
     ensures literal { equation.Literal }
     ensures root { equation.Root }

@@ -226,7 +226,8 @@ module _ (P L : Origin → Type 0) (here : Origin) (made_here : P here) where
   argument_from (first ∷ arguments) zero all = all.0
   argument_from (first ∷ arguments) (suc at) all = argument_from arguments at all.1
 
-  one_of : (b : Bool) (left right : Meaning) → IfOk left (NodeFrom P L) → IfOk right (NodeFrom P L) →
+  one_of :
+      (b : Bool) (left right : Meaning) → IfOk left (NodeFrom P L) → IfOk right (NodeFrom P L) →
       IfOk (cond b left right) (NodeFrom P L)
   one_of true left right from_left from_right = from_left
   one_of false left right from_left from_right = from_right

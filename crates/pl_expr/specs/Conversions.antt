@@ -1,5 +1,7 @@
--- The conversions of Microsoft Learn, Azure Pipelines, "Expressions", Type casting, on plain values.
-use Rattle.std.specs.Prelude.{ℕ, Bool, true, false, List, [], map, Option, Some, None, unwrap_or, ℤ, pos, codes, not, cond, nat_eq, zero}
+-- The conversions of Microsoft Learn, Azure Pipelines, "Expressions", Type casting, on plain
+-- values.
+use Rattle.std.specs.Prelude.{ℕ, Bool, true, false, List, [], map, Option, Some, None, unwrap_or, ℤ}
+use Rattle.std.specs.Prelude.{pos, codes, not, cond, nat_eq, zero}
 use Rattle.std.specs.Option.{option_map, option_map_or}
 use Rattle.std.specs.Ordering.{nat_cmp, int_cmp, bool_cmp, int_eq}
 use Rattle.std.specs.Cmp.Lexicographic.{slice_cmp, pointwise}
@@ -54,24 +56,27 @@ is_null Null = true
 is_null (Str []) = true
 is_null value = false
 
--- The order of the left value and of the right one, which is converted to the left one's type: False before
--- True, versions by segments with a missing one first, texts by their folded bytes, which is the order of
--- their folded scalar values. None where the right one doesn't convert, or the left one is an array or object.
+-- The order of the left value and of the right one, which is converted to the left one's type:
+-- False before True, versions by segments with a missing one first, texts by their folded bytes,
+-- which is the order of their folded scalar values. None where the right one doesn't convert, or
+-- the left one is an array or object.
 abbrev pub order_of : Value → Value → Option Ordering
 order_of Null right = cond (is_null right) (Some Equal) None
 order_of (Truth left) right = Some (bool_cmp left (bool_of right))
 order_of (Number left) right = option_map (int_cmp left) (number_of_value right)
 order_of (Version left) right = option_map (slice_cmp nat_cmp left) (version_of right)
-order_of (Str left) right = option_map (λ text. slice_cmp nat_cmp (folded left) (folded text)) (text_of right)
+order_of (Str left) right = option_map (λ text. slice_cmp nat_cmp (folded left) (folded text))
+    (text_of right)
 order_of left right = None
 
--- Whether the right value, converted to the left one's type, is the left one, the case of texts aside. An array
--- or object is equal to nothing, and so is what doesn't convert.
+-- Whether the right value, converted to the left one's type, is the left one, the case of texts
+-- aside. An array or object is equal to nothing, and so is what doesn't convert.
 abbrev pub equals : Value → Value → Bool
 equals Null right = is_null right
 equals (Truth true) right = bool_of right
 equals (Truth false) right = not (bool_of right)
 equals (Number left) right = option_map_or (int_eq left) (number_of_value right) false
 equals (Version left) right = option_map_or (pointwise nat_eq left) (version_of right) false
-equals (Str left) right = option_map_or (λ text. pointwise nat_eq (folded left) (folded text)) (text_of right) false
+equals (Str left) right = option_map_or (λ text. pointwise nat_eq (folded left) (folded text))
+    (text_of right) false
 equals left right = false

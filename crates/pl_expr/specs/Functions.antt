@@ -1,8 +1,15 @@
 -- The table of functions: their names, counts of arguments and modes.
-use Rattle.std.specs.Prelude.{ℕ, Bool, true, false, List, [], ◌∷◌, find, codes, Option, Some, None, ◌&&◌, nat_eq, nat_lt, nat_le}
+use Rattle.std.specs.Prelude.{ℕ, Bool, true, false, List, [], ◌∷◌, find, codes, Option, Some, None}
+use Rattle.std.specs.Prelude.{◌&&◌, nat_eq, nat_lt, nat_le}
 use Rattle.std.specs.Cmp.Lexicographic.{pointwise}
 use Rattle.pl_expr.specs.declared.expr.Function.{Function}
-use Rattle.pl_expr.specs.declared.expr.Function.TheVariants.{Not, Length, Lower, Upper, Trim, Xor, Eq, Ne, Lt, Le, Gt, Ge, Contains, StartsWith, EndsWith, ContainsValue, Join, Split, Replace, Iif, And, Or, Coalesce, In, NotIn, Format, Always, Canceled, Failed, Succeeded, SucceededOrFailed}
+use Rattle.pl_expr.specs.declared.expr.Function.TheVariants.{Not, Length, Lower, Upper, Trim, Xor}
+use Rattle.pl_expr.specs.declared.expr.Function.TheVariants.{Eq, Ne, Lt, Le, Gt, Ge, Contains}
+use Rattle.pl_expr.specs.declared.expr.Function.TheVariants.{StartsWith, EndsWith, ContainsValue}
+use Rattle.pl_expr.specs.declared.expr.Function.TheVariants.{Join, Split, Replace, Iif, And, Or}
+use Rattle.pl_expr.specs.declared.expr.Function.TheVariants.{Coalesce, In, NotIn, Format, Always}
+use Rattle.pl_expr.specs.declared.expr.Function.TheVariants.{Canceled, Failed, Succeeded}
+use Rattle.pl_expr.specs.declared.expr.Function.TheVariants.{SucceededOrFailed}
 use Rattle.pl_expr.specs.declared.expr.Mode.{Mode}
 use Rattle.pl_expr.specs.declared.expr.Mode.TheVariants.{Condition}
 use Rattle.pl_base.specs.Folding.{folded}
@@ -83,11 +90,14 @@ stands_in mode SucceededOrFailed = false
 stands_in mode function = true
 
 abbrev pub all_functions : List Function
-all_functions = Not ∷ Length ∷ Lower ∷ Upper ∷ Trim ∷ Xor ∷ Eq ∷ Ne ∷ Lt ∷ Le ∷ Gt ∷ Ge ∷ Contains ∷ StartsWith ∷ EndsWith ∷ ContainsValue ∷ Join ∷ Split ∷ Replace ∷ Iif ∷ And ∷ Or ∷ Coalesce ∷ In ∷ NotIn ∷ Format ∷ Always ∷ Canceled ∷ Failed ∷ Succeeded ∷ SucceededOrFailed ∷ []
+all_functions = Not ∷ Length ∷ Lower ∷ Upper ∷ Trim ∷ Xor ∷ Eq ∷ Ne ∷ Lt ∷ Le ∷ Gt ∷ Ge ∷ Contains ∷
+    StartsWith ∷ EndsWith ∷ ContainsValue ∷ Join ∷ Split ∷ Replace ∷ Iif ∷ And ∷ Or ∷ Coalesce ∷
+    In ∷ NotIn ∷ Format ∷ Always ∷ Canceled ∷ Failed ∷ Succeeded ∷ SucceededOrFailed ∷ []
 
 -- the word is the function's name, the case aside, and the function stands in the mode
 abbrev pub names : Mode → List ℕ → Function → Bool
-names mode word function = pointwise nat_eq (folded (name_of function)) (folded word) && stands_in mode function
+names mode word function = pointwise nat_eq (folded (name_of function)) (folded word) &&
+    stands_in mode function
 
 -- the function of that name in that mode
 unfoldable pub named : Mode → List ℕ → Option Function

@@ -1,5 +1,6 @@
 -- Which trees the grammar gives in a mode.
-use Rattle.std.specs.Prelude.{◌≡◌, ℕ, zero, suc, ◌^◌, ◌<◌, ◌≤◌, true, List, [], ◌∷◌, length, ℤ, pos, negsuc}
+use Rattle.std.specs.Prelude.{◌≡◌, ℕ, zero, suc, ◌^◌, ◌<◌, ◌≤◌, true, List, [], ◌∷◌, length, ℤ, pos}
+use Rattle.std.specs.Prelude.{negsuc}
 use Rattle.std.specs.List.{list_all}
 use Rattle.pl_base.specs.declared.value.Value.{Value, Bool as Truth, Number, Version, Str}
 use Rattle.pl_expr.specs.declared.expr.Expr.{Expr}
@@ -26,7 +27,8 @@ IsNumber (negsuc number) = number < 2 ^ 63
 
 -- three or four segments
 abbrev pub IsVersion : List ℕ → Type 0
-IsVersion segments = (2 < length segments) × (length segments ≤ 4) × (list_all is_segment segments ≡ true)
+IsVersion segments = (2 < length segments) × (length segments ≤ 4) ×
+    (list_all is_segment segments ≡ true)
 
 abbrev pub IsLiteral : Value → Type 0
 IsLiteral (Truth truth) = Unit {0}
@@ -45,7 +47,8 @@ IsGivenBy mode IsGiven (layer.Lit value) = IsLiteral value
 IsGivenBy mode IsGiven (layer.Root name) = IsName name × (word_tree name ≡ Root name)
 IsGivenBy mode IsGiven (layer.Index of at) = IsGiven of × IsGiven at
 IsGivenBy mode IsGiven (layer.Project of names) = IsGiven of × AreNames names
-IsGivenBy mode IsGiven (layer.Call function arguments) = (stands_in mode function ≡ true) × (takes function (length arguments) ≡ true) × AreGiven IsGiven arguments
+IsGivenBy mode IsGiven (layer.Call function arguments) = (stands_in mode function ≡ true) ×
+    (takes function (length arguments) ≡ true) × AreGiven IsGiven arguments
 
 -- A tree of at most this depth.
 abbrev pub IsGiven : Mode → ℕ → Expr → Type 0

@@ -1,5 +1,5 @@
--- The grammar of expressions: which texts have which tree, and the fault of every other text. Each definition
--- reads one rule of the grammar from the front of a list of bytes.
+-- The grammar of expressions: which texts have which tree, and the fault of every other text. Each
+-- definition reads one rule of the grammar from the front of a list of bytes.
 --
 --     text    = blanks expr blanks
 --     expr    = primary { blanks tail }
@@ -9,7 +9,9 @@
 --     number  = [ "-" ] digits            version = digits 2*3( "." digits )
 --     string  = "'" { any but ' , or '' } "'"
 --     name    = letter or "_" , { letter | digit | "_" }
-use Rattle.std.specs.Prelude.{ℕ, zero, suc, ◌-◌, Bool, true, false, not, List, [], ◌∷◌, ◌++◌, length, drop, map, take_while, codes, Option, Some, None, Result, Ok, Err, ℤ, nat_eq, nat_lt, nat_le, ◌==◌, ◌||◌, ◌&&◌, if◌then◌else◌}
+use Rattle.std.specs.Prelude.{ℕ, zero, suc, ◌-◌, Bool, true, false, not, List, [], ◌∷◌, ◌++◌}
+use Rattle.std.specs.Prelude.{length, drop, map, take_while, codes, Option, Some, None, Result, Ok}
+use Rattle.std.specs.Prelude.{Err, ℤ, nat_eq, nat_lt, nat_le, ◌==◌, ◌||◌, ◌&&◌, if◌then◌else◌}
 use Rattle.std.specs.List.{prefix_len}
 use Rattle.std.specs.Char.{is_ascii_digit, is_ascii_alphabetic, is_ascii_alphanumeric}
 use Rattle.std.specs.Cmp.Lexicographic.{pointwise}
@@ -19,11 +21,14 @@ use Rattle.pl_expr.specs.declared.expr.Expr.TheVariants.{Lit, Root, Index, Proje
 use Rattle.pl_expr.specs.declared.expr.Function.{Function}
 use Rattle.pl_expr.specs.declared.expr.Mode.{Mode}
 use Rattle.pl_expr.specs.declared.fault.ExprCode.{ExprCode}
-use Rattle.pl_expr.specs.declared.fault.ExprCode.TheVariants.{BadChar, UnclosedString, UnknownFunction, BadCount, Trailing, TooDeep, Fraction, NumberRange}
+use Rattle.pl_expr.specs.declared.fault.ExprCode.TheVariants.{BadChar, UnclosedString}
+use Rattle.pl_expr.specs.declared.fault.ExprCode.TheVariants.{UnknownFunction, BadCount, Trailing}
+use Rattle.pl_expr.specs.declared.fault.ExprCode.TheVariants.{TooDeep, Fraction, NumberRange}
 use Rattle.pl_expr.specs.declared.scan.Front.{Front}
 use Rattle.pl_expr.specs.declared.scan.Front.TheVariants as front
 use Rattle.pl_base.specs.Folding.{folded}
-use Rattle.pl_expr.specs.Numerals.{is_blank, skip, signed, goes_on, runs_of, behind_runs, segments_of}
+use Rattle.pl_expr.specs.Numerals.{is_blank, skip, signed, goes_on, runs_of, behind_runs}
+use Rattle.pl_expr.specs.Numerals.{segments_of}
 use Rattle.pl_reading.specs.Bytes.{digits_of, number_of, begins_with}
 use Rattle.pl_expr.specs.Functions.{most_of, may_follow, takes, named}
 use Rattle.pl_expr.specs.Trees.{depth_of, is_projection}
@@ -67,7 +72,8 @@ behind_word bytes = skip is_name_byte bytes
 
 -- ---- literals
 
--- a string's text, from behind its opening quote on, and what stands behind its closing one; None where it has none
+-- a string's text, from behind its opening quote on, and what stands behind its closing one; None
+-- where it has none
 abbrev pub with_byte : ℕ → Option (List ℕ × List ℕ) → Option (List ℕ × List ℕ)
 with_byte byte None = None
 with_byte byte (Some read) = Some (byte ∷ read.0, read.1)
@@ -95,7 +101,8 @@ version_read bytes rest (Some segments) = Ok (Lit (Version segments), rest)
 -- One run of digits is a number, two are a fraction, more are a version.
 unfoldable pub unsigned_at : List ℕ → Read Expr
 unsigned_at bytes =
-    if length (runs_of bytes) == 1 then number_read bytes (skip is_ascii_digit bytes) (signed false (number_of (digits_of bytes)))
+    if length (runs_of bytes) == 1 then number_read bytes (skip is_ascii_digit bytes)
+    (signed false (number_of (digits_of bytes)))
     else if length (runs_of bytes) == 2 then stop Fraction bytes
     else version_read bytes (behind_runs bytes) (segments_of (map number_of (runs_of bytes)))
 
@@ -127,19 +134,23 @@ behind_argument function count bytes =
     (if takes function count then Ok (false, drop 1 bytes) else stop BadCount bytes)
     else stop BadChar bytes
 
--- The arguments behind those that are read already, up to the `)`. Each turn reads one, of a byte or more, so that no
--- turn is left only at the end.
-unfoldable pub arguments_at : (List ℕ → Read Expr) → Function → ℕ → List Expr → List ℕ → Read (List Expr)
+-- The arguments behind those that are read already, up to the `)`. Each turn reads one, of a byte
+-- or more, so that no turn is left only at the end.
+unfoldable pub arguments_at :
+    (List ℕ → Read Expr) → Function → ℕ → List Expr → List ℕ → Read (List Expr)
 arguments_at inner function zero read bytes = stop BadChar bytes
 arguments_at inner function (suc turns) read bytes = inner bytes >>= λ argument.
     behind_argument function (length (read ++ argument.0 ∷ [])) argument.1 >>= λ next.
-    if next.0 then arguments_at inner function turns (read ++ argument.0 ∷ []) next.1 else Ok (read ++ argument.0 ∷ [], next.1)
+    if next.0 then arguments_at inner function turns (read ++ argument.0 ∷ []) next.1
+    else Ok (read ++ argument.0 ∷ [], next.1)
 
 -- a call, from behind its `(` on
 unfoldable pub call_at : (List ℕ → Read Expr) → Function → List ℕ → Read Expr
 call_at inner function bytes =
-    if begins_with 41 bytes then (if takes function 0 then Ok (Call function [], drop 1 bytes) else stop BadCount bytes)
-    else arguments_at inner function (length bytes) [] bytes >>= λ read. Ok (Call function read.0, read.1)
+    if begins_with 41 bytes then (if takes function 0 then Ok (Call function [], drop 1 bytes)
+    else stop BadCount bytes)
+    else arguments_at inner function (length bytes) [] bytes >>=
+    λ read. Ok (Call function read.0, read.1)
 
 abbrev pub called : (List ℕ → Read Expr) → List ℕ → Bool → List ℕ → Option Function → Read Expr
 called inner bytes room rest None = stop UnknownFunction bytes
@@ -150,7 +161,8 @@ called inner bytes true rest (Some function) = call_at inner function rest
 unfoldable pub word_at : Mode → Bool → (List ℕ → Read Expr) → List ℕ → Read Expr
 word_at mode room inner bytes =
     if begins_with 40 (skip is_blank (behind_word bytes)) then
-    called inner bytes room (drop 1 (skip is_blank (behind_word bytes))) (named mode (word_of bytes))
+    called inner bytes room (drop 1 (skip is_blank (behind_word bytes)))
+    (named mode (word_of bytes))
     else if room then Ok (word_tree (word_of bytes), behind_word bytes)
     else stop TooDeep bytes
 
@@ -199,7 +211,8 @@ member_at tree bytes =
 
 unfoldable pub tail_at : (List ℕ → Read Expr) → Expr → List ℕ → Read Expr
 tail_at inner tree bytes =
-    if begins_with 91 bytes then index_at inner tree (drop 1 bytes) else member_at tree (drop 1 bytes)
+    if begins_with 91 bytes then index_at inner tree (drop 1 bytes)
+    else member_at tree (drop 1 bytes)
 
 abbrev pub begins_tail : List ℕ → Bool
 begins_tail bytes = begins_with 46 bytes || begins_with 91 bytes
@@ -208,29 +221,34 @@ begins_tail bytes = begins_with 46 bytes || begins_with 91 bytes
 abbrev pub begins_member : List ℕ → Bool
 begins_member bytes = begins_with 42 bytes || is_word bytes
 
--- The fault of one more tail behind a tree as deep as it may get. Names make a projection no deeper, so a dot right
--- behind one may begin a name. Where it begins neither a name nor `.*`, the byte behind the dot is what fits nothing.
+-- The fault of one more tail behind a tree as deep as it may get. Names make a projection no
+-- deeper, so a dot right behind one may begin a name. Where it begins neither a name nor `.*`, the
+-- byte behind the dot is what fits nothing.
 unfoldable pub deep_fault : Expr → List ℕ → Fault
 deep_fault tree bytes =
-    if is_projection tree && (begins_with 46 bytes && not (begins_member (drop 1 bytes))) then (BadChar, length (drop 1 bytes))
+    if is_projection tree && (begins_with 46 bytes && not (begins_member (drop 1 bytes)))
+    then (BadChar, length (drop 1 bytes))
     else (TooDeep, length (skip is_blank bytes))
 
--- The tails of a tree that may get so deep, and the blanks behind them. Each makes it deeper, so that there are no
--- more turns than that.
+-- The tails of a tree that may get so deep, and the blanks behind them. Each makes it deeper, so
+-- that there are no more turns than that.
 unfoldable pub tails_at : (List ℕ → Read Expr) → ℕ → ℕ → Expr → List ℕ → Read Expr
 tails_at inner depth zero tree bytes =
-    if begins_tail (skip is_blank bytes) then Err (deep_fault tree bytes) else Ok (tree, skip is_blank bytes)
+    if begins_tail (skip is_blank bytes) then Err (deep_fault tree bytes)
+    else Ok (tree, skip is_blank bytes)
 tails_at inner depth (suc turns) tree bytes =
     if begins_tail (skip is_blank bytes) then
     (if nat_le depth (depth_of tree) then Err (deep_fault tree bytes)
-    else tail_at inner tree (skip is_blank bytes) >>= λ next. tails_at inner depth turns next.0 next.1)
+    else tail_at inner tree (skip is_blank bytes) >>= λ next. tails_at inner depth turns next.0
+    next.1)
     else Ok (tree, skip is_blank bytes)
 
 -- ---- texts
 
 -- an expression that may get so deep, and the blanks behind it
 unfoldable pub expression_at : Mode → ℕ → (List ℕ → Read Expr) → List ℕ → Read Expr
-expression_at mode depth inner bytes = primary_at mode (nat_lt 0 depth) inner (skip is_blank bytes) >>= λ first. tails_at inner depth depth first.0 first.1
+expression_at mode depth inner bytes = primary_at mode (nat_lt 0 depth) inner
+    (skip is_blank bytes) >>= λ first. tails_at inner depth depth first.0 first.1
 
 -- the same, where what stands inside it may get one less deep
 unfoldable pub text_at : Mode → ℕ → List ℕ → Read Expr

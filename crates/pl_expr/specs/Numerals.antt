@@ -1,5 +1,7 @@
 -- Blanks, digits, and the numbers and versions that bytes write.
-use Rattle.std.specs.Prelude.{ℕ, zero, suc, ◌+◌, ◌-◌, ◌*◌, ◌^◌, Bool, true, false, List, [], ◌∷◌, length, drop, map, fold, take_while, Option, Some, None, ℤ, pos, neg_ℤ, nat_lt, nat_le, ◌==◌, ◌||◌, ◌&&◌, if◌then◌else◌}
+use Rattle.std.specs.Prelude.{ℕ, zero, suc, ◌+◌, ◌-◌, ◌*◌, ◌^◌, Bool, true, false, List, [], ◌∷◌}
+use Rattle.std.specs.Prelude.{length, drop, map, fold, take_while, Option, Some, None, ℤ, pos}
+use Rattle.std.specs.Prelude.{neg_ℤ, nat_lt, nat_le, ◌==◌, ◌||◌, ◌&&◌, if◌then◌else◌}
 use Rattle.std.specs.List.{prefix_len, list_all}
 use Rattle.std.specs.Char.{is_ascii_digit}
 use Rattle.std.specs.Str.Parse.{starts_with_minus, without_leading_sign}
@@ -25,7 +27,8 @@ number_in bytes =
     let unsigned = without_leading_sign body in
     if length bytes == 0 then Some (pos 0)
     else if prefix_len is_ascii_digit unsigned == 0 then None
-    else if length (skip is_blank (skip is_ascii_digit unsigned)) == 0 then signed (starts_with_minus body) (number_of (digits_of unsigned))
+    else if length (skip is_blank (skip is_ascii_digit unsigned)) == 0
+    then signed (starts_with_minus body) (number_of (digits_of unsigned))
     else None
 
 -- the bytes begin with a dot and a digit
@@ -38,7 +41,8 @@ goes_on (dot ∷ byte ∷ bytes) = (dot == 46) && is_ascii_digit byte
 unfoldable pub more_runs : ℕ → List ℕ → List (List ℕ)
 more_runs zero bytes = []
 more_runs (suc more) bytes =
-    if goes_on bytes then digits_of (drop 1 bytes) ∷ more_runs more (skip is_ascii_digit (drop 1 bytes)) else []
+    if goes_on bytes then digits_of (drop 1 bytes) ∷
+    more_runs more (skip is_ascii_digit (drop 1 bytes)) else []
 
 -- and what stands behind them
 unfoldable pub behind_more : ℕ → List ℕ → List ℕ
@@ -46,7 +50,8 @@ behind_more zero bytes = bytes
 behind_more (suc more) bytes =
     if goes_on bytes then behind_more more (skip is_ascii_digit (drop 1 bytes)) else bytes
 
--- The runs of digits that the bytes begin with, up to four, a dot between each two. The first may be empty.
+-- The runs of digits that the bytes begin with, up to four, a dot between each two. The first may
+-- be empty.
 abbrev pub runs_of : List ℕ → List (List ℕ)
 runs_of bytes = digits_of bytes ∷ more_runs 3 (skip is_ascii_digit bytes)
 

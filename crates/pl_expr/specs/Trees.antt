@@ -1,5 +1,6 @@
 -- How deep an expression is, what its last tail is, and how it is printed.
-use Rattle.std.specs.Prelude.{ℕ, ◌+◌, Bool, true, false, List, [], ◌∷◌, ◌++◌, map, max, codes, decimal, flat_map, ◌==◌, if◌then◌else◌}
+use Rattle.std.specs.Prelude.{ℕ, ◌+◌, Bool, true, false, List, [], ◌∷◌, ◌++◌, map, max, codes}
+use Rattle.std.specs.Prelude.{decimal, flat_map, ◌==◌, if◌then◌else◌}
 use Rattle.std.specs.Fmt.{signed_decimal}
 use Rattle.std.specs.List.{join_with_byte}
 use Rattle.pl_base.specs.declared.value.Value.{Value, Bool as Truth, Number, Version, Str}

@@ -1,10 +1,12 @@
-ghost use Rattle.std.specs.Prelude.{◌≡◌, ◌∷◌, ◌++◌, if◌then◌else◌, OnOk, map, nat_eq, IfOk, option_map, decimal};
+ghost use Rattle.std.specs.Prelude.{◌≡◌, ◌∷◌, ◌++◌, if◌then◌else◌, OnOk, map, nat_eq, IfOk};
+ghost use Rattle.std.specs.Prelude.{option_map, decimal};
 ghost use Rattle.std.specs.Ordering.{nat_cmp};
 ghost use Rattle.std.specs.Cmp.Lexicographic.{slice_cmp, pointwise};
 ghost use Rattle.std.specs.Fmt.{signed_decimal};
 ghost use Rattle.std.specs.List.{join_with_byte};
 ghost use Rattle.pl_base.specs.declared.value.Value.{Version};
-ghost use Rattle.pl_expr.specs.Conversions.{bool_of, number_of_value, text_of, cast_text, version_of, is_null, order_of, equals};
+ghost use Rattle.pl_expr.specs.Conversions.{bool_of, number_of_value, text_of, cast_text};
+ghost use Rattle.pl_expr.specs.Conversions.{version_of, is_null, order_of, equals};
 ghost use Rattle.pl_base.specs.Folding.{folded};
 
 use crate::numerals::{read_number, read_version};
@@ -24,8 +26,9 @@ pub fn to_bool(value: &Value) -> bool
     }
 }
 
-/// The number that a value converts to: Null, False and the empty text are 0, True is 1, and a text is read as
-/// blanks, an optional sign, digits and blanks, within 64 signed bits. None where it doesn't convert.
+/// The number that a value converts to: Null, False and the empty text are 0, True is 1, and a text
+/// is read as blanks, an optional sign, digits and blanks, within 64 signed bits. None where it
+/// doesn't convert.
 pub fn to_number(value: &Value) -> Option<i64>
     ensures { result ≡ number_of_value value.now }
 {
@@ -53,8 +56,8 @@ pub fn convert_to_text(alloc: Global, value: &Value) -> Result<Option<Text>, Mem
     }
 }
 
-/// A value cast to text: `True`, `False`, a number's digits behind its minus, a version's segments joined by dots,
-/// a text itself, and the empty text for the rest.
+/// A value cast to text: `True`, `False`, a number's digits behind its minus, a version's segments
+/// joined by dots, a text itself, and the empty text for the rest.
 pub fn to_text(alloc: Global, value: &Value) -> Result<Text, Memory>
     ensures { IfOk result (λ text. text ≡ cast_text value.now) }
 {
@@ -83,7 +86,8 @@ fn version_text(alloc: Global, segments: &List<u32>) -> Result<Text, Memory>
 }
 
 fn push_segment(alloc: Global, text: &mut Text, first: bool, segment: u32) -> Result<(), Memory>
-    ensures { OnOk result (text.new ≡ text.old ++ (if first then decimal segment else 46 ∷ decimal segment)) }
+    ensures { OnOk result (text.new ≡ text.old ++ (if first then decimal segment
+        else 46 ∷ decimal segment)) }
 {
     if !first {
         text.push_str(".")?;
@@ -93,8 +97,8 @@ fn push_segment(alloc: Global, text: &mut Text, first: bool, segment: u32) -> Re
     Ok(())
 }
 
-/// The segments that a value converts to: those of a version, or of a text of two to four numbers of at most
-/// 2147483647, joined by dots. None where it doesn't convert.
+/// The segments that a value converts to: those of a version, or of a text of two to four numbers
+/// of at most 2147483647, joined by dots. None where it doesn't convert.
 fn convert_to_version(alloc: Global, value: &Value) -> Result<Option<List<u32>>, Memory>
     ensures { IfOk result (λ version. version ≡ version_of value.now) }
 {
@@ -107,8 +111,9 @@ fn convert_to_version(alloc: Global, value: &Value) -> Result<Option<List<u32>>,
     }
 }
 
-/// The version that a value converts to: a version is itself, and a text of two to four numbers of at most
-/// 2147483647, joined by dots, is the version of these segments. None where it doesn't convert.
+/// The version that a value converts to: a version is itself, and a text of two to four numbers of
+/// at most 2147483647, joined by dots, is the version of these segments. None where it doesn't
+/// convert.
 pub fn to_version(alloc: Global, value: &Value) -> Result<Option<Value>, Memory>
     ensures { IfOk result (λ version. version ≡ option_map Version (version_of value.now)) }
 {
@@ -145,9 +150,10 @@ pub fn same_folded(left: &str, right: &str) -> bool
     compare_folded(left.as_bytes(), right.as_bytes()) == Ordering::Equal
 }
 
-/// How the left value stands to the right one, which is converted to the left one's type: False comes before True,
-/// Null is equal to Null, versions compare by segments with a missing one first, and texts without case. None where
-/// the right value doesn't convert, or the left one is an array or object.
+/// How the left value stands to the right one, which is converted to the left one's type: False
+/// comes before True, Null is equal to Null, versions compare by segments with a missing one first,
+/// and texts without case. None where the right value doesn't convert, or the left one is an array
+/// or object.
 pub fn order(alloc: Global, left: &Value, right: &Value) -> Result<Option<Ordering>, Memory>
     ensures { IfOk result (λ order. order ≡ order_of left.now right.now) }
 {
@@ -174,8 +180,9 @@ pub fn order(alloc: Global, left: &Value, right: &Value) -> Result<Option<Orderi
     }
 }
 
-/// Whether the right value, converted to the left one's type, is equal to the left one. Texts are compared without
-/// case. It is False where the right value doesn't convert, and where the left one is an array or object.
+/// Whether the right value, converted to the left one's type, is equal to the left one. Texts are
+/// compared without case. It is False where the right value doesn't convert, and where the left one
+/// is an array or object.
 #[tactic(auto, using(crate::proofs::Folding::equals_by_order))]
 pub fn loosely_equal(alloc: Global, left: &Value, right: &Value) -> Result<bool, Memory>
     ensures { IfOk result (λ equal. equal ≡ equals left.now right.now) }

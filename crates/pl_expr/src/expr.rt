@@ -100,7 +100,8 @@ const ALL: [Function; 31] = [
 
 impl Function {
     ghost use Rattle.std.specs.Prelude.{◌≡◌};
-    ghost use Rattle.pl_expr.specs.Functions.{name_of, least_of, most_of, stands_in, names, named, may_follow, takes};
+    ghost use Rattle.pl_expr.specs.Functions.{name_of, least_of, most_of, stands_in, names, named};
+    ghost use Rattle.pl_expr.specs.Functions.{may_follow, takes};
 
     /// The function's name, in the documents' spelling.
     pub fn name(self) -> &'static str
@@ -182,7 +183,8 @@ impl Function {
         }
     }
 
-    /// Whether the function may stand in a text of this mode: a status function stands in a condition alone.
+    /// Whether the function may stand in a text of this mode: a status function stands in a
+    /// condition alone.
     pub fn stands_in(self, mode: Mode) -> bool
         ensures { result ≡ stands_in mode self }
     {

@@ -1,7 +1,7 @@
 use thiserror::Error;
 
-/// What is wrong with a text that is no expression. Of several faults the one at the least offset counts, then the
-/// one with the smaller number, E1 last.
+/// What is wrong with a text that is no expression. Of several faults the one at the least offset
+/// counts, then the one with the smaller number, E1 last.
 #[derive(Clone, Copy, Debug, Error, PartialEq, Eq)]
 pub enum ExprCode {
     /// E1: a character, or the end, with which no text of the grammar can go on.
@@ -22,10 +22,12 @@ pub enum ExprCode {
     /// E6: the primary or tail with which the tree gets deeper than 50, at its first byte.
     #[error("E6: too deep")]
     TooDeep,
-    /// E7: digits, one dot and digits, at the first byte; or a dot and digits where a primary is wanted.
+    /// E7: digits, one dot and digits, at the first byte; or a dot and digits where a primary is
+    /// wanted.
     #[error("E7: a decimal fraction")]
     Fraction,
-    /// E8: a number outside 64 signed bits, or a version's segment past 2147483647, at the first byte.
+    /// E8: a number outside 64 signed bits, or a version's segment past 2147483647, at the first
+    /// byte.
     #[error("E8: a number out of range")]
     NumberRange,
 }

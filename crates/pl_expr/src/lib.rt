@@ -1,4 +1,5 @@
-//! Expressions: the conversions and the order of their values, their grammar, and their printed form.
+//! Expressions: the conversions and the order of their values, their grammar, and their printed
+//! form.
 #![tactic(auto)]
 
 mod conversions;

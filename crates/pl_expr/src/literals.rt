@@ -1,5 +1,6 @@
 ghost use Rattle.std.specs.Prelude.{◌≡◌, ◌≤◌, true, drop, length, IfOk, Err};
-ghost use Rattle.pl_expr.specs.Grammar.{string_read, unquoted, unsigned_at, signed_at, number_at, word_tree, stop};
+ghost use Rattle.pl_expr.specs.Grammar.{string_read, unquoted, unsigned_at, signed_at, number_at};
+ghost use Rattle.pl_expr.specs.Grammar.{word_tree, stop};
 ghost use Rattle.pl_reading.specs.Bytes.{begins_with};
 ghost use Rattle.pl_expr.specs.Parsing.{Gives};
 
@@ -24,7 +25,8 @@ pub fn stop_at(code: ExprCode, text: &str) -> Stop
 /// A string, and what stands behind it. There is room for it where a leaf may stand here.
 pub fn read_string(alloc: Global, room: bool, text: &str) -> Result<(Tree, &str), Stop>
     requires { begins_with 39 text.now ≡ true }
-    ensures gives { Gives (λ read. (read.0.expr, read.1.now)) result (string_read text.now room (unquoted (drop 1 text.now))) }
+    ensures gives { Gives (λ read. (read.0.expr, read.1.now)) result
+        (string_read text.now room (unquoted (drop 1 text.now))) }
     ensures leaf { IfOk result (λ read. read.0.depth ≡ 1) }
 {
     match read_quoted(alloc, skip_byte(text, b'\''))? {

@@ -1,8 +1,10 @@
-ghost use Rattle.std.specs.Prelude.{◌≡◌, ◌<◌, ◌≤◌, ◌+◌, ◌*◌, ◌-◌, ◌^◌, length, take, drop, map, slice_index, min, true, false, IfOk, MatchOption};
+ghost use Rattle.std.specs.Prelude.{◌≡◌, ◌<◌, ◌≤◌, ◌+◌, ◌*◌, ◌-◌, ◌^◌, length, take, drop, map};
+ghost use Rattle.std.specs.Prelude.{slice_index, min, true, false, IfOk, MatchOption};
 ghost use Rattle.std.specs.List.{prefix_len};
 ghost use Rattle.std.specs.Char.{is_ascii_digit};
 ghost use Rattle.std.specs.Str.Parse.{starts_with_minus, without_leading_sign};
-ghost use Rattle.pl_expr.specs.Numerals.{is_blank, skip, signed, number_in, goes_on, runs_of, behind_runs, segments_of, version_in};
+ghost use Rattle.pl_expr.specs.Numerals.{is_blank, skip, signed, number_in, goes_on, runs_of};
+ghost use Rattle.pl_expr.specs.Numerals.{behind_runs, segments_of, version_in};
 ghost use Rattle.pl_reading.specs.Bytes.{digits_of, number_of};
 
 use pl_base::{List, Memory};
@@ -64,7 +66,8 @@ pub fn skip_digits(text: &str) -> &str
 
 /// What stands behind the dot that the text begins with, where a digit follows it.
 pub fn skip_dot(text: &str) -> Option<&str>
-    ensures { MatchOption result (goes_on text.now ≡ false) (λ rest. (goes_on text.now ≡ true) × (rest.now ≡ drop 1 text.now)) }
+    ensures { MatchOption result (goes_on text.now ≡ false) (λ rest. (goes_on text.now ≡ true) ×
+        (rest.now ≡ drop 1 text.now)) }
 {
     match text.as_bytes() {
         [b'.', b'0'..=b'9', ..] => Some(split_ascii(text, 1).1),
@@ -128,8 +131,8 @@ fn split_sign(text: &str) -> (bool, &str)
     }
 }
 
-/// The number that a text is: 0 where it is empty, else blanks, an optional sign, digits and blanks, within 64
-/// signed bits.
+/// The number that a text is: 0 where it is empty, else blanks, an optional sign, digits and
+/// blanks, within 64 signed bits.
 #[tactic(auto, using(crate::proofs::Bytes::signed_capped), unfolding(crate::specs::Numerals::number_in))]
 pub fn read_number(text: &str) -> Option<i64>
     ensures { result ≡ number_in text.now }
@@ -144,11 +147,12 @@ pub fn read_number(text: &str) -> Option<i64>
     with_sign(negative, leading_number(unsigned))
 }
 
-/// The numbers that the runs of digits at the front of a text write, u64::MAX standing for what is more, and
-/// the text behind these runs.
+/// The numbers that the runs of digits at the front of a text write, u64::MAX standing for what is
+/// more, and the text behind these runs.
 #[tactic(auto, using(crate::proofs::Bytes::behind_more_stops, crate::proofs::Bytes::behind_more_turn), unfolding(crate::specs::Numerals::more_runs, crate::specs::Numerals::behind_more))]
 pub fn read_runs(alloc: Global, text: &str) -> Result<(List<u64>, &str), Memory>
-    ensures numbers { IfOk result (λ runs. runs.0 ≡ map (λ digits. min (number_of digits) (2 ^ 64 - 1)) (runs_of text.now)) }
+    ensures numbers { IfOk result (λ runs. runs.0 ≡
+        map (λ digits. min (number_of digits) (2 ^ 64 - 1)) (runs_of text.now)) }
     ensures behind { IfOk result (λ runs. runs.1.now ≡ behind_runs text.now) }
 {
     let mut numbers = List::new(alloc);

@@ -1,5 +1,9 @@
-ghost use Rattle.std.specs.Prelude.{◌≡◌, ◌≤◌, ◌<◌, ◌+◌, ◌-◌, ◌^◌, ◌&&◌, true, [], nat_lt, drop, length, IfOk};
-ghost use Rattle.pl_expr.specs.Grammar.{is_word, text_at, inner_of, primary_at, word_at, call_at, arguments_at, behind_argument, tails_at, tail_at, member_at, index_at, names_at, begins_tail, deep_fault, text_whole, parses};
+ghost use Rattle.std.specs.Prelude.{◌≡◌, ◌≤◌, ◌<◌, ◌+◌, ◌-◌, ◌^◌, ◌&&◌, true, [], nat_lt, drop};
+ghost use Rattle.std.specs.Prelude.{length, IfOk};
+ghost use Rattle.pl_expr.specs.Grammar.{is_word, text_at, inner_of, primary_at, word_at, call_at};
+ghost use Rattle.pl_expr.specs.Grammar.{arguments_at, behind_argument, tails_at, tail_at};
+ghost use Rattle.pl_expr.specs.Grammar.{member_at, index_at, names_at, begins_tail, deep_fault};
+ghost use Rattle.pl_expr.specs.Grammar.{text_whole, parses};
 ghost use Rattle.pl_reading.specs.Bytes.{begins_with};
 ghost use Rattle.pl_expr.specs.Parsing.{Gives, Answers};
 
@@ -16,7 +20,8 @@ use std::alloc::Global;
 /// How deep a tree may be, a leaf being 1 deep.
 const DEEPEST: u32 = 50;
 
-/// A tree of at most this depth, the blanks in front of it and those behind it; and what stands behind them.
+/// A tree of at most this depth, the blanks in front of it and those behind it; and what stands
+/// behind them.
 #[cycle(parser)]
 #[tactic(auto, using(crate::proofs::Reading::text_is), unfolding(crate::specs::Grammar::expression_at))]
 fn read_text<'t>(
@@ -41,7 +46,8 @@ fn read_primary<'t>(
     depth: u32,
     text: &'t str,
 ) -> Result<(Tree, &'t str), Stop>
-    ensures gives { Gives (λ read. (read.0.expr, read.1.now)) result (primary_at mode (nat_lt 0 depth) (inner_of mode depth) text.now) }
+    ensures gives { Gives (λ read. (read.0.expr, read.1.now)) result
+        (primary_at mode (nat_lt 0 depth) (inner_of mode depth) text.now) }
     ensures within { IfOk result (λ read. read.0.depth ≤ depth) }
 {
     match front_of(text) {
@@ -63,7 +69,8 @@ fn read_word<'t>(
     depth: u32,
     text: &'t str,
 ) -> Result<(Tree, &'t str), Stop>
-    ensures gives { Gives (λ read. (read.0.expr, read.1.now)) result (word_at mode (nat_lt 0 depth) (inner_of mode depth) text.now) }
+    ensures gives { Gives (λ read. (read.0.expr, read.1.now)) result
+        (word_at mode (nat_lt 0 depth) (inner_of mode depth) text.now) }
     ensures within { IfOk result (λ read. read.0.depth ≤ depth) }
 {
     let (word, rest) = split_word(text);
@@ -92,7 +99,8 @@ fn read_call<'t>(
     text: &'t str,
 ) -> Result<(Tree, &'t str), Stop>
     requires { 0 < depth }
-    ensures gives { Gives (λ read. (read.0.expr, read.1.now)) result (call_at (inner_of mode depth) function text.now) }
+    ensures gives { Gives (λ read. (read.0.expr, read.1.now)) result
+        (call_at (inner_of mode depth) function text.now) }
     ensures within { IfOk result (λ read. read.0.depth ≤ depth) }
 {
     if begins_with(text, b')') {
@@ -118,7 +126,8 @@ fn read_arguments<'t>(
     text: &'t str,
 ) -> Result<(Arguments, &'t str), Stop>
     requires { 0 < depth }
-    ensures gives { Gives (λ read. (read.0.list, read.1.now)) result (arguments_at (inner_of mode depth) function (length text.now) [] text.now) }
+    ensures gives { Gives (λ read. (read.0.list, read.1.now)) result
+        (arguments_at (inner_of mode depth) function (length text.now) [] text.now) }
     ensures within { IfOk result (λ read. read.0.depth + 1 ≤ depth) }
 {
     let mut arguments = Arguments::new(alloc);
@@ -135,7 +144,8 @@ fn read_arguments<'t>(
     Err(stop_at(ExprCode::BadChar, rest))
 }
 
-/// What stands behind so many arguments: whether another one follows, and the text behind the `,` or `)`.
+/// What stands behind so many arguments: whether another one follows, and the text behind the `,`
+/// or `)`.
 #[tactic(auto, unfolding(crate::specs::Grammar::behind_argument))]
 fn read_behind(function: Function, count: usize, text: &str) -> Result<(bool, &str), Stop>
     ensures { Gives (λ read. (read.0, read.1.now)) result (behind_argument function count text.now) }
@@ -165,7 +175,8 @@ fn read_tails<'t>(
     text: &'t str,
 ) -> Result<(Tree, &'t str), Stop>
     requires { tree.depth ≤ depth }
-    ensures gives { Gives (λ read. (read.0.expr, read.1.now)) result (tails_at (inner_of mode depth) depth depth tree.expr text.now) }
+    ensures gives { Gives (λ read. (read.0.expr, read.1.now)) result
+        (tails_at (inner_of mode depth) depth depth tree.expr text.now) }
     ensures within { IfOk result (λ read. read.0.depth ≤ depth) }
 {
     let mut tree = tree;
@@ -184,13 +195,14 @@ fn read_tails<'t>(
     }
 }
 
-/// The stop at one more tail behind a tree as deep as it may get. The text begins right behind the tree.
-///
-/// Names make a projection no deeper, so a dot right behind one may begin a name. Where it begins neither a name nor
-/// `.*`, the byte behind the dot is what fits nothing.
+/// The stop at one more tail behind a tree as deep as it may get. The text begins right behind the
+/// tree.
+///  Names make a projection no deeper, so a dot right behind one may begin a name. Where it begins
+/// neither a name nor `.*`, the byte behind the dot is what fits nothing.
 #[tactic(auto, unfolding(crate::specs::Grammar::deep_fault))]
 fn deep_stop(tree: &Tree, text: &str) -> Stop
-    ensures { result ≡ Stop.Fault (deep_fault tree.now.expr text.now).0 (deep_fault tree.now.expr text.now).1 }
+    ensures { result ≡ Stop.Fault (deep_fault tree.now.expr text.now).0
+        (deep_fault tree.now.expr text.now).1 }
 {
     if tree.is_projection() && begins_with(text, b'.') {
         let behind = skip_byte(text, b'.');
@@ -220,7 +232,8 @@ fn read_tail<'t>(
 ) -> Result<(Tree, &'t str), Stop>
     requires deeper { tree.depth < depth }
     requires tail { begins_tail text.now ≡ true }
-    ensures gives { Gives (λ read. (read.0.expr, read.1.now)) result (tail_at (inner_of mode depth) tree.expr text.now) }
+    ensures gives { Gives (λ read. (read.0.expr, read.1.now)) result
+        (tail_at (inner_of mode depth) tree.expr text.now) }
     ensures within { IfOk result (λ read. read.0.depth ≤ depth) }
     ensures grown { IfOk result (λ read. tree.depth < read.0.depth) }
 {
@@ -242,7 +255,8 @@ fn read_index<'t>(
     text: &'t str,
 ) -> Result<(Tree, &'t str), Stop>
     requires { tree.depth < depth }
-    ensures gives { Gives (λ read. (read.0.expr, read.1.now)) result (index_at (inner_of mode depth) tree.expr text.now) }
+    ensures gives { Gives (λ read. (read.0.expr, read.1.now)) result
+        (index_at (inner_of mode depth) tree.expr text.now) }
     ensures within { IfOk result (λ read. read.0.depth ≤ depth) }
     ensures grown { IfOk result (λ read. tree.depth < read.0.depth) }
 {
@@ -310,11 +324,11 @@ fn read_whole(alloc: Global, text: &str, mode: Mode) -> Result<Tree, Stop>
 }
 
 /// The expression that a text is.
-///
-/// A refusal has the code of the text's first fault and its offset in bytes. `Memory` comes where memory is wanting.
-/// The grammar is that of Microsoft Learn, Azure Pipelines, "Expressions", without decimal fractions and grouping
-/// parentheses: a tree is at most 50 deep, numbers have 64 signed bits, versions three or four segments of at most
-/// 2147483647, and status functions stand in conditions alone.
+///  A refusal has the code of the text's first fault and its offset in bytes. `Memory` comes where
+/// memory is wanting. The grammar is that of Microsoft Learn, Azure Pipelines, "Expressions",
+/// without decimal fractions and grouping parentheses: a tree is at most 50 deep, numbers have 64
+/// signed bits, versions three or four segments of at most 2147483647, and status functions stand
+/// in conditions alone.
 #[tactic(auto, unfolding(crate::specs::Grammar::parses))]
 pub fn parse(alloc: Global, text: &Text, mode: Mode) -> Result<Expr, ExprFault>
     ensures { Answers result (parses mode text.now) }

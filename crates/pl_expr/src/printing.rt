@@ -8,9 +8,10 @@ use crate::scan::{split_quote, whole};
 use pl_base::{List, Memory, Text, Value};
 use std::alloc::Global;
 
-/// An expression as a text of the grammar: functions in the documents' spelling, arguments joined by `, `, `True` and
-/// `False`, indexes in brackets, and projections as `.*` and their names. `parse` gives the tree back. A literal that
-/// the grammar never gives, as Null, is written as the empty text.
+/// An expression as a text of the grammar: functions in the documents' spelling, arguments joined
+/// by `, `, `True` and `False`, indexes in brackets, and projections as `.*` and their names.
+/// `parse` gives the tree back. A literal that the grammar never gives, as Null, is written as the
+/// empty text.
 pub fn print(alloc: Global, expr: &Expr) -> Result<Text, Memory>
     ensures { IfOk result (λ text. text ≡ printed expr.now) }
 {

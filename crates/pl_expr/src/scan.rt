@@ -1,6 +1,9 @@
-ghost use Rattle.std.specs.Prelude.{◌≡◌, ◌<◌, ◌≤◌, ◌+◌, true, false, length, take, drop, slice_index, IfOk, IfNone, IfSome, OnSome, MatchOption, option_map};
+ghost use Rattle.std.specs.Prelude.{◌≡◌, ◌<◌, ◌≤◌, ◌+◌, true, false, length, take, drop};
+ghost use Rattle.std.specs.Prelude.{slice_index, IfOk, IfNone, IfSome, OnSome, MatchOption};
+ghost use Rattle.std.specs.Prelude.{option_map};
 ghost use Rattle.std.specs.List.{prefix_len};
-ghost use Rattle.pl_expr.specs.Grammar.{front_of, is_word, is_name_byte, begins_name, word_of, behind_word, unquoted, is_plain};
+ghost use Rattle.pl_expr.specs.Grammar.{front_of, is_word, is_name_byte, begins_name, word_of};
+ghost use Rattle.pl_expr.specs.Grammar.{behind_word, unquoted, is_plain};
 ghost use Rattle.pl_reading.specs.Bytes.{begins_with};
 
 use crate::numerals::split_ascii;
@@ -86,8 +89,10 @@ fn count_name_bytes(text: &str) -> usize
 pub fn split_quote(text: &str) -> Option<(&str, &str)>
     ensures none { IfNone result (prefix_len is_plain text.now ≡ length text.now) }
     ensures within { OnSome result (prefix_len is_plain text.now < length text.now) }
-    ensures front { IfSome result (λ parts. parts.0.now ≡ take (prefix_len is_plain text.now) text.now) }
-    ensures behind { IfSome result (λ parts. parts.1.now ≡ drop (prefix_len is_plain text.now + 1) text.now) }
+    ensures front { IfSome result (λ parts. parts.0.now ≡ take (prefix_len is_plain text.now)
+        text.now) }
+    ensures behind { IfSome result (λ parts. parts.1.now ≡ drop (prefix_len is_plain text.now + 1)
+        text.now) }
 {
     let bytes = text.as_bytes();
     for (count, byte) in bytes.iter().enumerate() {
@@ -99,9 +104,11 @@ pub fn split_quote(text: &str) -> Option<(&str, &str)>
     None
 }
 
-/// A string's text, from behind its opening quote on, and what stands behind its closing one. None where it has none.
+/// A string's text, from behind its opening quote on, and what stands behind its closing one. None
+/// where it has none.
 pub fn read_quoted(alloc: Global, text: &str) -> Result<Option<(Text, &str)>, Memory>
-    ensures { IfOk result (λ read. option_map (λ parts. (parts.0, parts.1.now)) read ≡ unquoted text.now) }
+    ensures { IfOk result (λ read. option_map (λ parts. (parts.0, parts.1.now)) read ≡
+        unquoted text.now) }
 {
     let mut content = Text::new(alloc);
     let mut rest = text;

@@ -1,7 +1,8 @@
 use crate::fault::ExprCode;
 use pl_base::Memory;
 
-/// Why reading stops: a fault, with the count of bytes from its place to the text's end, or want of memory.
+/// Why reading stops: a fault, with the count of bytes from its place to the text's end, or want of
+/// memory.
 #[derive(Clone, Copy, Debug, PartialEq, Eq)]
 pub enum Stop {
     Fault(ExprCode, usize),

@@ -418,7 +418,8 @@ module _ (at : Place) where
             within_ok (length (ours front)) (inner (ours front)) argument
                 (ours left) (both.within (length (ours front)) (ours front) (omega arith)) e,
             shorter
-                (behind_cut function (length (read ++ argument ∷ [])) (ours left) true (ours next) f),
+                (behind_cut function (length (read ++ argument ∷ [])) (ours left) true (ours next)
+                f),
           ))
         where
           shorter :

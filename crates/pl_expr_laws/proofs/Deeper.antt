@@ -22,7 +22,7 @@ use Rattle.pl_expr.specs.Grammar.{word_at, front_of, primary_by, primary_at, ind
 use Rattle.pl_expr.specs.Grammar.{tail_at, begins_tail, begins_member, deep_fault, tails_at}
 use Rattle.pl_expr.specs.Grammar.{expression_at, text_at, inner_of, text_whole, placed, parses}
 use Rattle.pl_expr.proofs.Again.{room_test}
-use Rattle.pl_expr.proofs.Reading.{text_is}
+use Rattle.pl_expr.proofs.Reading.{tails_deep, tails_end, tails_goes, text_is}
 use Rattle.pl_expr.proofs.Sound.{primary_none}
 use Rattle.pl_expr_laws.specs.Laws.{RefusedHasNone}
 use Rattle.pl_expr_laws.proofs.Complete.{whole_reads}
@@ -202,35 +202,7 @@ full_deeper later deep turns tree bytes = by (is_projection tree) (begins_with 4
     by true false member e f g = deeper (length (skip is_blank bytes)) _
     by false dot member e f g = deeper (length (skip is_blank bytes)) _
 
--- ---- one turn of the tails, as in pl_expr's proofs of the loop that reads them
-
-pub tails_end :
-    (inner : List ℕ → Read Expr) (depth turns : ℕ) (tree : Expr) (rest : List ℕ) →
-    begins_tail (skip is_blank rest) ≡ false →
-    tails_at inner depth turns tree rest ≡ Ok (tree, skip is_blank rest)
-unfolding tails_at
-tails_end inner depth zero tree rest ends = rw ends refl
-tails_end inner depth (suc turns) tree rest ends = rw ends refl
-
-pub tails_deep :
-    (inner : List ℕ → Read Expr) (depth turns : ℕ) (tree : Expr) (rest : List ℕ) →
-    begins_tail (skip is_blank rest) ≡ true → depth ≤ depth_of tree →
-    tails_at inner depth turns tree rest ≡ Err (deep_fault tree rest)
-unfolding tails_at
-tails_deep inner depth zero tree rest goes deep = rw goes refl
-tails_deep inner depth (suc turns) tree rest goes deep =
-    let test : nat_le depth (depth_of tree) ≡ true = grind (arith, nat_tests) in
-    rw (goes, test) refl
-
-pub tails_goes :
-    (inner : List ℕ → Read Expr) (depth turns : ℕ) (tree : Expr) (rest : List ℕ) →
-    begins_tail (skip is_blank rest) ≡ true → depth_of tree < depth →
-    tails_at inner depth (suc turns) tree rest ≡ (tail_at inner tree (skip is_blank rest) >>=
-    λ next. tails_at inner depth turns next.0 next.1)
-unfolding tails_at
-tails_goes inner depth turns tree rest goes room =
-    let test : nat_le depth (depth_of tree) ≡ false = grind (arith, nat_tests) in
-    rw (goes, test) refl
+-- ---- one turn of the tails
 
 -- one more tail where no turn is left
 pub tails_last :

@@ -24,12 +24,12 @@ use Rattle.pl_expr.specs.Grammar.{front_of, primary_by, primary_at, names_at, in
 use Rattle.pl_expr.specs.Grammar.{tail_at, begins_tail, begins_member, deep_fault, tails_at}
 use Rattle.pl_expr.specs.Grammar.{expression_at, text_at, inner_of}
 use Rattle.pl_expr.proofs.Again.{room_test}
-use Rattle.pl_expr.proofs.Reading.{text_is}
+use Rattle.pl_expr.proofs.Reading.{tails_deep, tails_end, tails_goes, text_is}
 use Rattle.pl_expr.proofs.Sound.{primary_none}
 use Rattle.pl_expr_laws.proofs.Within.{AllWithin, within_if, string_within, signed_within}
 use Rattle.pl_expr_laws.proofs.Within.{tail_within, names_short, Opens, opens_short, deep_within}
 use Rattle.pl_expr_laws.proofs.Within.{tails_within, expression_within, text_within}
-use Rattle.pl_expr_laws.proofs.Deeper.{lone_dot, tails_last, tails_end, tails_deep, tails_goes}
+use Rattle.pl_expr_laws.proofs.Deeper.{lone_dot, tails_last}
 use Rattle.pl_expr_laws.proofs.Places.{Place, one, two, word_same, Skips, SkipsTo, Names}
 use Rattle.pl_expr_laws.proofs.Places.{same_names, past_names, dot_names, names_place}
 use Rattle.pl_expr_laws.proofs.Alike.{Alike, same, past, failed, Nearly, alike, opens, Inner}

@@ -7,7 +7,8 @@ use pl_expr::{ExprCode, ExprFault, Mode, parse};
 use std::alloc::Global;
 use std::test::Fail;
 
-// A character of a table: the picture of a control character (U+2400 to U+241F) stands for that character.
+// A character of a table: the picture of a control character (U+2400 to U+241F) stands for that
+// character.
 fn meant(character: char) -> char {
     match character {
         '\u{2400}'..='\u{241f}' => char::from((character as u32 - 0x2400) as u8),

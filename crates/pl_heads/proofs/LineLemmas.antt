@@ -1,5 +1,7 @@
 -- Line feeds in bytes, and the lines behind the line ends at the front.
-use Rattle.std.proofs.Common.{◌≡◌, ℕ, ◌+◌, ◌<◌, ◌≤◌, Bool, true, false, ◌⊎◌, inl, inr, List, [], ◌∷◌, ◌++◌, length, take, drop, refl, sym, ap, ◌∙◌, subst, arith, append_assoc, if◌then◌else◌, ◌==◌, suc}
+use Rattle.std.proofs.Common.{◌≡◌, ℕ, ◌+◌, ◌<◌, ◌≤◌, Bool, true, false, ◌⊎◌, inl, inr, List, []}
+use Rattle.std.proofs.Common.{◌∷◌, ◌++◌, length, take, drop, refl, sym, ap, ◌∙◌, subst, arith}
+use Rattle.std.proofs.Common.{append_assoc, if◌then◌else◌, ◌==◌, suc}
 use Rattle.std.proofs.lemmas.List.Elements.{All-head, All-tail}
 use Rattle.std.proofs.lemmas.Bool.{false≢true}
 use Rattle.std.proofs.lemmas.Grind.{common_steps}
@@ -9,20 +11,25 @@ use Rattle.pl_heads.specs.Lines.{feeds, skip_newlines, lines_behind}
 
 -- ---- line feeds
 
-feeds_step : (t : Bool) (n m : ℕ) → (if t then (n + m) + 1 else (n + m)) ≡ (if t then n + 1 else n) + m
+feeds_step :
+    (t : Bool) (n m : ℕ) → (if t then (n + m) + 1 else (n + m)) ≡ (if t then n + 1 else n) + m
 feeds_step true n m = omega arith
 feeds_step false n m = refl
 
 pub feeds-append : (a b : List ℕ) → feeds (a ++ b) ≡ feeds a + feeds b
 feeds-append [] b = omega arith
 feeds-append (x ∷ a) b =
-    ap (λ (n : ℕ). if x == 10 then n + 1 else n) (feeds-append a b) ∙ feeds_step (x == 10) (feeds a) (feeds b)
+    ap (λ (n : ℕ). if x == 10 then n + 1 else n) (feeds-append a b) ∙ feeds_step (x == 10) (feeds a)
+    (feeds b)
 
 -- bytes of a class without the line feed have none
-none_in : (test : ℕ → Bool) (x n : ℕ) → test 10 ≡ false → test x ≡ true → n ≡ 0 → (if x == 10 then n + 1 else n) ≡ 0
+none_in :
+    (test : ℕ → Bool) (x n : ℕ) → test 10 ≡ false → test x ≡ true → n ≡ 0 →
+    (if x == 10 then n + 1 else n) ≡ 0
 none_in test x n none some e = grind (arith, common_steps)
 
-pub feeds-AllPass : (test : ℕ → Bool) → test 10 ≡ false → (bytes : List ℕ) → AllPass test bytes → feeds bytes ≡ 0
+pub feeds-AllPass : (test : ℕ → Bool) → test 10 ≡ false → (bytes : List ℕ) → AllPass test bytes →
+    feeds bytes ≡ 0
 feeds-AllPass test none [] all = refl
 feeds-AllPass test none (x ∷ bytes) all =
     none_in test x (feeds bytes) none (All-head (λ v. test v ≡ true) x bytes all)
@@ -41,7 +48,9 @@ pub feed_behind : (x n : ℕ) → (x ≡ 10 → ⊥) → (if x == 10 then n + 1 
 feed_behind x n other = grind (arith, common_steps)
 
 -- A text with a line feed that begins as a line does holds all of it.
-pub line_first : (word rest text more : List ℕ) → feeds word ≡ 0 → word ++ 10 ∷ rest ≡ text ++ more → 0 < feeds text
+pub line_first :
+    (word rest text more : List ℕ) → feeds word ≡ 0 → word ++ 10 ∷ rest ≡ text ++ more →
+    0 < feeds text
     → (t : List ℕ) × (text ≡ word ++ 10 ∷ t) × (rest ≡ t ++ more)
 line_first word rest [] more none same some = absurd (omega arith)
 line_first [] rest (y ∷ text) more none same some = (text, cc, cc)
@@ -50,13 +59,15 @@ line_first (x ∷ word) rest (y ∷ text) more none same some =
     let head : x ≡ y = cc in
     let tail : word ++ 10 ∷ rest ≡ text ++ more = cc in
     let other : y ≡ 10 → ⊥ = λ e. parts.0 (head ∙ e) in
-    let more_feeds : 0 < feeds text = subst (λ (n : ℕ). 0 < n) (feed_behind y (feeds text) other) some in
+    let more_feeds : 0 < feeds text = subst (λ (n : ℕ). 0 < n) (feed_behind y (feeds text) other)
+    some in
     let found = line_first word rest text more parts.1 tail more_feeds in
     (found.0, cc, found.2)
 
 -- ---- line ends at the front
 
-pub newline_step : (b : ℕ) (bytes : List ℕ) → is_newline b ≡ true → skip_newlines (b ∷ bytes) ≡ skip_newlines bytes
+pub newline_step :
+    (b : ℕ) (bytes : List ℕ) → is_newline b ≡ true → skip_newlines (b ∷ bytes) ≡ skip_newlines bytes
 newline_step b bytes newline = rw newline
 
 pub skip_newlines-Stops : (bytes : List ℕ) → Stops is_newline bytes → skip_newlines bytes ≡ bytes
@@ -64,14 +75,20 @@ skip_newlines-Stops [] stops = refl
 skip_newlines-Stops (b ∷ bytes) stops = rw stops
 
 -- bytes behind a front
-pub skip_newlines-append : (a b : List ℕ) → ((skip_newlines a ≡ []) × (skip_newlines (a ++ b) ≡ skip_newlines b))
+pub skip_newlines-append : (a b : List ℕ) →
+    ((skip_newlines a ≡ []) × (skip_newlines (a ++ b) ≡ skip_newlines b))
     ⊎ (skip_newlines (a ++ b) ≡ skip_newlines a ++ b)
 skip_newlines-append [] b = inl (refl, refl)
 skip_newlines-append (x ∷ a) b = go (is_newline x) (skip_newlines-append a b)
   where
-    go : (t : Bool) → ((skip_newlines a ≡ []) × (skip_newlines (a ++ b) ≡ skip_newlines b)) ⊎ (skip_newlines (a ++ b) ≡ skip_newlines a ++ b)
-        → (((if t then skip_newlines a else x ∷ a) ≡ []) × ((if t then skip_newlines (a ++ b) else x ∷ (a ++ b)) ≡ skip_newlines b))
-        ⊎ ((if t then skip_newlines (a ++ b) else x ∷ (a ++ b)) ≡ (if t then skip_newlines a else x ∷ a) ++ b)
+    go :
+        (t : Bool) →
+        ((skip_newlines a ≡ []) × (skip_newlines (a ++ b) ≡ skip_newlines b)) ⊎
+        (skip_newlines (a ++ b) ≡ skip_newlines a ++ b)
+        → (((if t then skip_newlines a else x ∷ a) ≡ []) ×
+        ((if t then skip_newlines (a ++ b) else x ∷ (a ++ b)) ≡ skip_newlines b))
+        ⊎ ((if t then skip_newlines (a ++ b) else x ∷ (a ++ b)) ≡ (if t then skip_newlines a
+        else x ∷ a) ++ b)
     go true both = both
     go false both = inr refl
 
@@ -79,7 +96,8 @@ skip_newlines-append (x ∷ a) b = go (is_newline x) (skip_newlines-append a b)
 pub lines_behind-append : (a b : List ℕ) → lines_behind a ≤ lines_behind (a ++ b)
 lines_behind-append a b = go (skip_newlines-append a b)
   where
-    go : ((skip_newlines a ≡ []) × (skip_newlines (a ++ b) ≡ skip_newlines b)) ⊎ (skip_newlines (a ++ b) ≡ skip_newlines a ++ b)
+    go : ((skip_newlines a ≡ []) × (skip_newlines (a ++ b) ≡ skip_newlines b)) ⊎
+        (skip_newlines (a ++ b) ≡ skip_newlines a ++ b)
         → lines_behind a ≤ lines_behind (a ++ b)
     go (inl none) = rw none.0 (omega arith)
     go (inr some) = rw some (omega (arith, feeds-append (skip_newlines a) b))
@@ -90,7 +108,8 @@ lines_behind-feeds [] = omega arith
 lines_behind-feeds (x ∷ xs) = at (is_newline x) (lines_behind-feeds xs)
   where
     at : (t : Bool) → feeds (skip_newlines xs) ≤ feeds xs
-        → feeds (if t then skip_newlines xs else x ∷ xs) ≤ (if x == 10 then feeds xs + 1 else feeds xs)
+        → feeds (if t then skip_newlines xs else x ∷ xs) ≤ (if x == 10 then feeds xs + 1
+        else feeds xs)
     at true less = grind (arith, common_steps)
     at false less = omega arith
 
@@ -98,7 +117,8 @@ lines_behind-feeds (x ∷ xs) = at (is_newline x) (lines_behind-feeds xs)
 pub lines_behind-le : (a b : List ℕ) → lines_behind (a ++ b) ≤ lines_behind a + feeds b
 lines_behind-le a b = go (skip_newlines-append a b)
   where
-    go : ((skip_newlines a ≡ []) × (skip_newlines (a ++ b) ≡ skip_newlines b)) ⊎ (skip_newlines (a ++ b) ≡ skip_newlines a ++ b)
+    go : ((skip_newlines a ≡ []) × (skip_newlines (a ++ b) ≡ skip_newlines b)) ⊎
+        (skip_newlines (a ++ b) ≡ skip_newlines a ++ b)
         → lines_behind (a ++ b) ≤ lines_behind a + feeds b
     go (inl none) = rw (none.0, none.1) (omega (arith, lines_behind-feeds b))
     go (inr some) = rw some (omega (arith, feeds-append (skip_newlines a) b))

@@ -13,5 +13,7 @@ after_one Many value = Many
 -- these are the values: none, one that stands in the bytes, or more
 abbrev pub IsFound : List ℕ → List (List ℕ) → Found → Type 0
 IsFound bytes values Absent = values ≡ []
-IsFound bytes values (One value) = (values ≡ span_bytes bytes value ∷ []) × IsWithin (length bytes) value
-IsFound bytes values Many = (one : List ℕ) × (two : List ℕ) × (more : List (List ℕ)) × (values ≡ one ∷ two ∷ more)
+IsFound bytes values (One value) = (values ≡ span_bytes bytes value ∷ []) ×
+    IsWithin (length bytes) value
+IsFound bytes values Many = (one : List ℕ) × (two : List ℕ) × (more : List (List ℕ)) ×
+    (values ≡ one ∷ two ∷ more)

@@ -1,5 +1,6 @@
 -- How many bytes of content follow a head (RFC 9112, section 6; RFC 9110, section 8.6).
-use Rattle.std.specs.Prelude.{ℕ, ◌+◌, ◌*◌, ◌-◌, Bool, ◌&&◌, ◌||◌, List, [], ◌∷◌, length, codes, if◌then◌else◌, nat_eq, nat_le, Result, Ok, Err}
+use Rattle.std.specs.Prelude.{ℕ, ◌+◌, ◌*◌, ◌-◌, Bool, ◌&&◌, ◌||◌, List, [], ◌∷◌, length, codes}
+use Rattle.std.specs.Prelude.{if◌then◌else◌, nat_eq, nat_le, Result, Ok, Err}
 use Rattle.std.specs.Char.{is_ascii_digit}
 use Rattle.std.specs.List.{list_all}
 use Rattle.std.specs.Cmp.Lexicographic.{pointwise}
@@ -13,7 +14,8 @@ content_limit = 262144
 
 -- PUT and POST announce their content (RFC 9110, sections 9.3.3 and 9.3.4)
 abbrev pub wants_length : List ℕ → Bool
-wants_length method = pointwise nat_eq method (codes "PUT") || pointwise nat_eq method (codes "POST")
+wants_length method = pointwise nat_eq method (codes "PUT") ||
+    pointwise nat_eq method (codes "POST")
 
 -- what decimal digits say, behind a number that stands before them
 abbrev pub value_behind : ℕ → List ℕ → ℕ
@@ -22,13 +24,15 @@ value_behind before (digit ∷ digits) = value_behind (10 * before + (digit - 48
 
 -- 1 to 10 digits
 abbrev pub is_length : List ℕ → Bool
-is_length value = nat_le 1 (length value) && nat_le (length value) 10 && list_all is_ascii_digit value
+is_length value = nat_le 1 (length value) && nat_le (length value) 10 &&
+    list_all is_ascii_digit value
 
 -- the length that a value says
 abbrev pub length_said : List ℕ → Result ℕ HttpFault
 length_said value =
     if is_length value then
-    (if nat_le (value_behind 0 value) content_limit then Ok (value_behind 0 value) else Err BodyLarge)
+    (if nat_le (value_behind 0 value) content_limit then Ok (value_behind 0 value)
+    else Err BodyLarge)
     else Err HeadBad
 
 -- the length, by the values of Content-Length

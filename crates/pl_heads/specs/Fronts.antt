@@ -4,7 +4,8 @@ use Rattle.std.specs.Prelude.{◌≡◌, ℕ, List, ◌++◌, ◌⊎◌, length,
 use Rattle.httparse.specs.Grammar.{RequestHead, print_request, EndsInTarget}
 use Rattle.httparse.specs.Spans.{name_and_value}
 use Rattle.pl_heads.specs.declared.fault.HttpFault.{HttpFault}
-use Rattle.pl_heads.specs.declared.fault.HttpFault.TheVariants.{HeadBad, HeadLarge, LengthMissing, BodyLarge}
+use Rattle.pl_heads.specs.declared.fault.HttpFault.TheVariants.{HeadBad, HeadLarge, LengthMissing}
+use Rattle.pl_heads.specs.declared.fault.HttpFault.TheVariants.{BodyLarge}
 use Rattle.pl_heads.specs.declared.front.Head.{Head}
 use Rattle.pl_heads.specs.declared.front.Front.{Front}
 use Rattle.pl_heads.specs.declared.front.Front.TheVariants.{Partial, Whole, Bad}
@@ -38,7 +39,8 @@ IsToldEarly bytes BodyLarge = ⊥
 -- a fault, told early or by a whole head
 abbrev pub IsFaulty : List ℕ → HttpFault → Type 0
 IsFaulty bytes fault =
-    IsToldEarly bytes fault ⊎ ((head : RequestHead) × HasHead bytes head × (framed head ≡ Err fault))
+    IsToldEarly bytes fault ⊎ ((head : RequestHead) × HasHead bytes head ×
+    (framed head ≡ Err fault))
 
 -- what stands at the front of the bytes
 abbrev pub StandsAtFront : List ℕ → Front → Type 0
@@ -48,8 +50,11 @@ StandsAtFront bytes (Bad fault) = IsFaulty bytes fault
 
 -- a head stays when more bytes come, and so does a fault
 pub record FrontsStay : Type 0 where
-  pub heads : (bytes more : List ℕ) (head : RequestHead) → HasHead bytes head → HasHead (bytes ++ more) head
-  pub faults : (bytes more : List ℕ) (fault : HttpFault) → IsFaulty bytes fault → IsFaulty (bytes ++ more) fault
+  pub heads :
+      (bytes more : List ℕ) (head : RequestHead) → HasHead bytes head → HasHead (bytes ++ more) head
+  pub faults :
+      (bytes more : List ℕ) (fault : HttpFault) → IsFaulty bytes fault →
+      IsFaulty (bytes ++ more) fault
 
 -- Bytes have one head or one fault, or begin one of these: but while they end inside a target, the
 -- fault of a target that isn't UTF-8 may be told later, and behind the limit it is another one.

@@ -1,7 +1,8 @@
 -- The head of a request at the front of a link's bytes (RFC 9112, sections 2 to 5), with this
 -- project's limits. What a head is, is the grammar of `httparse`.
 use Rattle.std.specs.Prelude.{ℕ, ◌≤◌, ◌⊎◌, List, length, take}
-use Rattle.httparse.specs.Grammar.{RequestHead, print_request, ReadsRequest, HasNoRequest, NeverHasRequest, MayBecomeRequest}
+use Rattle.httparse.specs.Grammar.{RequestHead, print_request, ReadsRequest, HasNoRequest}
+use Rattle.httparse.specs.Grammar.{NeverHasRequest, MayBecomeRequest}
 use Rattle.httparse.specs.Spans.{RequestExceeds}
 
 -- the most bytes of a head, its last empty line among them

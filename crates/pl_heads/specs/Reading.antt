@@ -8,7 +8,8 @@ use Rattle.pl_heads.specs.declared.reading.Reading.TheVariants.{Whole, Partial, 
 use Rattle.pl_heads.specs.Heads.{field_limit}
 
 abbrev pub IsReading : List ℕ → List HeaderSpan → Reading → Type 0
-IsReading bytes headers (Whole spans) = IsRequestWithin bytes headers spans × IsRequestOf bytes headers spans
+IsReading bytes headers (Whole spans) = IsRequestWithin bytes headers spans ×
+    IsRequestOf bytes headers spans
 IsReading bytes headers Partial = HasNoRequest bytes × MayBecomeRequest bytes
 IsReading bytes headers Never = NeverHasRequest bytes
 IsReading bytes headers Many = RequestExceeds field_limit bytes

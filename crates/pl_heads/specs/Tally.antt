@@ -14,6 +14,10 @@ tally_of bytes = record { begun = is_begun bytes; lines = lines_behind bytes }
 
 abbrev pub after_byte : Tally → ℕ → Tally
 after_byte tally byte =
-    if byte == 10 then record { begun = tally.begun; lines = if tally.begun then tally.lines + 1 else tally.lines }
+    if byte == 10 then record {
+      begun = tally.begun;
+      lines = if tally.begun then tally.lines + 1
+          else tally.lines;
+    }
     else if byte == 13 then tally
     else record { begun = true; lines = tally.lines }

@@ -47,7 +47,8 @@ fn after_field(bytes: &[u8], found: Found, field: HeaderSpan, name: &[u8]) -> Fo
 /// The values of the fields of a name.
 pub(crate) fn look_up(bytes: &[u8], fields: &[HeaderSpan], name: &[u8]) -> Found
     requires { All (IsHeaderWithin (length bytes.now)) fields.now }
-    ensures { IsFound bytes.now (values_of name.now (map (header_bytes bytes.now) fields.now)) result }
+    ensures { IsFound bytes.now (values_of name.now (map (header_bytes bytes.now) fields.now))
+        result }
 {
     let mut found = Found::Absent;
     for field in fields {

@@ -1,11 +1,14 @@
 //! The length of the content behind a head.
 
-ghost use Rattle.std.specs.Prelude.{◌≡◌, ◌≤◌, ◌<◌, ◌+◌, ◌*◌, ◌-◌, All, IsTrue, IsUtf8, MatchOption, codes, map, length};
+ghost use Rattle.std.specs.Prelude.{◌≡◌, ◌≤◌, ◌<◌, ◌+◌, ◌*◌, ◌-◌, All, IsTrue, IsUtf8, MatchOption};
+ghost use Rattle.std.specs.Prelude.{codes, map, length};
 ghost use Rattle.std.specs.Char.{is_ascii_digit};
 ghost use Rattle.std.specs.List.{list_all};
-ghost use Rattle.httparse.specs.Spans.{header_bytes, span_bytes, IsWithin, IsHeaderWithin, IsRequestOf, IsRequestWithin};
+ghost use Rattle.httparse.specs.Spans.{header_bytes, span_bytes, IsWithin, IsHeaderWithin};
+ghost use Rattle.httparse.specs.Spans.{IsRequestOf, IsRequestWithin};
 ghost use Rattle.pl_heads.specs.Fields.{values_of};
-ghost use Rattle.pl_heads.specs.Framing.{content_length, content_limit, is_length, length_by, length_said, value_behind, wants_length};
+ghost use Rattle.pl_heads.specs.Framing.{content_length, content_limit, is_length, length_by};
+ghost use Rattle.pl_heads.specs.Framing.{length_said, value_behind, wants_length};
 ghost use Rattle.pl_heads.specs.Fronts.{StandsAtFront};
 ghost use Rattle.pl_heads.specs.Heads.{field_limit, head_limit};
 

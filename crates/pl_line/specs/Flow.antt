@@ -1,5 +1,7 @@
 -- Flow collections on one line (YAML 1.2.2, sections 5.3, 6.6, 7.3.3, 7.4.1 and 7.4.2).
-use Rattle.std.specs.Prelude.{ℕ, zero, suc, ◌+◌, ◌-◌, ◌<◌, ◌≤◌, Bool, false, ◌==◌, ◌&&◌, ◌||◌, List, [], ◌∷◌, ◌++◌, length, Option, Some, None, Result, Ok, Err, if◌then◌else◌}
+use Rattle.std.specs.Prelude.{ℕ, zero, suc, ◌+◌, ◌-◌, ◌<◌, ◌≤◌, Bool, false, ◌==◌, ◌&&◌, ◌||◌, List}
+use Rattle.std.specs.Prelude.{[], ◌∷◌, ◌++◌, length, Option, Some, None, Result, Ok, Err}
+use Rattle.std.specs.Prelude.{if◌then◌else◌}
 use Rattle.pl_base.specs.declared.place.FileKey.{FileKey}
 use Rattle.pl_base.specs.declared.node.Node.{Node}
 use Rattle.pl_base.specs.declared.node.NodeBody.{NodeBody}
@@ -23,16 +25,18 @@ use Rattle.pl_line.specs.Trees.{node_at, plain, is_doubled, pair_of}
 abbrev pub is_flow_indicator : ℕ → Bool
 is_flow_indicator c = c == 44 || c == 91 || c == 93 || c == 123 || c == 125
 
--- A plain scalar in a flow collection ends before those too, and else as in a block. How many of these characters it takes, blanks at its end counted;
--- and whether a blank stands before them.
+-- A plain scalar in a flow collection ends before those too, and else as in a block. How many of
+-- these characters it takes, blanks at its end counted; and whether a blank stands before them.
 abbrev pub flow_len : Bool → Bool → List ℕ → ℕ
 flow_len whole blank [] = 0
 flow_len whole blank (c ∷ cs) =
-    if c == 58 && ends_word whole cs || (c == 35 && blank || is_flow_indicator c) then 0 else 1 + flow_len whole (is_blank c) cs
+    if c == 58 && ends_word whole cs || (c == 35 && blank || is_flow_indicator c) then 0
+    else 1 + flow_len whole (is_blank c) cs
 
 -- `, ] } # | > % @` and the grave accent begin no node, nor do `-` and `:` as indicators
 abbrev pub begins_none : ℕ → Bool
-begins_none c = c == 44 || c == 93 || c == 125 || c == 35 || c == 124 || c == 62 || c == 37 || c == 64 || c == 96
+begins_none c = c == 44 || c == 93 || c == 125 || c == 35 || c == 124 || c == 62 || c == 37 ||
+    c == 64 || c == 96
 
 abbrev pub is_stray : Bool → ℕ → List ℕ → Bool
 is_stray whole c cs = begins_none c || (c == 45 || c == 58) && ends_word whole cs
@@ -61,7 +65,8 @@ Spans most heads.Collection = 1 ≤ most
 Spans most (heads.Plain n) = (0 < n) × (n ≤ most)
 Spans most _ = Unit {0}
 
--- Text that can't stand at a row's column. Where nothing is left of the row, a collection isn't closed on its line.
+-- Text that can't stand at a row's column. Where nothing is left of the row, a collection isn't
+-- closed on its line.
 abbrev pub misplaced : Row → Fault
 misplaced row = fault_at (if length row.text == 0 then end_code row.whole else codes_of.NoEntry) row
 
@@ -72,8 +77,8 @@ refusal whole heads.Tag = codes_of.Tag
 refusal whole heads.End = end_code whole
 refusal whole _ = codes_of.NoEntry
 
--- Something that was read, and what is left of the row behind it and the blanks after it. A collection leaves the row that begins with its closing
--- bracket.
+-- Something that was read, and what is left of the row behind it and the blanks after it. A
+-- collection leaves the row that begins with its closing bracket.
 abbrev pub FlowRead : Type 0 → Type 0
 FlowRead A = Result (A × Row) Fault
 
@@ -86,7 +91,10 @@ scalar_by row head = Err (fault_at (refusal row.whole head) row)
 -- a node in a collection; `node` reads the collections that begin there
 abbrev pub value_by : FileKey → (Row → FlowRead Node) → Row → FlowHead → FlowRead Node
 value_by file node row heads.Collection = node row >>= λ read. Ok (read.0, behind 1 read.1)
-value_by file node row head = scalar_by row head >>= λ read. Ok (node_at file row (Scalar read.0), read.1)
+value_by file node row head = scalar_by row head >>= λ read. Ok (
+  node_at file row (Scalar read.0),
+  read.1,
+)
 
 unfoldable pub value : FileKey → (Row → FlowRead Node) → Row → FlowRead Node
 value file node row = value_by file node row (head_of row)
@@ -95,7 +103,8 @@ value file node row = value_by file node row (head_of row)
 unfoldable pub colon : Row → Result Row Fault
 colon row = if begins_with 58 row.text then Ok (behind 1 row) else Err (misplaced row)
 
--- A key is a scalar before a `:`. A collection in its place is read through; then a `:` makes it a key that is no scalar.
+-- A key is a scalar before a `:`. A collection in its place is read through; then a `:` makes it a
+-- key that is no scalar.
 abbrev pub no_key : Row → Fault
 no_key row = if begins_with 58 row.text then fault_at codes_of.ComplexKey row else misplaced row
 
@@ -109,7 +118,8 @@ key node row = key_by node row (head_of row)
 
 -- the value of a key at that other row, empty before a comma and the closing bracket
 unfoldable pub item : FileKey → (Row → FlowRead Node) → Row → Row → FlowRead Node
-item file node at row = if begins_with 44 row.text || begins_with 125 row.text then Ok (node_at file at (Scalar []), row) else value file node row
+item file node at row = if begins_with 44 row.text || begins_with 125 row.text
+    then Ok (node_at file at (Scalar []), row) else value file node row
 
 -- an entry of a mapping, after those before it
 unfoldable pub pair : FileKey → (Row → FlowRead Node) → List NodePair → Row → FlowRead NodePair
@@ -125,17 +135,22 @@ separated close row =
     else if begins_with close row.text then Ok row
     else Err (misplaced row)
 
--- Entries, each read by `one`, which knows those before it, up to the closing bracket. Each takes a character, so there are no more of them than
--- characters.
-unfoldable pub entries : {A : Type 0} → ℕ → (List A → Row → FlowRead A) → ℕ → List A → Row → FlowRead (List A)
+-- Entries, each read by `one`, which knows those before it, up to the closing bracket. Each takes a
+-- character, so there are no more of them than characters.
+unfoldable pub entries :
+    {A : Type 0} → ℕ → (List A → Row → FlowRead A) → ℕ → List A → Row → FlowRead (List A)
 entries close one zero before row = Ok (before, row)
 entries close one (suc turns) before row =
     if begins_with close row.text then Ok (before, row)
-    else (one before row >>= λ next. separated close next.1 >>= λ left. entries close one turns (before ++ next.0 ∷ []) left)
+    else (one before row >>= λ next. separated close next.1 >>= λ left. entries close one turns
+    (before ++ next.0 ∷ []) left)
 
 -- the collection that a row begins with, made of its entries
-unfoldable pub gathered : {A : Type 0} → FileKey → (List A → NodeBody) → ℕ → (List A → Row → FlowRead A) → Row → FlowRead Node
-gathered file body close one row = entries close one (length row.text) [] (behind 1 row) >>= λ read. Ok (node_at file row (body read.0), read.1)
+unfoldable pub gathered :
+    {A : Type 0} → FileKey → (List A → NodeBody) → ℕ → (List A → Row → FlowRead A) → Row →
+    FlowRead Node
+gathered file body close one row = entries close one (length row.text) [] (behind 1 row) >>=
+    λ read. Ok (node_at file row (body read.0), read.1)
 
 abbrev pub sequence : FileKey → (Row → FlowRead Node) → Row → FlowRead Node
 sequence file node row = gathered file Seq 93 (λ _ left. value file node left) row
@@ -143,10 +158,12 @@ sequence file node row = gathered file Seq 93 (λ _ left. value file node left) 
 abbrev pub mapping : FileKey → (Row → FlowRead Node) → Row → FlowRead Node
 mapping file node row = gathered file Map 125 (pair file node) row
 
--- A collection, whose inner ones are read by the inner reader; where there is none, too many are open.
+-- A collection, whose inner ones are read by the inner reader; where there is none, too many are
+-- open.
 unfoldable pub collection : FileKey → Option (Row → FlowRead Node) → Row → FlowRead Node
 collection file None row = Err (fault_at codes_of.TooDeep row)
-collection file (Some node) row = if begins_with 91 row.text then sequence file node row else mapping file node row
+collection file (Some node) row = if begins_with 91 row.text then sequence file node row
+    else mapping file node row
 
 -- the reader of collections in a collection, where so many may still open
 unfoldable pub inner : FileKey → ℕ → Option (Row → FlowRead Node)
@@ -157,8 +174,8 @@ inner file (suc depth) = Some (collection file (inner file depth))
 abbrev pub node : FileKey → ℕ → Row → FlowRead Node
 node file depth = collection file (inner file depth)
 
--- The flow collection that a row begins with, in which and with which so many collections may open, and how many characters it takes, with both
--- brackets.
+-- The flow collection that a row begins with, in which and with which so many collections may open,
+-- and how many characters it takes, with both brackets.
 unfoldable pub flow : FileKey → ℕ → Row → Result (Node × ℕ) Fault
 flow file depth row =
     if begins_with 91 row.text || begins_with 123 row.text

@@ -1,5 +1,7 @@
 -- Quoted scalars on one line (YAML 1.2.2, sections 5.7, 7.3.1 and 7.3.2).
-use Rattle.std.specs.Prelude.{◌≡◌, ℕ, zero, suc, ◌+◌, ◌*◌, ◌<◌, ◌≤◌, Bool, ◌==◌, ◌&&◌, ◌||◌, nat_lt, List, [], ◌∷◌, ◌++◌, length, take, drop, Option, Some, None, Result, Ok, Err, if◌then◌else◌}
+use Rattle.std.specs.Prelude.{◌≡◌, ℕ, zero, suc, ◌+◌, ◌*◌, ◌<◌, ◌≤◌, Bool, ◌==◌, ◌&&◌, ◌||◌, nat_lt}
+use Rattle.std.specs.Prelude.{List, [], ◌∷◌, ◌++◌, length, take, drop, Option, Some, None, Result}
+use Rattle.std.specs.Prelude.{Ok, Err, if◌then◌else◌}
 use Rattle.std.specs.Char.{encode_utf8, digit_value}
 use Rattle.pl_line.specs.declared.code.YamlCode.TheVariants as codes_of
 use Rattle.pl_line.specs.declared.line_fault.Fault.{Fault}
@@ -37,7 +39,8 @@ named c =
 -- the value of hexadecimal digits behind those of this value, where each is one
 abbrev pub hex_value : ℕ → List ℕ → Option ℕ
 hex_value high [] = Some high
-hex_value high (c ∷ cs) = if nat_lt (digit_value c) 16 then hex_value (16 * high + digit_value c) cs else None
+hex_value high (c ∷ cs) = if nat_lt (digit_value c) 16 then hex_value (16 * high + digit_value c) cs
+    else None
 
 -- a Unicode scalar value: no surrogate, and at most U+10FFFF
 abbrev pub is_scalar : ℕ → Bool
@@ -54,7 +57,8 @@ spelled n (Some c) = pieces.Character c n
 
 -- behind `\x`, `\u` or `\U`, so many hexadecimal digits of a Unicode scalar value
 unfoldable pub numbered : ℕ → List ℕ → Piece
-numbered n cs = if nat_lt (length cs) n then pieces.BadEscape else spelled (n + 2) (scalar_only (hex_value 0 (take n cs)))
+numbered n cs = if nat_lt (length cs) n then pieces.BadEscape
+    else spelled (n + 2) (scalar_only (hex_value 0 (take n cs)))
 
 -- what a backslash before this text spells
 unfoldable pub escape : List ℕ → Piece
@@ -65,7 +69,8 @@ escape (c ∷ cs) =
     else if c == 85 then numbered 8 cs
     else spelled 2 (named c)
 
--- What stands next in a quoted scalar. In single quotes, two quotes are one; in double quotes, a backslash begins an escape.
+-- What stands next in a quoted scalar. In single quotes, two quotes are one; in double quotes, a
+-- backslash begins an escape.
 unfoldable pub single : List ℕ → Piece
 single [] = pieces.Open
 single (c ∷ cs) =
@@ -99,19 +104,24 @@ Leaves old new _ = Unit {0}
 abbrev pub is_special : ℕ → Bool
 is_special c = c == 39 || c == 34 || c == 92
 
--- A quoted scalar is one piece after the other, up to the closing quote. The text of those so far is known, and how many characters they took. Each
--- takes a character, so there are no more of them than characters.
-abbrev pub next_piece : (List ℕ → ℕ → Result (List ℕ × ℕ) Fault) → Row → List ℕ → ℕ → Piece → Result (List ℕ × ℕ) Fault
+-- A quoted scalar is one piece after the other, up to the closing quote. The text of those so far
+-- is known, and how many characters they took. Each takes a character, so there are no more of them
+-- than characters.
+abbrev pub next_piece :
+    (List ℕ → ℕ → Result (List ℕ × ℕ) Fault) → Row → List ℕ → ℕ → Piece → Result (List ℕ × ℕ) Fault
 next_piece more row before at (pieces.Character c n) = more (before ++ encode_utf8 c) (at + n)
 next_piece more row before at pieces.Close = Ok (before, at + 1)
 next_piece more row before at pieces.BadEscape = Err (fault_behind codes_of.BadEscape at row)
-next_piece more row before at pieces.Open = Err (fault_behind (end_code row.whole) (length row.text) row)
+next_piece more row before at pieces.Open =
+    Err (fault_behind (end_code row.whole) (length row.text) row)
 
 unfoldable pub pieces_of : Style → Row → ℕ → List ℕ → ℕ → Result (List ℕ × ℕ) Fault
 pieces_of style row zero before at = Ok (before, at)
-pieces_of style row (suc turns) before at = next_piece (pieces_of style row turns) row before at (piece style (drop at row.text))
+pieces_of style row (suc turns) before at = next_piece (pieces_of style row turns) row before at
+    (piece style (drop at row.text))
 
--- The quoted scalar that a row begins with: its text, and how many characters it takes, with both quotes.
+-- The quoted scalar that a row begins with: its text, and how many characters it takes, with both
+-- quotes.
 unfoldable pub quoted : Row → Result (List ℕ × ℕ) Fault
 quoted row =
     if begins_with 39 row.text then pieces_of styles.Single row (length row.text) [] 1

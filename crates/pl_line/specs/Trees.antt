@@ -27,4 +27,8 @@ is_doubled key pairs = not (starts_with nat_eq key (codes "${{")) && has_key key
 
 -- a pair whose key stands at a row's column
 abbrev pub pair_of : FileKey → Row → List ℕ → Node → NodePair
-pair_of file row key item = record { key = key; key_place = place_at file row.number row.column; item = item }
+pair_of file row key item = record {
+  key = key;
+  key_place = place_at file row.number row.column;
+  item = item;
+}

@@ -21,7 +21,8 @@ pub enum YamlCode {
     /// Y6: a marker of documents, at column 1.
     #[error("Y6: a marker of documents")]
     Documents,
-    /// Y7: a line whose indentation fits nothing that is being read, at its first character that isn't a space.
+    /// Y7: a line whose indentation fits nothing that is being read, at its first character that
+    /// isn't a space.
     #[error("Y7: an indentation that fits nothing above")]
     BadIndent,
     /// Y8: a quoted scalar or a flow collection that isn't closed on its line, at the line's end.

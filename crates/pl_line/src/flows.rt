@@ -56,7 +56,8 @@ fn value(
     depth: u32,
     line: &mut Line,
 ) -> Result<Node, ReadFault>
-    ensures gives { Gives (λ node. (node, row line.new)) result (spec.value file.now (spec.node file.now depth) (row line.old)) }
+    ensures gives { Gives (λ node. (node, row line.new)) result
+        (spec.value file.now (spec.node file.now depth) (row line.old)) }
     ensures falls { OnOk result (length (all_of line.new.text) < length (all_of line.old.text)) }
 {
     let start = *line;
@@ -83,7 +84,8 @@ fn key(
     depth: u32,
     line: &mut Line,
 ) -> Result<Text, ReadFault>
-    ensures gives { Gives (λ text. (text, row line.new)) result (spec.key (spec.node file.now depth) (row line.old)) }
+    ensures gives { Gives (λ text. (text, row line.new)) result (spec.key (spec.node file.now depth)
+        (row line.old)) }
     ensures falls { OnOk result (length (all_of line.new.text) < length (all_of line.old.text)) }
 {
     match head_of(line) {
@@ -112,7 +114,8 @@ fn item(
     at: &Line,
     line: &mut Line,
 ) -> Result<Node, ReadFault>
-    ensures gives { Gives (λ node. (node, row line.new)) result (spec.item file.now (spec.node file.now depth) (row at.now) (row line.old)) }
+    ensures gives { Gives (λ node. (node, row line.new)) result
+        (spec.item file.now (spec.node file.now depth) (row at.now) (row line.old)) }
     ensures falls { OnOk result (length (all_of line.new.text) ≤ length (all_of line.old.text)) }
 {
     if begins_with(',', line.text) || begins_with('}', line.text) {
@@ -132,7 +135,8 @@ fn pair(
     before: &Pairs,
     line: &mut Line,
 ) -> Result<NodePair, ReadFault>
-    ensures gives { Gives (λ pair. (pair, row line.new)) result (spec.pair file.now (spec.node file.now depth) before.now.pairs (row line.old)) }
+    ensures gives { Gives (λ pair. (pair, row line.new)) result
+        (spec.pair file.now (spec.node file.now depth) before.now.pairs (row line.old)) }
     ensures falls { OnOk result (length (all_of line.new.text) < length (all_of line.old.text)) }
 {
     let start = *line;
@@ -158,7 +162,8 @@ fn sequence(
     line: &mut Line,
 ) -> Result<Node, ReadFault>
     requires { 1 ≤ length (all_of line.old.text) }
-    ensures gives { Gives (λ node. (node, row line.new)) result (spec.sequence file.now (spec.node file.now depth) (row line.old)) }
+    ensures gives { Gives (λ node. (node, row line.new)) result
+        (spec.sequence file.now (spec.node file.now depth) (row line.old)) }
     ensures closed { OnOk result (1 ≤ length (all_of line.new.text)) }
     ensures falls { OnOk result (length (all_of line.new.text) < length (all_of line.old.text)) }
 {
@@ -183,7 +188,8 @@ fn mapping(
     line: &mut Line,
 ) -> Result<Node, ReadFault>
     requires { 1 ≤ length (all_of line.old.text) }
-    ensures gives { Gives (λ node. (node, row line.new)) result (spec.mapping file.now (spec.node file.now depth) (row line.old)) }
+    ensures gives { Gives (λ node. (node, row line.new)) result
+        (spec.mapping file.now (spec.node file.now depth) (row line.old)) }
     ensures closed { OnOk result (1 ≤ length (all_of line.new.text)) }
     ensures falls { OnOk result (length (all_of line.new.text) < length (all_of line.old.text)) }
 {
@@ -209,7 +215,8 @@ fn collection(
     line: &mut Line,
 ) -> Result<Node, ReadFault>
     requires { 1 ≤ length (all_of line.old.text) }
-    ensures gives { Gives (λ node. (node, row line.new)) result (spec.node file.now depth (row line.old)) }
+    ensures gives { Gives (λ node. (node, row line.new)) result
+        (spec.node file.now depth (row line.old)) }
     ensures closed { OnOk result (1 ≤ length (all_of line.new.text)) }
     ensures falls { OnOk result (length (all_of line.new.text) < length (all_of line.old.text)) }
 {
@@ -245,8 +252,10 @@ pub fn flow(
     depth: u32,
     line: &Line,
 ) -> Result<Flow, ReadFault>
-    ensures gives { Gives (λ read. (read.node, read.len)) result (spec.flow file.now depth (row line.now)) }
-    ensures within { IfOk result (λ read. (2 ≤ read.len) × (read.len ≤ length (all_of line.now.text))) }
+    ensures gives { Gives (λ read. (read.node, read.len)) result
+        (spec.flow file.now depth (row line.now)) }
+    ensures within { IfOk result (λ read. (2 ≤ read.len) ×
+        (read.len ≤ length (all_of line.now.text))) }
 {
     if !begins_with('[', line.text) && !begins_with('{', line.text) {
         return Err(fault_at(YamlCode::NoEntry, line));

@@ -15,8 +15,8 @@ use std::collections::{BTreeMap, BTreeSet};
 /// How many pairs a mapping has before their keys are kept besides.
 const FEW: usize = 8;
 
-/// How a key is found among a mapping's pairs. Strangers choose the keys, so that many have one number
-/// must cost no more than their order does.
+/// How a key is found among a mapping's pairs. Strangers choose the keys, so that many have one
+/// number must cost no more than their order does.
 #[derive(Drop)]
 pub(crate) enum Keys {
     /// By a look at each pair: there are few.
@@ -31,7 +31,8 @@ impl Keys {
     /// How keys are found behind one more pair with that key.
     pub(crate) fn with(self, alloc: Global, pairs: &[NodePair], key: &Text) -> Result<Keys, Memory>
         requires { spec.IsKept self pairs.now }
-        ensures { IfOk result (λ more. (pair : node_pair) → pair.key ≡ key.now → spec.IsKept more (pairs.now ++ pair ∷ [])) }
+        ensures { IfOk result (λ more. (pair : node_pair) → pair.key ≡ key.now →
+            spec.IsKept more (pairs.now ++ pair ∷ [])) }
     {
         match self {
             Keys::Few if pairs.len() < FEW => Ok(Keys::Few),
@@ -44,7 +45,8 @@ impl Keys {
 
 /// How keys are found, from nothing, among these pairs and one more with that key.
 fn first_with(alloc: Global, pairs: &[NodePair], key: &Text) -> Result<Keys, Memory>
-    ensures { IfOk result (λ more. (pair : node_pair) → pair.key ≡ key.now → spec.IsKept more (pairs.now ++ pair ∷ [])) }
+    ensures { IfOk result (λ more. (pair : node_pair) → pair.key ≡ key.now →
+        spec.IsKept more (pairs.now ++ pair ∷ [])) }
 {
     match places_of(alloc, pairs)? {
         Some(places) => numbered_with(alloc, places, pairs, key),
@@ -60,7 +62,8 @@ fn numbered_with(
     key: &Text,
 ) -> Result<Keys, Memory>
     requires { spec.IsNumbered places pairs.now }
-    ensures { IfOk result (λ more. (pair : node_pair) → pair.key ≡ key.now → spec.IsKept more (pairs.now ++ pair ∷ [])) }
+    ensures { IfOk result (λ more. (pair : node_pair) → pair.key ≡ key.now →
+        spec.IsKept more (pairs.now ++ pair ∷ [])) }
 {
     match placed(places, pairs, key)? {
         Some(places) => Ok(Keys::Numbered(places)),
@@ -75,7 +78,8 @@ fn placed(
     key: &Text,
 ) -> Result<Option<BTreeMap<u64, usize>>, Memory>
     requires { spec.IsNumbered places pairs.now }
-    ensures { IfOk result (λ found. IfSome found (λ places. (pair : node_pair) → pair.key ≡ key.now → spec.IsKept (keys.Numbered places) (pairs.now ++ pair ∷ []))) }
+    ensures { IfOk result (λ found. IfSome found (λ places. (pair : node_pair) →
+        pair.key ≡ key.now → spec.IsKept (keys.Numbered places) (pairs.now ++ pair ∷ []))) }
 {
     let before = places.insert(number_of(key), pairs.len())?;
     if before.is_some() {
@@ -93,7 +97,8 @@ fn ordered_with(
     key: &Text,
 ) -> Result<Keys, Memory>
     requires { spec.IsOrdered keys pairs.now }
-    ensures { IfOk result (λ more. (pair : node_pair) → pair.key ≡ key.now → spec.IsKept more (pairs.now ++ pair ∷ [])) }
+    ensures { IfOk result (λ more. (pair : node_pair) → pair.key ≡ key.now →
+        spec.IsKept more (pairs.now ++ pair ∷ [])) }
 {
     let _pairs = pairs;
     keys.insert(key.copy(alloc)?)?;

@@ -86,8 +86,10 @@ fn take_piece(style: Style, rest: &mut Characters) -> Piece
 /// Reads the quoted scalar whose opening quote a line begins with.
 fn pieces(alloc: Global, style: Style, line: &Line) -> Result<Quoted, ReadFault>
     requires { 1 ≤ length (all_of line.now.text) }
-    ensures gives { Gives (λ read. (read.text, read.len)) result (spec.pieces_of style (row line.now) (length (all_of line.now.text)) [] 1) }
-    ensures within { IfOk result (λ read. (2 ≤ read.len) × (read.len ≤ length (all_of line.now.text))) }
+    ensures gives { Gives (λ read. (read.text, read.len)) result
+        (spec.pieces_of style (row line.now) (length (all_of line.now.text)) [] 1) }
+    ensures within { IfOk result (λ read. (2 ≤ read.len) ×
+        (read.len ≤ length (all_of line.now.text))) }
 {
     let mut text = String::new(alloc);
     let mut rest = line.text.behind(1);
@@ -119,7 +121,8 @@ fn pieces(alloc: Global, style: Style, line: &Line) -> Result<Quoted, ReadFault>
 #[tactic(auto, unfolding(crate::specs::Quoted::quoted))]
 pub fn quoted(alloc: Global, line: &Line) -> Result<Quoted, ReadFault>
     ensures gives { Gives (λ read. (read.text, read.len)) result (spec.quoted (row line.now)) }
-    ensures within { IfOk result (λ read. (2 ≤ read.len) × (read.len ≤ length (all_of line.now.text))) }
+    ensures within { IfOk result (λ read. (2 ≤ read.len) ×
+        (read.len ≤ length (all_of line.now.text))) }
 {
     match line.text.first() {
         Some('\'') => pieces(alloc, Style::Single, line),

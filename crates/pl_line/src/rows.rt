@@ -1,4 +1,5 @@
-ghost use Rattle.std.specs.Prelude.{◌≡◌, ◌+◌, ◌<◌, ◌^◌, ◌==◌, [], ◌∷◌, length, drop, chars, MatchOption};
+ghost use Rattle.std.specs.Prelude.{◌≡◌, ◌+◌, ◌<◌, ◌^◌, ◌==◌, [], ◌∷◌, length, drop, chars};
+ghost use Rattle.std.specs.Prelude.{MatchOption};
 ghost use Rattle.std.specs.List.{slice_split, position_or_len};
 ghost use Rattle.pl_line.specs.Characters.{all_of};
 ghost use Rattle.pl_line.specs.Rows as spec;
@@ -19,16 +20,19 @@ pub struct Rows<'t> {
 }
 
 impl<'t> Model for Rows<'t> {
-    ghost use Rattle.std.specs.Prelude.{List as list, ℕ, ◌==◌, ◌+◌, ◌<◌, ◌^◌, [], length, chars, IfSome};
+    ghost use Rattle.std.specs.Prelude.{List as list, ℕ, ◌==◌, ◌+◌, ◌<◌, ◌^◌, [], length, chars};
+    ghost use Rattle.std.specs.Prelude.{IfSome};
     ghost use Rattle.std.specs.Option.{option_map_or};
     ghost use Rattle.std.specs.List.{slice_split};
     ghost use Rattle.pl_line.specs.Rows.{Row, rows_from};
 
     ghost Value = { list Row };
 
-    ghost view = { λ rows. option_map_or (λ rest. rows_from rows.number (slice_split (λ c. c == 10) (chars rest.now))) rows.rest [] };
+    ghost view = { λ rows. option_map_or
+        (λ rest. rows_from rows.number (slice_split (λ c. c == 10) (chars rest.now))) rows.rest [] };
 
-    ghost invariant = { λ rows. IfSome rows.rest (λ rest. rows.number + length (chars rest.now) + 1 < 2 ^ 32) };
+    ghost invariant = { λ rows. IfSome rows.rest
+        (λ rest. rows.number + length (chars rest.now) + 1 < 2 ^ 32) };
 }
 
 impl<'t> Rows<'t> {
@@ -65,7 +69,8 @@ impl<'t> Rows<'t> {
 
     /// Takes the first line off, or None where no line is left.
     pub fn next(&mut self) -> Option<Line<'t>>
-        ensures { MatchOption result ((self.old ≡ []) × (self.new ≡ [])) (λ line. self.old ≡ row line ∷ self.new) }
+        ensures { MatchOption result ((self.old ≡ []) × (self.new ≡ [])) (λ line. self.old ≡
+            row line ∷ self.new) }
     {
         let rest = self.rest?;
         let number = self.number;
@@ -88,7 +93,8 @@ impl<'t> Rows<'t> {
 fn to_control(rest: &mut Tail) -> (usize, Option<char>)
     requires { length (chars rest.old.text.now) < 2 ^ 32 }
     ensures count { result.0 ≡ position_or_len spec.is_control (chars rest.old.text.now) }
-    ensures left { MatchOption result.1 (drop result.0 (chars rest.old.text.now) ≡ []) (λ c. drop result.0 (chars rest.old.text.now) ≡ c ∷ chars rest.new.text.now) }
+    ensures left { MatchOption result.1 (drop result.0 (chars rest.old.text.now) ≡ [])
+        (λ c. drop result.0 (chars rest.old.text.now) ≡ c ∷ chars rest.new.text.now) }
 {
     let mut count = 0;
     while let Some(c) = rest.next() {

@@ -1,4 +1,5 @@
-ghost use Rattle.std.specs.Prelude.{◌≡◌, ◌≤◌, ◌==◌, false, not, length, take, drop, None, encode_utf8_all};
+ghost use Rattle.std.specs.Prelude.{◌≡◌, ◌≤◌, ◌==◌, false, not, length, take, drop, None};
+ghost use Rattle.std.specs.Prelude.{encode_utf8_all};
 ghost use Rattle.std.specs.List.{position_or_len, last_or};
 ghost use Rattle.pl_line.specs.Characters.{all_of};
 ghost use Rattle.pl_reading.specs.Bytes as bytes;
@@ -126,7 +127,8 @@ fn ends_with_blank(text: &str) -> bool
 /// The first so many characters of a text, without the blanks at their end.
 pub fn content(text: Characters, len: usize) -> &str
     requires { len ≤ length (all_of text) }
-    ensures { result.now ≡ encode_utf8_all (take (spec.content_len (take len (all_of text.entry))) (all_of text.entry)) }
+    ensures { result.now ≡ encode_utf8_all (take (spec.content_len (take len (all_of text.entry)))
+        (all_of text.entry)) }
 {
     let front = text.front(len);
     let whole = front.as_str();

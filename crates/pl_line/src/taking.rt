@@ -1,4 +1,5 @@
-ghost use Rattle.std.specs.Prelude.{◌≡◌, ◌≤◌, ◌==◌, [], ◌∷◌, length, take, drop, chars, MatchOption, encode_utf8_all};
+ghost use Rattle.std.specs.Prelude.{◌≡◌, ◌≤◌, ◌==◌, [], ◌∷◌, length, take, drop, chars};
+ghost use Rattle.std.specs.Prelude.{MatchOption, encode_utf8_all};
 ghost use Rattle.pl_line.specs.Characters.{all_of};
 
 use crate::characters::Characters;
@@ -21,7 +22,8 @@ impl<'t> Characters<'t> {
 
     /// The first one, or None where there is none.
     pub fn first(&self) -> Option<char>
-        ensures { MatchOption result (all_of self.now ≡ []) (λ c. all_of self.now ≡ c ∷ drop 1 (all_of self.now)) }
+        ensures { MatchOption result (all_of self.now ≡ []) (λ c. all_of self.now ≡ c ∷
+            drop 1 (all_of self.now)) }
     {
         let mut rest = *self;
         rest.next()
@@ -29,7 +31,8 @@ impl<'t> Characters<'t> {
 
     /// Takes the first one off, or None where there is none.
     pub fn next(&mut self) -> Option<char>
-        ensures { MatchOption result ((all_of self.old ≡ []) × (all_of self.new ≡ [])) (λ c. all_of self.old ≡ c ∷ all_of self.new) }
+        ensures { MatchOption result ((all_of self.old ≡ []) × (all_of self.new ≡ []))
+            (λ c. all_of self.old ≡ c ∷ all_of self.new) }
     {
         if self.len == 0 {
             return None;
@@ -103,7 +106,9 @@ impl<'t> Tail<'t> {
 
     /// Takes the first character off, or None where there is none.
     pub(crate) fn next(&mut self) -> Option<char>
-        ensures { MatchOption result ((chars self.old.text.now ≡ []) × (chars self.new.text.now ≡ [])) (λ c. chars self.old.text.now ≡ c ∷ chars self.new.text.now) }
+        ensures { MatchOption result ((chars self.old.text.now ≡ []) ×
+            (chars self.new.text.now ≡ [])) (λ c. chars self.old.text.now ≡ c ∷
+            chars self.new.text.now) }
     {
         let mut rest = self.text.chars();
         let next = rest.next()?;

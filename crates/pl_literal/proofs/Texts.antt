@@ -8,8 +8,12 @@ use Rattle.std.proofs.lemmas.Slice.Eq.{slice_eq-Decides}
 use Rattle.pl_base.specs.Folding.{folded}
 use Rattle.pl_base.proofs.Cases.{alike}
 
-pub spelled : (left right : List ℕ) (r : Bool) → IsTrue r ↔ (map to_ascii_lowercase left ≡ map to_ascii_lowercase right) → r ≡ pointwise nat_eq (folded left) (folded right)
+pub spelled :
+    (left right : List ℕ) (r : Bool) →
+    IsTrue r ↔ (map to_ascii_lowercase left ≡ map to_ascii_lowercase right) →
+    r ≡ pointwise nat_eq (folded left) (folded right)
 spelled left right r tells =
     same_from_decides r (pointwise nat_eq (folded left) (folded right))
     (Decides-like r (alike left right).0 (alike left right).1 tells)
-    (slice_eq-Decides Decides-eqb (folded left) (folded right) (pointwise nat_eq (folded left) (folded right)) refl)
+    (slice_eq-Decides Decides-eqb (folded left) (folded right)
+    (pointwise nat_eq (folded left) (folded right)) refl)

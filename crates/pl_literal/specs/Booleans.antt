@@ -1,5 +1,7 @@
--- The texts that are Booleans (YAML 1.1's type repository, "Boolean Language-Independent Type", in any mixture of cases).
-use Rattle.std.specs.Prelude.{ℕ, Bool, true, false, List, [], ◌∷◌, Option, Some, None, codes, nat_eq, if◌then◌else◌}
+-- The texts that are Booleans (YAML 1.1's type repository, "Boolean Language-Independent Type", in
+-- any mixture of cases).
+use Rattle.std.specs.Prelude.{ℕ, Bool, true, false, List, [], ◌∷◌, Option, Some, None, codes}
+use Rattle.std.specs.Prelude.{nat_eq, if◌then◌else◌}
 use Rattle.std.specs.List.{list_any}
 use Rattle.std.specs.Cmp.Lexicographic.{pointwise}
 use Rattle.pl_base.specs.Folding.{folded}

@@ -1,6 +1,8 @@
--- Which kind of item a mapping is, by its first key (Microsoft Learn, Azure Pipelines, "YAML schema reference": the
--- pages of steps, jobs.job, jobs.deployment, stages.stage, and of the templates of these).
-use Rattle.std.specs.Prelude.{ℕ, Bool, List, [], ◌∷◌, Option, Some, None, codes, nat_eq, if◌then◌else◌}
+-- Which kind of item a mapping is, by its first key (Microsoft Learn, Azure Pipelines, "YAML schema
+-- reference": the pages of steps, jobs.job, jobs.deployment, stages.stage, and of the templates of
+-- these).
+use Rattle.std.specs.Prelude.{ℕ, Bool, List, [], ◌∷◌, Option, Some, None, codes, nat_eq}
+use Rattle.std.specs.Prelude.{if◌then◌else◌}
 use Rattle.std.specs.List.{list_any}
 use Rattle.std.specs.Cmp.Lexicographic.{pointwise}
 use Rattle.pl_base.specs.declared.value.Value.{Value, out-Value}
@@ -9,12 +11,14 @@ use Rattle.pl_base.specs.declared.value.Value.TheOpen as layer
 use Rattle.pl_base.specs.declared.value.MarkedNode.{MarkedNode}
 use Rattle.pl_base.specs.declared.value.MarkedPair.{MarkedPair}
 use Rattle.pl_literal.specs.declared.items.ItemKind.{ItemKind}
-use Rattle.pl_literal.specs.declared.items.ItemKind.TheVariants.{Step, Job, Deployment, Stage, Template}
+use Rattle.pl_literal.specs.declared.items.ItemKind.TheVariants.{Step, Job, Deployment, Stage}
+use Rattle.pl_literal.specs.declared.items.ItemKind.TheVariants.{Template}
 
 -- the keys with which a step begins
 abbrev pub step_keys : List (List ℕ)
 step_keys =
-    codes "task" ∷ codes "script" ∷ codes "bash" ∷ codes "pwsh" ∷ codes "powershell" ∷ codes "checkout"
+    codes "task" ∷ codes "script" ∷ codes "bash" ∷ codes "pwsh" ∷ codes "powershell" ∷
+    codes "checkout"
     ∷ codes "publish" ∷ codes "download" ∷ []
 
 -- whether two texts are the same

@@ -3,9 +3,9 @@ ghost use Rattle.pl_literal.specs.Booleans.{boolean_in, spells};
 
 use pl_base::Text;
 
-/// The Boolean that a text is: True for `true`, `y`, `yes` and `on`, False for `false`, `n`, `no` and
-/// `off`, in any case of ASCII's letters (YAML 1.1's type repository, "Boolean Language-Independent
-/// Type"). None for every other text. It takes no memory.
+/// The Boolean that a text is: True for `true`, `y`, `yes` and `on`, False for `false`, `n`, `no`
+/// and `off`, in any case of ASCII's letters (YAML 1.1's type repository, "Boolean
+/// Language-Independent Type"). None for every other text. It takes no memory.
 pub fn boolean_in(text: &Text) -> Option<bool>
     ensures { result ≡ boolean_in text.now }
 {

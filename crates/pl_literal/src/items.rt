@@ -3,8 +3,8 @@ ghost use Rattle.pl_literal.specs.Items.{kind_of_key, kind_of_item};
 
 use pl_base::{Text, Value};
 
-/// What an item of a list of steps, jobs or stages is (Microsoft Learn, Azure Pipelines, "YAML schema
-/// reference").
+/// What an item of a list of steps, jobs or stages is (Microsoft Learn, Azure Pipelines, "YAML
+/// schema reference").
 #[derive(Clone, Copy, Debug, PartialEq, Eq)]
 pub enum ItemKind {
     Step,
@@ -16,9 +16,9 @@ pub enum ItemKind {
 }
 
 /// The kind of the items whose first key this is: a step for `task`, `script`, `bash`, `pwsh`,
-/// `powershell`, `checkout`, `publish` and `download`, a job for `job`, a deployment for `deployment`,
-/// a stage for `stage`, the call of a template for `template`. None for every other key. Keys are
-/// exact.
+/// `powershell`, `checkout`, `publish` and `download`, a job for `job`, a deployment for
+/// `deployment`, a stage for `stage`, the call of a template for `template`. None for every other
+/// key. Keys are exact.
 pub fn kind_of_key(key: &Text) -> Option<ItemKind>
     ensures { result ≡ kind_of_key key.now }
 {

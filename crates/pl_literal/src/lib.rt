@@ -1,5 +1,5 @@
-//! What templates and pipelines share: texts that are Booleans, kinds of items, nodes as values, and
-//! equality of values.
+//! What templates and pipelines share: texts that are Booleans, kinds of items, nodes as values,
+//! and equality of values.
 #![tactic(auto)]
 
 mod booleans;

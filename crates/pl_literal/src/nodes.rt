@@ -21,8 +21,8 @@ pub fn origin_at(
 }
 
 /// A node as a value that isn't evaluated: a scalar is its text, a sequence an array, a mapping an
-/// object. Every node and every key comes from its own place, across the given borders. Memory comes
-/// too where the node is deeper than `DEEPEST`.
+/// object. Every node and every key comes from its own place, across the given borders. Memory
+/// comes too where the node is deeper than `DEEPEST`.
 pub fn literal(
     alloc: Global,
     node: &Node,

@@ -176,7 +176,8 @@ fn is_same(
     Ok(same_value(&node.value, &other.value))
 }
 
-/// A literal comes from its own place across the given borders, and values are compared without that.
+/// A literal comes from its own place across the given borders, and values are compared without
+/// that.
 #[test]
 fn literals_are_compared_without_origins(rt: HostRuntime) -> Result<(), Fail> {
     let alloc = rt.alloc();

@@ -1,5 +1,6 @@
 ghost use Rattle.std.specs.Prelude.{◌≡◌, ◌↔◌, IsTrue, map};
-ghost use Rattle.pl_literal.specs.Values.{alike, nodes_alike, pairs_alike, all_pass, without_origins};
+ghost use Rattle.pl_literal.specs.Values.{alike, nodes_alike, pairs_alike, all_pass};
+ghost use Rattle.pl_literal.specs.Values.{without_origins};
 
 use pl_base::{List, MarkedNode, MarkedPair, Value};
 

@@ -1,9 +1,11 @@
 -- What is found first in a list in order is what the definitions call the least.
-use Rattle.std.proofs.Common.{◌≡◌, ◌+◌, ◌<◌, ℕ, List, get_or, length, refl, sym, ap, ◌∙◌, subst, arith, inl, ⊎_elim}
+use Rattle.std.proofs.Common.{◌≡◌, ◌+◌, ◌<◌, ℕ, List, get_or, length, refl, sym, ap, ◌∙◌, subst}
+use Rattle.std.proofs.Common.{arith, inl, ⊎_elim}
 use Rattle.std.proofs.lemmas.Bool.{cases_lt}
 use Rattle.std.proofs.lemmas.List.{get_or_default}
 use Rattle.pl_locks.specs.declared.contender.Contender.{Contender}
-use Rattle.pl_locks.specs.Locks.{GivesWay, IsAt, IsLeastSuperseded, IsLeastLaterRun, IsNext, IsSuperseded, MayStart}
+use Rattle.pl_locks.specs.Locks.{GivesWay, IsAt, IsLeastSuperseded, IsLeastLaterRun, IsNext}
+use Rattle.pl_locks.specs.Locks.{IsSuperseded, MayStart}
 use Rattle.pl_locks.specs.Kept.{IsFirstAt, IsOrdered}
 use Rattle.pl_locks.proofs.Ordered.{least_of}
 

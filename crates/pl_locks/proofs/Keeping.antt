@@ -7,7 +7,8 @@ use Rattle.pl_locks.specs.declared.contender.Contender.{Contender}
 use Rattle.pl_locks.specs.Locks.{Locks, IsAt, IsHeld, IsNext, Precedes, Shares}
 use Rattle.pl_locks.specs.Kept.{AreApart, IsAbsent, IsKept, IsOrdered, IsPutIn, is_at, without}
 use Rattle.pl_locks.proofs.Ordered.{same_at}
-use Rattle.pl_locks.proofs.Moved.{All-insert, Contains-from_filter, Contains-insert_cases, left_differs}
+use Rattle.pl_locks.proofs.Moved.{All-insert, Contains-from_filter, Contains-insert_cases}
+use Rattle.pl_locks.proofs.Moved.{left_differs}
 
 pub kept_enter : (eligible holders more : List Contender) (stage : Contender) →
     IsKept eligible holders → IsAbsent stage.run stage.position holders →

@@ -1,10 +1,13 @@
 -- What is left of a list when a stage is taken out, and what is in it when one is put in.
-use Rattle.std.proofs.Common.{◌≡◌, ◌<◌, Bool, true, false, not, ℕ, zero, suc, List, [], ◌∷◌, get_or, length, take, drop, refl, sym, ap, ◌∙◌, arith, ◌⊎◌, inl, inr, ⊎_elim}
+use Rattle.std.proofs.Common.{◌≡◌, ◌<◌, Bool, true, false, not, ℕ, zero, suc, List, [], ◌∷◌, get_or}
+use Rattle.std.proofs.Common.{length, take, drop, refl, sym, ap, ◌∙◌, arith, ◌⊎◌, inl, inr, ⊎_elim}
 use Rattle.std.specs.List.{All, Contains, filter, insert, remove}
 use Rattle.std.proofs.lemmas.Bool.{cases_lt, false≢true}
 use Rattle.std.proofs.lemmas.Bool.Decides.{nat_tests}
-use Rattle.std.proofs.lemmas.List.Elements.{All-append, All-cons, All-drop, All-take, All-contains, All-contains_itself, All-filter}
-use Rattle.std.proofs.lemmas.List.Sorted.{Contains-permutation, IsPermutation-insert, IsPermutation-sym}
+use Rattle.std.proofs.lemmas.List.Elements.{All-append, All-cons, All-drop, All-take, All-contains}
+use Rattle.std.proofs.lemmas.List.Elements.{All-contains_itself, All-filter}
+use Rattle.std.proofs.lemmas.List.Sorted.{Contains-permutation, IsPermutation-insert}
+use Rattle.std.proofs.lemmas.List.Sorted.{IsPermutation-sym}
 use Rattle.pl_locks.specs.declared.contender.Contender.{Contender}
 use Rattle.pl_locks.specs.Locks.{IsAt}
 use Rattle.pl_locks.specs.Kept.{IsAbsent, IsOrdered, is_at, without}

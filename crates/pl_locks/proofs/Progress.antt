@@ -1,5 +1,6 @@
 -- While no resource of an eligible stage is held, one of them may start.
-use Rattle.std.proofs.Common.{◌≡◌, ◌≢◌, ◌-◌, ◌<◌, ℕ, zero, suc, List, [], ◌∷◌, get_or, length, refl, sym, ◌∙◌, subst, arith, inl}
+use Rattle.std.proofs.Common.{◌≡◌, ◌≢◌, ◌-◌, ◌<◌, ℕ, zero, suc, List, [], ◌∷◌, get_or, length, refl}
+use Rattle.std.proofs.Common.{sym, ◌∙◌, subst, arith, inl}
 use Rattle.std.specs.List.{All}
 use Rattle.std.proofs.lemmas.List.{get_or_default}
 use Rattle.pl_locks.specs.declared.contender.Contender.{Contender}

@@ -1,5 +1,6 @@
 -- How the two lists are kept.
-use Rattle.std.specs.Prelude.{◌≡◌, ◌==◌, ◌&&◌, ℕ, ◌<◌, ◌≤◌, Bool, not, List, All, AllPairs, Contains, filter, insert, length, slice_index_or}
+use Rattle.std.specs.Prelude.{◌≡◌, ◌==◌, ◌&&◌, ℕ, ◌<◌, ◌≤◌, Bool, not, List, All, AllPairs}
+use Rattle.std.specs.Prelude.{Contains, filter, insert, length, slice_index_or}
 use Rattle.pl_locks.specs.declared.contender.Contender.{Contender}
 use Rattle.pl_locks.specs.Locks.{IsAt, Precedes, Shares}
 

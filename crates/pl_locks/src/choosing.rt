@@ -1,6 +1,8 @@
 ghost use Rattle.std.specs.Prelude.{◌≢◌, ◌↔◌, [], All, Contains, IsSome, IsTrue, MatchOption};
 ghost use Rattle.pl_locks.specs.declared.contender.Contender.{Contender};
-ghost use Rattle.pl_locks.specs.Locks.{ComesFirst, GivesWay, IsAt, IsBehind, IsHeld, IsLeastSuperseded, IsLeastLaterRun, IsNext, IsSuperseded, MayStart};
+ghost use Rattle.pl_locks.specs.Locks.{ComesFirst, GivesWay, IsAt, IsBehind, IsHeld};
+ghost use Rattle.pl_locks.specs.Locks.{IsLeastSuperseded, IsLeastLaterRun, IsNext, IsSuperseded};
+ghost use Rattle.pl_locks.specs.Locks.{MayStart};
 ghost use Rattle.pl_locks.specs.Kept.{IsAbsent, IsFirstAt, IsOrdered};
 
 use crate::contender::Contender;

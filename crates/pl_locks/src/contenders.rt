@@ -1,6 +1,8 @@
-ghost use Rattle.std.specs.Prelude.{◌≡◌, ◌≢◌, ◌↔◌, [], All, Contains, IfOk, IsSome, IsTrue, MatchOption, OnErr, OnOk};
+ghost use Rattle.std.specs.Prelude.{◌≡◌, ◌≢◌, ◌↔◌, [], All, Contains, IfOk, IsSome, IsTrue};
+ghost use Rattle.std.specs.Prelude.{MatchOption, OnErr, OnOk};
 ghost use Rattle.pl_locks.specs.declared.contender.Contender.{Contender};
-ghost use Rattle.pl_locks.specs.Locks.{IsAt, IsHeld, IsLeastSuperseded, IsLeastLaterRun, IsNext, IsSuperseded, MayStart};
+ghost use Rattle.pl_locks.specs.Locks.{IsAt, IsHeld, IsLeastSuperseded, IsLeastLaterRun, IsNext};
+ghost use Rattle.pl_locks.specs.Locks.{IsSuperseded, MayStart};
 ghost use Rattle.pl_locks.specs.Kept.{IsAbsent, IsKept, IsPutIn, without};
 
 use crate::choosing::{is_absent, least_superseded, next_of};

@@ -1,4 +1,5 @@
-ghost use Rattle.std.specs.Prelude.{◌≡◌, ◌+◌, ◌<◌, ◌≤◌, ℕ, Any, Contains, IfOk, IsOk, MatchOption, OnErr, OnOk, length, slice_index_or, vec_len};
+ghost use Rattle.std.specs.Prelude.{◌≡◌, ◌+◌, ◌<◌, ◌≤◌, ℕ, Any, Contains, IfOk, IsOk, MatchOption};
+ghost use Rattle.std.specs.Prelude.{OnErr, OnOk, length, slice_index_or, vec_len};
 ghost use Rattle.std.specs.Vec.{vec_capacity};
 ghost use Rattle.pl_locks.specs.declared.contender.Contender.{Contender};
 ghost use Rattle.pl_locks.specs.Locks.{IsAt, Precedes};

@@ -31,7 +31,8 @@ abbrev pub slash : ℕ
 slash = 47
 
 abbrev pub is_segment : List ℕ → Bool
-is_segment text = not (is_same text (codes "") || (is_same text (codes ".") || is_same text (codes "..")))
+is_segment text =
+    not (is_same text (codes "") || (is_same text (codes ".") || is_same text (codes "..")))
 
 abbrev pub are_segments : List ℕ → Bool
 are_segments text = list_all is_segment (slice_split (λ byte. byte == slash) text)

@@ -1,5 +1,7 @@
--- What is bound to the parameters of a template (Microsoft Learn, Azure Pipelines, "Template parameters").
-use Rattle.std.specs.Prelude.{Bool, true, false, not, List, [], find, Option, Some, None, Result, Ok, Err}
+-- What is bound to the parameters of a template (Microsoft Learn, Azure Pipelines, "Template
+-- parameters").
+use Rattle.std.specs.Prelude.{Bool, true, false, not, List, [], find, Option, Some, None, Result}
+use Rattle.std.specs.Prelude.{Ok, Err}
 use Rattle.pl_base.specs.declared.node.Node.{Node}
 use Rattle.pl_base.specs.declared.value.MarkedNode.{MarkedNode}
 use Rattle.pl_literal.specs.Booleans.{spells}
@@ -24,22 +26,28 @@ bound given param value = record { name = param.name; value = value; given = giv
 
 abbrev pub default_judged : Param → Node → Judged → Result Bound Complaint
 default_judged param node (judgement.Fits value) = Ok (bound false param value)
-default_judged param node misfit = Err (complaint (problem.BadDefault param.name param.kind (found_at node)) node.place)
+default_judged param node misfit =
+    Err (complaint (problem.BadDefault param.name param.kind (found_at node)) node.place)
 
 abbrev pub bound_default : Param → Option Node → Result Bound Complaint
 bound_default param None = Err (complaint (problem.Missing param.name param.kind) param.place)
-bound_default param (Some node) = default_judged param node (judged param.kind param.values (literal [] node))
+bound_default param (Some node) =
+    default_judged param node (judged param.kind param.values (literal [] node))
 
 -- ---- what is given
 
 abbrev pub given_judged : Param → Given → Judged → Result Bound Complaint
 given_judged param given (judgement.Fits value) = Ok (bound true param value)
-given_judged param given judgement.NotOfType = Err (complaint (problem.NotOfType param.name param.kind (found_of given.value.value)) given.place)
-given_judged param given judgement.NotAllowed = Err (complaint (problem.NotAllowed param.name (found_of given.value.value)) given.place)
+given_judged param given judgement.NotOfType =
+    Err (complaint (problem.NotOfType param.name param.kind (found_of given.value.value))
+    given.place)
+given_judged param given judgement.NotAllowed =
+    Err (complaint (problem.NotAllowed param.name (found_of given.value.value)) given.place)
 
 abbrev pub bound_from : Param → Option Given → Result Bound Complaint
 bound_from param None = bound_default param param.default
-bound_from param (Some given) = given_judged param given (judged param.kind param.values given.value)
+bound_from param (Some given) =
+    given_judged param given (judged param.kind param.values given.value)
 
 -- the first that is given under the parameter's name
 abbrev pub given_for : List Given → Param → Option Given

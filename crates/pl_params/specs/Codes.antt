@@ -1,7 +1,10 @@
 -- The codes of what is wrong with parameters.
 use Rattle.std.specs.Prelude.{ℕ, List, codes}
 use Rattle.pl_params.specs.declared.fault.ParamProblem.{ParamProblem}
-use Rattle.pl_params.specs.declared.fault.ParamProblem.TheVariants.{TypeUnknown, Duplicate, BadDefault, Missing, Unexpected, NotOfType, NotAllowed, BadDeclaration}
+use Rattle.pl_params.specs.declared.fault.ParamProblem.TheVariants.{TypeUnknown, Duplicate}
+use Rattle.pl_params.specs.declared.fault.ParamProblem.TheVariants.{BadDefault, Missing, Unexpected}
+use Rattle.pl_params.specs.declared.fault.ParamProblem.TheVariants.{NotOfType, NotAllowed}
+use Rattle.pl_params.specs.declared.fault.ParamProblem.TheVariants.{BadDeclaration}
 
 abbrev pub code_of : ParamProblem → List ℕ
 code_of (TypeUnknown name found) = codes "P1"

@@ -1,5 +1,7 @@
--- Declarations of parameters (Microsoft Learn, Azure Pipelines, "YAML schema reference", parameters).
-use Rattle.std.specs.Prelude.{ℕ, Bool, ◌&&◌, ◌||◌, ◌==◌, nat_lt, List, [], ◌∷◌, map, fold, codes, Option, Some, None, unwrap_or, Result, Ok, Err, if◌then◌else◌}
+-- Declarations of parameters (Microsoft Learn, Azure Pipelines, "YAML schema reference",
+-- parameters).
+use Rattle.std.specs.Prelude.{ℕ, Bool, ◌&&◌, ◌||◌, ◌==◌, nat_lt, List, [], ◌∷◌, map, fold, codes}
+use Rattle.std.specs.Prelude.{Option, Some, None, unwrap_or, Result, Ok, Err, if◌then◌else◌}
 use Rattle.std.specs.Option.{option_map_or, option_and_then}
 use Rattle.std.specs.List.{list_any}
 use Rattle.pl_base.specs.declared.place.Place.{Place}
@@ -11,7 +13,8 @@ use Rattle.pl_literal.specs.Items.{is}
 use Rattle.pl_literal.specs.Literal.{literal}
 use Rattle.pl_params.specs.declared.fault.Complaint.{Complaint}
 use Rattle.pl_params.specs.declared.fault.Misdeclared.{Misdeclared}
-use Rattle.pl_params.specs.declared.fault.Misdeclared.TheVariants.{NoCollection, NoMapping, NoName, UnknownKey, NoValues}
+use Rattle.pl_params.specs.declared.fault.Misdeclared.TheVariants.{NoCollection, NoMapping, NoName}
+use Rattle.pl_params.specs.declared.fault.Misdeclared.TheVariants.{UnknownKey, NoValues}
 use Rattle.pl_params.specs.declared.fault.ParamProblem.TheVariants as problem
 use Rattle.pl_params.specs.declared.judging.Judged.{Judged}
 use Rattle.pl_params.specs.declared.judging.Judged.TheVariants as judgement
@@ -45,7 +48,8 @@ values_of pairs = unwrap_or (option_and_then items_of (under (codes "values") pa
 
 -- the keys that a declaration may have
 abbrev pub is_key : List ℕ → Bool
-is_key key = list_any (is key) (codes "name" ∷ codes "type" ∷ codes "default" ∷ codes "values" ∷ codes "displayName" ∷ [])
+is_key key = list_any (is key) (codes "name" ∷ codes "type" ∷ codes "default" ∷ codes "values" ∷
+    codes "displayName" ∷ [])
 
 -- ---- what may be wrong with it
 
@@ -64,17 +68,21 @@ kind_complaint name (Some node) = unknown_kind name node (kind_named (text_of no
 -- a name that is declared before
 abbrev pub again_complaint : List Param → Place → List ℕ → Option Complaint
 again_complaint before place [] = None
-again_complaint before place name = if is_declared before name then Some (complaint (problem.Duplicate name) place) else None
+again_complaint before place name = if is_declared before name
+    then Some (complaint (problem.Duplicate name) place) else None
 
 -- a default that isn't of its type or isn't allowed; where the type is unknown nothing is asked
 abbrev pub misfit : List ℕ → ParamKind → Node → Judged → Option Complaint
 misfit name kind node (judgement.Fits value) = None
-misfit name kind node other = Some (complaint (problem.BadDefault name kind (found_at node)) node.place)
+misfit name kind node other =
+    Some (complaint (problem.BadDefault name kind (found_at node)) node.place)
 
-abbrev pub default_complaint : List ℕ → Option ParamKind → List Node → Option Node → Option Complaint
+abbrev pub default_complaint :
+    List ℕ → Option ParamKind → List Node → Option Node → Option Complaint
 default_complaint name None values written = None
 default_complaint name (Some kind) values None = None
-default_complaint name (Some kind) values (Some node) = misfit name kind node (judged kind values (literal [] node))
+default_complaint name (Some kind) values (Some node) =
+    misfit name kind node (judged kind values (literal [] node))
 
 -- no name
 abbrev pub name_complaint : Place → List ℕ → Option Complaint
@@ -92,17 +100,20 @@ values_complaint (Some node) = no_values node (items_of node)
 
 -- a key that no declaration has
 abbrev pub key_complaint : NodePair → Option Complaint
-key_complaint pair = if is_key pair.key then None else Some (misdeclared (UnknownKey pair.key) pair.key_place)
+key_complaint pair = if is_key pair.key then None
+    else Some (misdeclared (UnknownKey pair.key) pair.key_place)
 
 -- ---- of several complaints the one at the earliest place, at one place the first
 
 abbrev pub is_before : Place → Place → Bool
-is_before left right = nat_lt left.line right.line || ((left.line == right.line) && nat_lt left.col right.col)
+is_before left right = nat_lt left.line right.line ||
+    ((left.line == right.line) && nat_lt left.col right.col)
 
 abbrev pub earlier : Option Complaint → Option Complaint → Option Complaint
 earlier None next = next
 earlier (Some first) None = Some first
-earlier (Some first) (Some next) = if is_before next.place first.place then Some next else Some first
+earlier (Some first) (Some next) = if is_before next.place first.place then Some next
+    else Some first
 
 abbrev pub first_of : List (Option Complaint) → Option Complaint
 first_of complaints = fold earlier None complaints
@@ -112,7 +123,8 @@ abbrev pub complaints_of : List Param → Place → List NodePair → List (Opti
 complaints_of before place pairs =
     kind_complaint (name_of pairs) (under (codes "type") pairs)
     ∷ again_complaint before place (name_of pairs)
-    ∷ default_complaint (name_of pairs) (kind_of pairs) (values_of pairs) (under (codes "default") pairs)
+    ∷ default_complaint (name_of pairs) (kind_of pairs) (values_of pairs)
+    (under (codes "default") pairs)
     ∷ name_complaint place (name_of pairs)
     ∷ values_complaint (under (codes "values") pairs)
     ∷ first_of (map key_complaint pairs)
@@ -136,18 +148,28 @@ written_param place pairs = record {
 }
 
 abbrev pub item_from : List Param → Node → Body → Result Param Complaint
-item_from before node (Map pairs) = unless (first_of (complaints_of before node.place pairs)) (written_param node.place pairs)
+item_from before node (Map pairs) = unless (first_of (complaints_of before node.place pairs))
+    (written_param node.place pairs)
 item_from before node body = Err (misdeclared (NoMapping (found_in body)) node.place)
 
 abbrev pub item_param : List Param → Node → Result Param Complaint
 item_param before node = item_from before node (out-NodeBody node.body)
 
--- in the older form each pair declares an object of that name and default, which stands where the key does
+-- in the older form each pair declares an object of that name and default, which stands where the
+-- key does
 abbrev pub object_param : NodePair → Param
-object_param pair = record { name = pair.key; place = pair.key_place; kind = kind.Object; default = Some pair.item; values = [] }
+object_param pair = record {
+  name = pair.key;
+  place = pair.key_place;
+  kind = kind.Object;
+  default =
+      Some pair.item;
+  values = [];
+}
 
 abbrev pub pair_complaint : List Param → NodePair → Option Complaint
-pair_complaint before pair = earlier (again_complaint before pair.key_place pair.key) (name_complaint pair.key_place pair.key)
+pair_complaint before pair = earlier (again_complaint before pair.key_place pair.key)
+    (name_complaint pair.key_place pair.key)
 
 abbrev pub pair_param : List Param → NodePair → Result Param Complaint
 pair_param before pair = unless (pair_complaint before pair) (object_param pair)

@@ -1,6 +1,7 @@
--- The types of parameters by their names (Microsoft Learn, Azure Pipelines, "YAML schema reference",
--- parameters.parameter), and what each reads.
-use Rattle.std.specs.Prelude.{ℕ, Bool, true, false, List, [], Option, Some, None, codes, if◌then◌else◌}
+-- The types of parameters by their names (Microsoft Learn, Azure Pipelines, "YAML schema
+-- reference", parameters.parameter), and what each reads.
+use Rattle.std.specs.Prelude.{ℕ, Bool, true, false, List, [], Option, Some, None, codes}
+use Rattle.std.specs.Prelude.{if◌then◌else◌}
 use Rattle.std.specs.Option.{option_map}
 use Rattle.std.specs.List.{list_all}
 use Rattle.pl_base.specs.declared.value.Value.{Value, Bool as Truth, Number, Str, Array, out-Value}
@@ -70,7 +71,8 @@ item_in wanted value = if is_item wanted value then Some value else None
 abbrev pub items_from : ItemKind → Opened → Option Value
 items_from wanted layer.Null = Some (Array [])
 items_from wanted (layer.Str []) = Some (Array [])
-items_from wanted (layer.Array items) = if list_all (λ node. is_item wanted node.value) items then Some (Array items) else None
+items_from wanted (layer.Array items) = if list_all (λ node. is_item wanted node.value) items
+    then Some (Array items) else None
 items_from wanted value = None
 
 abbrev pub value_as : ParamKind → Value → Option Value

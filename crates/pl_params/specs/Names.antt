@@ -13,4 +13,5 @@ is_declared declared name = list_any (λ param. spells name param.name) declared
 
 -- whether a map tells where each name in upper case first stands
 abbrev pub Indexes : {X Y S : Type 0} → (X → List ℕ) → List X → HashMap (String Y) ℕ S → Type 0
-Indexes name items places = (upper : List ℕ) → get_by_text places upper ≡ position_from (λ item. bytes_eq upper (folded (name item))) 0 items
+Indexes name items places = (upper : List ℕ) → get_by_text places upper ≡
+    position_from (λ item. bytes_eq upper (folded (name item))) 0 items

@@ -1,7 +1,9 @@
 ghost use Rattle.std.specs.Prelude.{◌≡◌, [], Some, IfOk};
 ghost use Rattle.std.specs.Option.{option_copied};
-ghost use Rattle.pl_params.specs.declared.fault.ParamProblem.TheVariants.{Missing, NotOfType, NotAllowed};
-ghost use Rattle.pl_params.specs.Binding.{bound, bound_default, bound_from, bound_param, unexpected, binds};
+ghost use Rattle.pl_params.specs.declared.fault.ParamProblem.TheVariants.{Missing, NotOfType};
+ghost use Rattle.pl_params.specs.declared.fault.ParamProblem.TheVariants.{NotAllowed};
+ghost use Rattle.pl_params.specs.Binding.{bound, bound_default, bound_from, bound_param};
+ghost use Rattle.pl_params.specs.Binding.{unexpected, binds};
 ghost use Rattle.pl_params.specs.Complaints.{complaint, found_of};
 ghost use Rattle.pl_params.specs.Gives.{Gives};
 ghost use Rattle.pl_params.specs.Names.{Indexes};
@@ -17,20 +19,18 @@ use crate::refusing::{complain, found_value};
 use pl_base::{ExactCopy, List, MarkedNode, Memory};
 use std::alloc::Global;
 
-/// What is bound to the declared parameters, in their order (Microsoft Learn, Azure Pipelines, "Template
-/// parameters").
-///
-/// Names are compared without regard to the case of ASCII's letters, and of several that are given
-/// under one name the first counts. What is given is read by the parameter's type and keeps its origin:
-/// a string takes an atom's text, a boolean and a number also a text that is one, a list of items also
-/// an empty scalar for the empty list. A parameter that isn't given has its default, whose nodes come
-/// from their own places in the template, across no border, with `given` false.
-///
-/// A fault is first P5, at the first given name that no parameter has; then that of the first parameter
-/// that has one: P4 at the declaration, where nothing is given and there is no default; P6 at the given
-/// name, where what is given isn't of the type; P7 there, where it isn't among the allowed values, both
-/// sides as the type reads them. P3 comes, at the default, only for parameters that `declare` never
-/// gives. Memory may come at any time.
+/// What is bound to the declared parameters, in their order (Microsoft Learn, Azure Pipelines,
+/// "Template parameters").
+///  Names are compared without regard to the case of ASCII's letters, and of several that are given
+/// under one name the first counts. What is given is read by the parameter's type and keeps its
+/// origin: a string takes an atom's text, a boolean and a number also a text that is one, a list of
+/// items also an empty scalar for the empty list. A parameter that isn't given has its default,
+/// whose nodes come from their own places in the template, across no border, with `given` false.
+///  A fault is first P5, at the first given name that no parameter has; then that of the first
+/// parameter that has one: P4 at the declaration, where nothing is given and there is no default;
+/// P6 at the given name, where what is given isn't of the type; P7 there, where it isn't among the
+/// allowed values, both sides as the type reads them. P3 comes, at the default, only for parameters
+/// that `declare` never gives. Memory may come at any time.
 pub fn bind(
     alloc: Global,
     declared: &Declared,
@@ -132,14 +132,17 @@ fn bound(alloc: Global, given: bool, param: &Param, value: MarkedNode) -> Result
 }
 
 fn missing(alloc: Global, param: &Param) -> Result<Complaint, Memory>
-    ensures { IfOk result (λ made. made ≡ complaint (Missing param.now.name param.now.kind) param.now.place) }
+    ensures { IfOk result (λ made. made ≡ complaint (Missing param.now.name param.now.kind)
+        param.now.place) }
 {
     let name = param.name.copy(alloc)?;
     complain(alloc, ParamProblem::Missing(name, param.kind), &param.place)
 }
 
 fn not_of_type(alloc: Global, param: &Param, given: &Given) -> Result<Complaint, Memory>
-    ensures { IfOk result (λ made. made ≡ complaint (NotOfType param.now.name param.now.kind (found_of given.now.value.value)) given.now.place) }
+    ensures { IfOk result (λ made. made ≡
+        complaint (NotOfType param.now.name param.now.kind (found_of given.now.value.value))
+        given.now.place) }
 {
     let name = param.name.copy(alloc)?;
     let found = found_value(alloc, &given.value.value)?;
@@ -148,7 +151,8 @@ fn not_of_type(alloc: Global, param: &Param, given: &Given) -> Result<Complaint,
 }
 
 fn not_allowed(alloc: Global, param: &Param, given: &Given) -> Result<Complaint, Memory>
-    ensures { IfOk result (λ made. made ≡ complaint (NotAllowed param.now.name (found_of given.now.value.value)) given.now.place) }
+    ensures { IfOk result (λ made. made ≡
+        complaint (NotAllowed param.now.name (found_of given.now.value.value)) given.now.place) }
 {
     let name = param.name.copy(alloc)?;
     let found = found_value(alloc, &given.value.value)?;

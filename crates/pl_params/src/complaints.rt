@@ -2,7 +2,9 @@ ghost use Rattle.std.specs.Prelude.{◌≡◌, IfOk, map};
 ghost use Rattle.std.specs.Option.{option_copied};
 ghost use Rattle.pl_params.specs.declared.fault.ParamProblem.TheVariants.{TypeUnknown, BadDefault};
 ghost use Rattle.pl_params.specs.Complaints.{complaint};
-ghost use Rattle.pl_params.specs.Declaring.{misdeclared, kind_complaint, again_complaint, default_complaint, name_complaint, values_complaint, key_complaint, is_before, earlier, first_of};
+ghost use Rattle.pl_params.specs.Declaring.{misdeclared, kind_complaint, again_complaint};
+ghost use Rattle.pl_params.specs.Declaring.{default_complaint, name_complaint, values_complaint};
+ghost use Rattle.pl_params.specs.Declaring.{key_complaint, is_before, earlier, first_of};
 ghost use Rattle.pl_params.specs.Nodes.{found_at};
 
 use crate::fault::{Complaint, Misdeclared, ParamProblem};
@@ -28,7 +30,8 @@ pub fn kind_complaint(
     name: &str,
     kind: Option<&Node>,
 ) -> Result<Option<Complaint>, Memory>
-    ensures { IfOk result (λ complaint. complaint ≡ kind_complaint name.now (option_copied kind.entry)) }
+    ensures { IfOk result (λ complaint. complaint ≡
+        kind_complaint name.now (option_copied kind.entry)) }
 {
     let Some(node) = kind else {
         return Ok(None);
@@ -40,7 +43,8 @@ pub fn kind_complaint(
 }
 
 fn unknown_kind(alloc: Global, name: &str, node: &Node) -> Result<Complaint, Memory>
-    ensures { IfOk result (λ made. made ≡ complaint (TypeUnknown name.now (found_at node.now)) node.now.place) }
+    ensures { IfOk result (λ made. made ≡ complaint (TypeUnknown name.now (found_at node.now))
+        node.now.place) }
 {
     let name = Text::from_str(alloc, name)?;
     let found = found_node(alloc, node)?;
@@ -71,7 +75,8 @@ pub fn default_complaint(
     values: &List<Node>,
     default: Option<&Node>,
 ) -> Result<Option<Complaint>, Memory>
-    ensures { IfOk result (λ complaint. complaint ≡ default_complaint name.now kind values.now (option_copied default.entry)) }
+    ensures { IfOk result (λ complaint. complaint ≡ default_complaint name.now kind values.now
+        (option_copied default.entry)) }
 {
     let Some(kind) = kind else {
         return Ok(None);
@@ -92,7 +97,8 @@ pub fn bad_default(
     kind: ParamKind,
     node: &Node,
 ) -> Result<Complaint, Memory>
-    ensures { IfOk result (λ made. made ≡ complaint (BadDefault name.now kind (found_at node.now)) node.now.place) }
+    ensures { IfOk result (λ made. made ≡ complaint (BadDefault name.now kind (found_at node.now))
+        node.now.place) }
 {
     let name = Text::from_str(alloc, name)?;
     let found = found_node(alloc, node)?;

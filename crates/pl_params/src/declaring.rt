@@ -1,5 +1,8 @@
 ghost use Rattle.std.specs.Prelude.{◌≡◌, [], codes, IfOk};
-ghost use Rattle.pl_params.specs.Declaring.{name_of, kind_of, values_of, kind_complaint, again_complaint, default_complaint, earlier, complaints_of, first_of, item_param, object_param, pair_complaint, pair_param, declares};
+ghost use Rattle.pl_params.specs.Declaring.{name_of, kind_of, values_of, kind_complaint};
+ghost use Rattle.pl_params.specs.Declaring.{again_complaint, default_complaint, earlier};
+ghost use Rattle.pl_params.specs.Declaring.{complaints_of, first_of, item_param, object_param};
+ghost use Rattle.pl_params.specs.Declaring.{pair_complaint, pair_param, declares};
 ghost use Rattle.pl_params.specs.Nodes.{under};
 ghost use Rattle.pl_params.specs.Gives.{Gives};
 ghost use Rattle.pl_params.specs.Steps.{in_turn};
@@ -16,19 +19,18 @@ use crate::refusing::found_node;
 use pl_base::{ExactCopy, List, Memory, Node, NodeBody, NodePair, Place};
 use std::alloc::Global;
 
-/// The parameters that a template declares under its key `parameters`, in order (Microsoft Learn, Azure
-/// Pipelines, "YAML schema reference", parameters).
-///
-/// A sequence has one mapping for each parameter, with the keys `name`, `type` (string where it isn't
-/// there), `default`, `values` and `displayName`, which is passed over. In the older form a mapping
-/// declares each of its keys as an object whose default is the key's value. A parameter's place is its
-/// mapping's, in the older form its key's.
-///
-/// A fault is that of the first declaration that has one, and there the one at the earliest place, at
-/// one place the one with the smaller code: P1 at the value of `type`; P2 at the parameter's place; P3
-/// at the value of `default`; P8 at the parameter's place where there is no name, at the value of
-/// `values` where that is no sequence, at a key that isn't listed above, at an item that is no mapping,
-/// and at the node where that is neither a sequence nor a mapping. Memory may come at any time.
+/// The parameters that a template declares under its key `parameters`, in order (Microsoft Learn,
+/// Azure Pipelines, "YAML schema reference", parameters).
+///  A sequence has one mapping for each parameter, with the keys `name`, `type` (string where it
+/// isn't there), `default`, `values` and `displayName`, which is passed over. In the older form a
+/// mapping declares each of its keys as an object whose default is the key's value. A parameter's
+/// place is its mapping's, in the older form its key's.
+///  A fault is that of the first declaration that has one, and there the one at the earliest place,
+/// at one place the one with the smaller code: P1 at the value of `type`; P2 at the parameter's
+/// place; P3 at the value of `default`; P8 at the parameter's place where there is no name, at the
+/// value of `values` where that is no sequence, at a key that isn't listed above, at an item that
+/// is no mapping, and at the node where that is neither a sequence nor a mapping. Memory may come
+/// at any time.
 pub fn declare(alloc: Global, node: &Node) -> Result<Declared, ParamFault>
     ensures { Gives result (declares node.now) }
 {
@@ -101,7 +103,9 @@ fn heading_complaint(
     place: &Place,
     pairs: &List<NodePair>,
 ) -> Result<Option<Complaint>, Memory>
-    ensures { IfOk result (λ first. first ≡ earlier (kind_complaint (name_of pairs.now) (under (codes "type") pairs.now)) (again_complaint before.now place.now (name_of pairs.now))) }
+    ensures { IfOk result (λ first. first ≡
+        earlier (kind_complaint (name_of pairs.now) (under (codes "type") pairs.now))
+        (again_complaint before.now place.now (name_of pairs.now))) }
 {
     let name = name_of(pairs);
     let first = kind_complaint(alloc, name, under("type", pairs))?;
@@ -110,7 +114,8 @@ fn heading_complaint(
 
 /// What is wrong with the default.
 fn default_in(alloc: Global, pairs: &List<NodePair>) -> Result<Option<Complaint>, Memory>
-    ensures { IfOk result (λ first. first ≡ default_complaint (name_of pairs.now) (kind_of pairs.now) (values_of pairs.now) (under (codes "default") pairs.now)) }
+    ensures { IfOk result (λ first. first ≡ default_complaint (name_of pairs.now)
+        (kind_of pairs.now) (values_of pairs.now) (under (codes "default") pairs.now)) }
 {
     let values = values_of(alloc, pairs)?;
     let default = under("default", pairs);

@@ -3,8 +3,8 @@ use pl_base::{Place, Text};
 use std::fmt;
 use thiserror::Error;
 
-/// What came where something else was wanted: an atom, as the text that it is cast to, a sequence or a
-/// mapping.
+/// What came where something else was wanted: an atom, as the text that it is cast to, a sequence
+/// or a mapping.
 #[derive(Debug, Drop, PartialEq, Eq)]
 pub enum Found {
     Atom(Text),

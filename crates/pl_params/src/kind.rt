@@ -42,8 +42,8 @@ ghost use Rattle.pl_params.specs.Kinds.{kind_named};
 
 impl ParamKind {
     /// The type of that name, which is exact: `string`, `number`, `boolean`, `object`, `step`,
-    /// `stepList`, `job`, `jobList`, `deployment`, `deploymentList`, `stage` and `stageList`. None for
-    /// every other name.
+    /// `stepList`, `job`, `jobList`, `deployment`, `deploymentList`, `stage` and `stageList`. None
+    /// for every other name.
     pub fn named(name: &str) -> Option<ParamKind>
         ensures { result ≡ kind_named name.now }
     {

@@ -82,7 +82,8 @@ pub fn first_named<'g>(
     name: &Text,
 ) -> Result<Option<&'g Given>, Memory>
     requires { Indexes (λ one. one.name) given.now places.now }
-    ensures { IfOk result (λ found. option_copied found ≡ find (λ one. spells name.now one.name) given.now) }
+    ensures { IfOk result (λ found. option_copied found ≡ find (λ one. spells name.now one.name)
+        given.now) }
 {
     let name = in_upper_case(alloc, name)?;
     match places.get(name.as_str()) {

@@ -1,7 +1,8 @@
 ghost use Rattle.std.specs.Prelude.{◌≡◌, IfOk};
 ghost use Rattle.std.specs.List.{list_all};
 ghost use Rattle.pl_base.specs.declared.value.Value.{out-Value};
-ghost use Rattle.pl_params.specs.Kinds.{string_in, number_from, boolean_from, is_item, item_in, items_from, value_as, read_as};
+ghost use Rattle.pl_params.specs.Kinds.{string_in, number_from, boolean_from, is_item, item_in};
+ghost use Rattle.pl_params.specs.Kinds.{items_from, value_as, read_as};
 
 use crate::kind::ParamKind;
 use pl_base::{List, MarkedNode, Memory, Value};

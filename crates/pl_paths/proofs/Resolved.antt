@@ -1,5 +1,6 @@
 -- What was resolved leads to itself.
-use Rattle.std.proofs.Common.{inl, inr, ◌≡◌, ℕ, Bool, true, false, Option, Some, None, List, [], ◌∷◌}
+use Rattle.std.proofs.Common.{inl, inr, ◌≡◌, ℕ, Bool, true, false, Option, Some, None, List, []}
+use Rattle.std.proofs.Common.{◌∷◌}
 use Rattle.std.proofs.Common.{◌++◌, refl, ap, sym, ◌∙◌, arith, subst}
 use Rattle.std.specs.Prelude.{◌==◌, All, codes, if◌then◌else◌, nat_eq}
 use Rattle.std.specs.List.{onto_first, AllByRecursion as Each}
@@ -143,7 +144,8 @@ names (segment ∷ segments) ((dot, dots, slashless), rest) =
 
 names_of : (done : List (List ℕ)) → Each IsGood done → All IsName (segments_of (path_of done))
 names_of [] good =
-    All-from_recursion IsName ([] ∷ []) ((differs [] (codes ".") refl, differs [] (codes "..") refl), tt)
+    All-from_recursion IsName ([] ∷ [])
+    ((differs [] (codes ".") refl, differs [] (codes "..") refl), tt)
 names_of (segment ∷ segments) good =
     subst (All IsName) (sym (segments_again segment segments good))
     (All-from_recursion IsName (segment ∷ segments) (names (segment ∷ segments) good))

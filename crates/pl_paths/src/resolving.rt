@@ -1,6 +1,7 @@
 ghost use Rattle.std.specs.Prelude.{◌≡◌, ◌++◌, ◌∷◌, [], map, IfOk};
 ghost use Rattle.std.specs.Option.{option_copied};
-ghost use Rattle.pl_paths.specs.Paths.{merged, inner, segments_of, path_of, parent, walked, walked_on};
+ghost use Rattle.pl_paths.specs.Paths.{merged, inner, segments_of, path_of, parent, walked};
+ghost use Rattle.pl_paths.specs.Paths.{walked_on};
 ghost use Rattle.pl_paths.specs.Paths.{from_root, from_file, slash, led, is_absolute, parts};
 
 use pl_base::{List, Memory, Text};

@@ -29,7 +29,8 @@ use Rattle.pl_plan.specs.declared.plan.Plan.{Plan}
 use Rattle.pl_plan.specs.declared.plan.PlanJob.{PlanJob}
 use Rattle.pl_plan.specs.declared.plan.PlanStage.{PlanStage}
 use Rattle.pl_plan.specs.declared.plan.PlanStep.{PlanStep}
-use Rattle.pl_plan.specs.Laws.{heading_of, heading_written, matrix_names, names_written, slice_names}
+use Rattle.pl_plan.specs.Laws.{heading_of, heading_written, matrix_names, names_written}
+use Rattle.pl_plan.specs.Laws.{slice_names}
 use Rattle.pl_plan.specs.Laws.{Heading, IsAsWritten, Label}
 use Rattle.pl_plan.specs.Legs.{all_legs_judged, first_slices, leg_names, leg_variables, legs_in}
 use Rattle.pl_plan.specs.Legs.{legs_judged, legs_of, matrix_leg, matrix_of, named_leg, only_leg}

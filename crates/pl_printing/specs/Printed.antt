@@ -1,8 +1,10 @@
--- How a node is printed as a YAML text: in block style (YAML 1.2.2, section 8.2), two spaces a level, with every scalar
--- and every key in double quotes (section 7.3.1).
-use Rattle.std.specs.Prelude.{ℕ, ◌+◌, ◌/◌, ◌%◌, List, [], ◌∷◌, ◌++◌, map, flat_map, codes, ◌==◌, ◌||◌, nat_lt, if◌then◌else◌}
+-- How a node is printed as a YAML text: in block style (YAML 1.2.2, section 8.2), two spaces a
+-- level, with every scalar and every key in double quotes (section 7.3.1).
+use Rattle.std.specs.Prelude.{ℕ, ◌+◌, ◌/◌, ◌%◌, List, [], ◌∷◌, ◌++◌, map, flat_map, codes, ◌==◌}
+use Rattle.std.specs.Prelude.{◌||◌, nat_lt, if◌then◌else◌}
 use Rattle.pl_base.specs.declared.node.Node.{Node, fold-Node}
-use Rattle.pl_base.specs.declared.node.NodeBody.TheOpen.{NodeBody-F, Node-F, NodePair-F, Scalar, Seq, Map}
+use Rattle.pl_base.specs.declared.node.NodeBody.TheOpen.{NodeBody-F, Node-F, NodePair-F, Scalar}
+use Rattle.pl_base.specs.declared.node.NodeBody.TheOpen.{Seq, Map}
 use Rattle.pl_base.specs.declared.node.NodePair.{NodePair, fold-NodePair}
 use Rattle.pl_base.specs.declared.node.NodeBody.{NodeBody, fold-NodeBody}
 
@@ -12,8 +14,9 @@ use Rattle.pl_base.specs.declared.node.NodeBody.{NodeBody, fold-NodeBody}
 abbrev pub hex_digit : ℕ → ℕ
 hex_digit n = if nat_lt n 10 then 48 + n else 55 + n
 
--- A byte between double quotes (section 5.7): `\"`, `\\`, `\n`, `\r`, `\t`, and `\xHH` for the other control characters
--- of ASCII. All else stands as it is, as do the bytes from 128 up of a longer character.
+-- A byte between double quotes (section 5.7): `\"`, `\\`, `\n`, `\r`, `\t`, and `\xHH` for the
+-- other control characters of ASCII. All else stands as it is, as do the bytes from 128 up of a
+-- longer character.
 abbrev pub escaped : ℕ → List ℕ
 escaped byte =
     if byte == 34 then 92 ∷ 34 ∷ []
@@ -21,7 +24,8 @@ escaped byte =
     else (if byte == 10 then 92 ∷ 110 ∷ []
     else (if byte == 13 then 92 ∷ 114 ∷ []
     else (if byte == 9 then 92 ∷ 116 ∷ []
-    else (if nat_lt byte 32 || byte == 127 then 92 ∷ 120 ∷ hex_digit (byte / 16) ∷ hex_digit (byte % 16) ∷ []
+    else (if nat_lt byte 32 || byte == 127 then 92 ∷ 120 ∷ hex_digit (byte / 16) ∷
+    hex_digit (byte % 16) ∷ []
     else byte ∷ [])))))
 
 -- a text in double quotes
@@ -38,7 +42,8 @@ Line = List ℕ
 abbrev pub indented : List Line → List Line
 indented lines = map (λ line. 32 ∷ 32 ∷ line) lines
 
--- what a node is behind the mark of the entry that holds it: a text that goes on on the mark's line, or lines below it
+-- what a node is behind the mark of the entry that holds it: a text that goes on on the mark's
+-- line, or lines below it
 pub data Written : Type 0 where
   inline : Line → Written
   below : List Line → Written
@@ -68,7 +73,8 @@ abbrev pub mapping_of : List (List Line) → Written
 mapping_of [] = inline (codes "{}")
 mapping_of (lines ∷ more) = below (flat_map (λ entry. entry) (lines ∷ more))
 
--- A scalar and an empty collection stand on the line that they begin on, any other collection on lines of its own.
+-- A scalar and an empty collection stand on the line that they begin on, any other collection on
+-- lines of its own.
 abbrev pub body_step : NodeBody-F Written Written (List Line) → Written
 body_step (Scalar text) = inline (quoted text)
 body_step (Seq items) = sequence_of items

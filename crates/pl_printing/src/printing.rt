@@ -1,5 +1,6 @@
 ghost use Rattle.std.specs.Prelude.{◌≡◌, ◌∷◌, [], ◌++◌, map, OnOk, IfOk};
-ghost use Rattle.pl_printing.specs.Printed.{printed, written, written_body, written_pair, lines_of, item_entry, sequence_of, mapping_of};
+ghost use Rattle.pl_printing.specs.Printed.{printed, written, written_body, written_pair, lines_of};
+ghost use Rattle.pl_printing.specs.Printed.{item_entry, sequence_of, mapping_of};
 ghost use Rattle.pl_printing.specs.Levels.{at_level, behind_mark, is_inline};
 
 use crate::lines::{deeper, push_indentation, push_line};
@@ -7,13 +8,14 @@ use crate::quoting::{push_quoted, push_scalar};
 use pl_base::{Bytes, List, Memory, Node, NodeBody, NodePair};
 use std::alloc::Global;
 
-/// A node as a YAML text in block style (YAML 1.2.2, section 8.2), two spaces a level, whatever its depth. An entry of
-/// a mapping is its key in double quotes and `:`, an entry of a sequence is `-`. A scalar, in double quotes, or an
-/// empty collection, `[]` or `{}`, follows on the same line behind one space. Any other collection begins on the next
-/// line, one level deeper. A scalar or an empty collection as the whole node is one line. Each line ends with one line
-/// feed. In quotes (section 5.7) stand `\"`, `\\`, `\n`, `\r`, `\t`, and `\xHH` with upper-case digits for other
-/// characters below U+0020 and for U+007F; all else stands as it is. Places are not written. The error is a refused
-/// growth of memory, and nothing else.
+/// A node as a YAML text in block style (YAML 1.2.2, section 8.2), two spaces a level, whatever its
+/// depth. An entry of a mapping is its key in double quotes and `:`, an entry of a sequence is `-`.
+/// A scalar, in double quotes, or an empty collection, `[]` or `{}`, follows on the same line
+/// behind one space. Any other collection begins on the next line, one level deeper. A scalar or an
+/// empty collection as the whole node is one line. Each line ends with one line feed. In quotes
+/// (section 5.7) stand `\"`, `\\`, `\n`, `\r`, `\t`, and `\xHH` with upper-case digits for other
+/// characters below U+0020 and for U+007F; all else stands as it is. Places are not written. The
+/// error is a refused growth of memory, and nothing else.
 pub fn write(alloc: Global, node: &Node) -> Result<Bytes, Memory>
     ensures { IfOk result (λ bytes. bytes ≡ printed node.now) }
 {
@@ -25,7 +27,8 @@ pub fn write(alloc: Global, node: &Node) -> Result<Bytes, Memory>
 /// A node's lines at a level.
 #[cycle(printed)]
 fn push_node(output: &mut Vec<u8>, level: usize, node: &Node) -> Result<(), Memory>
-    ensures { OnOk result (output.new.items ≡ output.old.items ++ at_level level (lines_of (written node.now))) }
+    ensures { OnOk result (output.new.items ≡ output.old.items ++
+        at_level level (lines_of (written node.now))) }
 {
     match &node.body {
         NodeBody::Scalar(text) => push_scalar(output, level, text),
@@ -36,7 +39,8 @@ fn push_node(output: &mut Vec<u8>, level: usize, node: &Node) -> Result<(), Memo
 
 #[cycle(printed)]
 fn push_sequence(output: &mut Vec<u8>, level: usize, items: &List<Node>) -> Result<(), Memory>
-    ensures { OnOk result (output.new.items ≡ output.old.items ++ at_level level (lines_of (sequence_of (map written items.now)))) }
+    ensures { OnOk result (output.new.items ≡ output.old.items ++
+        at_level level (lines_of (sequence_of (map written items.now)))) }
 {
     if items.is_empty() {
         return push_line(output, level, b"[]");
@@ -49,7 +53,8 @@ fn push_sequence(output: &mut Vec<u8>, level: usize, items: &List<Node>) -> Resu
 
 #[cycle(printed)]
 fn push_mapping(output: &mut Vec<u8>, level: usize, pairs: &List<NodePair>) -> Result<(), Memory>
-    ensures { OnOk result (output.new.items ≡ output.old.items ++ at_level level (lines_of (mapping_of (map written_pair pairs.now)))) }
+    ensures { OnOk result (output.new.items ≡ output.old.items ++
+        at_level level (lines_of (mapping_of (map written_pair pairs.now)))) }
 {
     if pairs.is_empty() {
         return push_line(output, level, b"{}");
@@ -62,7 +67,8 @@ fn push_mapping(output: &mut Vec<u8>, level: usize, pairs: &List<NodePair>) -> R
 
 #[cycle(printed)]
 fn push_item(output: &mut Vec<u8>, level: usize, item: &Node) -> Result<(), Memory>
-    ensures { OnOk result (output.new.items ≡ output.old.items ++ at_level level (item_entry (written item.now))) }
+    ensures { OnOk result (output.new.items ≡ output.old.items ++
+        at_level level (item_entry (written item.now))) }
 {
     push_indentation(output, level)?;
     output.push(b'-')?;
@@ -71,7 +77,8 @@ fn push_item(output: &mut Vec<u8>, level: usize, item: &Node) -> Result<(), Memo
 
 #[cycle(printed)]
 fn push_pair(output: &mut Vec<u8>, level: usize, pair: &NodePair) -> Result<(), Memory>
-    ensures { OnOk result (output.new.items ≡ output.old.items ++ at_level level (written_pair pair.now)) }
+    ensures { OnOk result (output.new.items ≡ output.old.items ++
+        at_level level (written_pair pair.now)) }
 {
     push_indentation(output, level)?;
     push_quoted(output, pair.key.as_bytes())?;
@@ -82,7 +89,8 @@ fn push_pair(output: &mut Vec<u8>, level: usize, pair: &NodePair) -> Result<(), 
 /// What stands behind the mark of an entry at a level, to the end of the entry's last line.
 #[cycle(printed)]
 fn push_behind_mark(output: &mut Vec<u8>, level: usize, node: &Node) -> Result<(), Memory>
-    ensures { OnOk result (output.new.items ≡ output.old.items ++ behind_mark level (written node.now)) }
+    ensures { OnOk result (output.new.items ≡ output.old.items ++
+        behind_mark level (written node.now)) }
 {
     if is_inline(&node.body) {
         output.push(b' ')?;

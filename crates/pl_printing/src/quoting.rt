@@ -17,7 +17,8 @@ pub fn push_quoted(output: &mut Vec<u8>, text: &[u8]) -> Result<(), Memory>
 
 /// A scalar on a line of its own, at a level.
 pub fn push_scalar(output: &mut Vec<u8>, level: usize, text: &Text) -> Result<(), Memory>
-    ensures { OnOk result (output.new.items ≡ output.old.items ++ at_level level (quoted text.now ∷ [])) }
+    ensures { OnOk result (output.new.items ≡ output.old.items ++
+        at_level level (quoted text.now ∷ [])) }
 {
     push_indentation(output, level)?;
     push_quoted(output, text.as_bytes())?;

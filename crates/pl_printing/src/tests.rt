@@ -3,8 +3,8 @@ use pl_base::{FileKey, List, Memory, Node, NodeBody, NodePair, Place, Shared, Te
 use std::alloc::Global;
 use std::test::Fail;
 
-/// A step in building a node on a stack. An item or a pair takes the last node off, and puts it behind what the
-/// collection before it holds.
+/// A step in building a node on a stack. An item or a pair takes the last node off, and puts it
+/// behind what the collection before it holds.
 #[derive(Clone, Copy)]
 enum Step {
     Scalar(&'static str),

@@ -1,6 +1,8 @@
 -- Results under names.
-use Rattle.std.proofs.Common.{◌≡◌, ℕ, ◌+◌, ◌<◌, ◌⊎◌, inl, inr, Bool, true, false, cond, Option, Some}
-use Rattle.std.proofs.Common.{None, List, [], ◌∷◌, ◌++◌, length, take, get_or, map, refl, sym, ap, ap₂}
+use Rattle.std.proofs.Common.{◌≡◌, ℕ, ◌+◌, ◌<◌, ◌⊎◌, inl, inr, Bool, true, false, cond, Option}
+use Rattle.std.proofs.Common.{Some}
+use Rattle.std.proofs.Common.{None, List, [], ◌∷◌, ◌++◌, length, take, get_or, map, refl, sym, ap}
+use Rattle.std.proofs.Common.{ap₂}
 use Rattle.std.proofs.Common.{◌∙◌, arith}
 use Rattle.std.specs.Prelude.{◌==◌, ◌&&◌, ◌||◌, is_none, nat_eq, not, if◌then◌else◌}
 use Rattle.std.specs.Option.{option_map}
@@ -165,7 +167,8 @@ looks_at canceled members (name ∷ names) = results_are members (name ∷ names
 
 without : (names : List (List ℕ)) → (length names == 0) ≡ true → names ≡ []
 without [] none = refl
-without (name ∷ names) none = absurd (let e = eqb-true (length (name ∷ names)) 0 none in omega arith)
+without (name ∷ names) none = absurd (let e = eqb-true (length (name ∷ names)) 0 none in
+    omega arith)
 
 pub looked_without : (members : List Member) (names : List (List ℕ)) →
     (length names == 0) ≡ true → results_under members names ≡ map (λ one. one.result) members

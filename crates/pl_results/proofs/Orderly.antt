@@ -1,5 +1,6 @@
 -- What holds of a plan that can run.
-use Rattle.std.proofs.Common.{◌≡◌, ℕ, zero, suc, ◌<◌, List, [], ◌∷◌, length, Result, Ok, Err, subst, sym}
+use Rattle.std.proofs.Common.{◌≡◌, ℕ, zero, suc, ◌<◌, List, [], ◌∷◌, length, Result, Ok, Err, subst}
+use Rattle.std.proofs.Common.{sym}
 use Rattle.std.proofs.Common.{arith}
 use Rattle.std.specs.Prelude.{All, IfOk, slice_get}
 use Rattle.std.specs.List.{AllByRecursion}

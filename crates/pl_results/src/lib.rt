@@ -1,6 +1,6 @@
 //! Results of a run: how they combine, which of them the status functions of a condition look at,
-//! and the outputs that expressions see (Microsoft Learn, Azure Pipelines, "Expressions", Job status
-//! check functions and Dependencies).
+//! and the outputs that expressions see (Microsoft Learn, Azure Pipelines, "Expressions", Job
+//! status check functions and Dependencies).
 #![tactic(auto)]
 
 mod combining;

@@ -9,4 +9,5 @@ spelled_parts target = slice_split (λ b. b == 47) target
 
 -- what a part says: its bytes without the escapes, which are UTF-8; none where they aren't
 abbrev pub Says : List ℕ → Option (List ℕ) → Type 0
-Says part said = MatchOption said (¬ (IsUtf8 (percent_decode part))) (λ text. text ≡ percent_decode part)
+Says part said = MatchOption said (¬ (IsUtf8 (percent_decode part))) (λ text. text ≡
+    percent_decode part)

@@ -1,5 +1,6 @@
 -- The routes of the service, in `matchit`'s rows.
-use Rattle.std.specs.Prelude.{ℕ, Bool, List, [], Option, Some, None, Result, Ok, Err, codes, nat_eq, ◌==◌, if◌then◌else◌}
+use Rattle.std.specs.Prelude.{ℕ, Bool, List, [], Option, Some, None, Result, Ok, Err, codes, nat_eq}
+use Rattle.std.specs.Prelude.{◌==◌, if◌then◌else◌}
 use Rattle.std.specs.Option.{option_map}
 use Rattle.std.specs.List.{list_any}
 use Rattle.std.specs.Cmp.Lexicographic.{pointwise}
@@ -37,7 +38,8 @@ has_query target = list_any (λ b. b == 63) target
 
 -- the row that a target has
 abbrev pub place_in : Rows → List ℕ → Option Place
-place_in rows target = if has_query target then None else option_map (λ row. row.value) (first rows target)
+place_in rows target = if has_query target then None
+    else option_map (λ row. row.value) (first rows target)
 
 -- the methods of the rows
 abbrev pub route_at : Place → Route
@@ -45,7 +47,8 @@ route_at place.Texts = route.QueueText
 route_at place.Draw = route.Draw
 
 abbrev pub route_for : Place → List ℕ → Option Route
-route_for place method = if pointwise nat_eq method (codes "POST") then Some (route_at place) else None
+route_for place method = if pointwise nat_eq method (codes "POST") then Some (route_at place)
+    else None
 
 abbrev pub with_method : Option Route → Result Route RouteFault
 with_method None = Err MethodUnknown

@@ -2,7 +2,8 @@
 use Rattle.std.specs.Prelude.{◌≡◌, ◌≢◌, ℕ, ◌≤◌, List, length, codes, slice_index}
 use Rattle.std.specs.Str.Parse.{IsNumeral}
 use Rattle.pl_base.specs.declared.resource.Kind.{Kind}
-use Rattle.pl_base.specs.declared.resource.Kind.TheVariants.{Environment, Connection, Group, Pool, Repository}
+use Rattle.pl_base.specs.declared.resource.Kind.TheVariants.{Environment, Connection, Group, Pool}
+use Rattle.pl_base.specs.declared.resource.Kind.TheVariants.{Repository}
 
 -- at most 18 bytes, no `+` in front and no zero before another byte
 pub record IsPlain (text : List ℕ) : Type 0 where

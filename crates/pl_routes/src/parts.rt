@@ -7,14 +7,16 @@ use std::alloc::{AllocError, Global};
 
 /// The parts of a path, as they are spelled: what stands before, between and behind its slashes.
 pub fn parts_of(alloc: Global, target: &str) -> Result<Vec<&str>, Memory>
-    ensures { IfOk result (λ parts. map (λ part. part.now) parts.items ≡ spelled_parts target.entry.now) }
+    ensures { IfOk result (λ parts. map (λ part. part.now) parts.items ≡
+        spelled_parts target.entry.now) }
 {
     Ok(cut(alloc, target)?)
 }
 
 /// The same, in the terms of the allocator.
 fn cut(alloc: Global, target: &str) -> Result<Vec<&str>, AllocError>
-    ensures { IfOk result (λ parts. map (λ part. part.now) parts.items ≡ spelled_parts target.entry.now) }
+    ensures { IfOk result (λ parts. map (λ part. part.now) parts.items ≡
+        spelled_parts target.entry.now) }
 {
     target.split('/').collect::<Vec<_>>(alloc)
 }

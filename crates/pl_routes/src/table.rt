@@ -9,8 +9,8 @@ use std::alloc::Global;
 /// The table of routes.
 pub type Routes = Router<Place>;
 
-/// A row more, of this pattern. That patterns clash is no case of the table, which a test builds; it
-/// is answered as want of memory, which the row wasn't put in for.
+/// A row more, of this pattern. That patterns clash is no case of the table, which a test builds;
+/// it is answered as want of memory, which the row wasn't put in for.
 fn add(routes: &mut Routes, pattern: &str, place: Place) -> Result<(), Memory>
     ensures { OnOk result (routes.new ≡ with_row pattern.now place routes.old) }
 {

@@ -1,15 +1,24 @@
 -- One byte more: from place to place.
-use Rattle.std.proofs.Common.{◌≡◌, ℕ, ◌+◌, ◌<◌, ◌≤◌, true, Bool, List, [], ◌∷◌, ◌++◌, length, take, drop, get_or, refl, sym, ap, ◌∙◌, subst, arith, append_assoc, append-nil, length-append, IsUtf8}
+use Rattle.std.proofs.Common.{◌≡◌, ℕ, ◌+◌, ◌<◌, ◌≤◌, true, Bool, List, [], ◌∷◌, ◌++◌, length, take}
+use Rattle.std.proofs.Common.{drop, get_or, refl, sym, ap, ◌∙◌, subst, arith, append_assoc}
+use Rattle.std.proofs.Common.{append-nil, length-append, IsUtf8}
 use Rattle.std.proofs.Math.Seq.{drop-append_seam}
 use Rattle.std.proofs.lemmas.List.{take_more}
 use Rattle.std.proofs.lemmas.List.Elements.{All-nil, All-push}
-use Rattle.httparse.specs.Grammar.{LineEnd, crlf, lf, print_end, print_blank, IsField, IsToken, AllPass, is_token_byte, is_uri_byte, is_value_byte}
+use Rattle.httparse.specs.Grammar.{LineEnd, crlf, lf, print_end, print_blank, IsField, IsToken}
+use Rattle.httparse.specs.Grammar.{AllPass, is_token_byte, is_uri_byte, is_value_byte}
 use Rattle.httparse.specs.Pieces.{Piece, Then, BlankLines}
-use Rattle.httparse.proofs.PieceLemmas.{front-append, Method_deterministic, Target_deterministic, Version_deterministic, Newline_deterministic, FieldLines-append, FieldLines_push}
+use Rattle.httparse.proofs.PieceLemmas.{front-append, Method_deterministic, Target_deterministic}
+use Rattle.httparse.proofs.PieceLemmas.{Version_deterministic, Newline_deterministic}
+use Rattle.httparse.proofs.PieceLemmas.{FieldLines-append, FieldLines_push}
 use Rattle.httparse.proofs.ReadLemmas.{blank_more, FieldLine_done}
 use Rattle.pl_scan.specs.declared.place.Place.{Place}
-use Rattle.pl_scan.specs.declared.place.Place.TheVariants.{EmptyLines, EmptyLineReturn, Method, Target, Version, StartLine, StartLineReturn, Lines, LastReturn, Name, Value, ValueReturn}
-use Rattle.pl_scan.specs.Places.{EndsAt, IsBehindLines, Start, ToTarget, ToVersion, ToStartEnd, ToLine, version}
+use Rattle.pl_scan.specs.declared.place.Place.TheVariants.{EmptyLines, EmptyLineReturn, Method}
+use Rattle.pl_scan.specs.declared.place.Place.TheVariants.{Target, Version, StartLine}
+use Rattle.pl_scan.specs.declared.place.Place.TheVariants.{StartLineReturn, Lines, LastReturn, Name}
+use Rattle.pl_scan.specs.declared.place.Place.TheVariants.{Value, ValueReturn}
+use Rattle.pl_scan.specs.Places.{EndsAt, IsBehindLines, Start, ToTarget, ToVersion, ToStartEnd}
+use Rattle.pl_scan.specs.Places.{ToLine, version}
 use Rattle.pl_scan.specs.Scans.{Leads}
 
 pub byte_is : (from to : Place) (b c : ℕ) → b ≡ c → Leads from c to → Leads from b to

@@ -1,17 +1,25 @@
 -- Bytes that end at a place of a head begin one.
-use Rattle.std.proofs.Common.{◌≡◌, ℕ, ◌+◌, ◌<◌, ◌≤◌, inl, inr, true, List, [], ◌∷◌, ◌++◌, length, take, drop, sym, ap, ◌∙◌, subst, arith, append_assoc, append-nil, length-append, IsUtf8, refl}
+use Rattle.std.proofs.Common.{◌≡◌, ℕ, ◌+◌, ◌<◌, ◌≤◌, inl, inr, true, List, [], ◌∷◌, ◌++◌, length}
+use Rattle.std.proofs.Common.{take, drop, sym, ap, ◌∙◌, subst, arith, append_assoc, append-nil}
+use Rattle.std.proofs.Common.{length-append, IsUtf8, refl}
 use Rattle.std.proofs.lemmas.List.{take-append-drop, take_all}
 use Rattle.std.proofs.lemmas.Str.{IsUtf8-from_ascii}
 use Rattle.std.proofs.lemmas.Str.Ascii.{IsAscii-cons, IsAscii-nil}
 use Rattle.std.specs.List.{flat_map}
-use Rattle.httparse.specs.Grammar.{LineEnd, crlf, lf, print_end, print_blank, print_field, print_request, AllPass, IsToken, RequestHead, ReadsRequest, HasNoRequest, EndsInTarget, is_token_byte, is_uri_byte, is_value_byte}
+use Rattle.httparse.specs.Grammar.{LineEnd, crlf, lf, print_end, print_blank, print_field}
+use Rattle.httparse.specs.Grammar.{print_request, AllPass, IsToken, RequestHead, ReadsRequest}
+use Rattle.httparse.specs.Grammar.{HasNoRequest, EndsInTarget, is_token_byte, is_uri_byte}
+use Rattle.httparse.specs.Grammar.{is_value_byte}
 use Rattle.httparse.proofs.GrammarLemmas.{print_request-append, ReadsRequest-append, request_unique}
 use Rattle.pl_heads.specs.Heads.{IsOpen, IsPartialHead, below_limit}
 use Rattle.pl_heads.specs.Lines.{feeds, skip_newlines, lines_behind, line_limit}
 use Rattle.pl_heads.proofs.LineLemmas.{feeds-append, skip_newlines-append, lines_behind-append}
 use Rattle.pl_heads.proofs.ManyLines.{few_lines, lines_behind-request, target_lines}
 use Rattle.pl_scan.specs.declared.place.Place.{Place}
-use Rattle.pl_scan.specs.declared.place.Place.TheVariants.{EmptyLines, EmptyLineReturn, Method, Target, Version, StartLine, StartLineReturn, Lines, LastReturn, Name, Value, ValueReturn}
+use Rattle.pl_scan.specs.declared.place.Place.TheVariants.{EmptyLines, EmptyLineReturn, Method}
+use Rattle.pl_scan.specs.declared.place.Place.TheVariants.{Target, Version, StartLine}
+use Rattle.pl_scan.specs.declared.place.Place.TheVariants.{StartLineReturn, Lines, LastReturn, Name}
+use Rattle.pl_scan.specs.declared.place.Place.TheVariants.{Value, ValueReturn}
 use Rattle.pl_scan.specs.declared.scanner.Scanner.{Scanner}
 use Rattle.pl_scan.specs.Places.{EndsAt, IsBehindLines, Start, ToLine, version}
 use Rattle.pl_scan.specs.Scans.{Follows}

@@ -7,7 +7,10 @@ use Rattle.httparse.specs.Pieces.{Piece, Then, BlankLines, Newline, FieldLines}
 use Rattle.httparse.specs.Pieces as piece
 use Rattle.pl_heads.specs.Heads.{field_limit}
 use Rattle.pl_scan.specs.declared.place.Place.{Place}
-use Rattle.pl_scan.specs.declared.place.Place.TheVariants.{EmptyLines, EmptyLineReturn, Method, Target, Version, StartLine, StartLineReturn, Lines, LastReturn, Name, Value, ValueReturn}
+use Rattle.pl_scan.specs.declared.place.Place.TheVariants.{EmptyLines, EmptyLineReturn, Method}
+use Rattle.pl_scan.specs.declared.place.Place.TheVariants.{Target, Version, StartLine}
+use Rattle.pl_scan.specs.declared.place.Place.TheVariants.{StartLineReturn, Lines, LastReturn, Name}
+use Rattle.pl_scan.specs.declared.place.Place.TheVariants.{Value, ValueReturn}
 
 -- empty lines, a method and its space
 abbrev pub ToTarget : Piece (List LineEnd × List ℕ)

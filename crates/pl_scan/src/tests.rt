@@ -5,8 +5,8 @@ use crate::Scanner;
 use std::alloc::Global;
 use std::test::Fail;
 
-/// Bytes whose last one a scanner doesn't go over. `\r`, `\n`, `\t`, `\0` and `\f` stand for CR, LF,
-/// tab, NUL and the byte 255.
+/// Bytes whose last one a scanner doesn't go over. `\r`, `\n`, `\t`, `\0` and `\f` stand for CR,
+/// LF, tab, NUL and the byte 255.
 const ROWS: &str = r"GET / HTTP/1.1\r\n\r\n
 GET / HTTP/1.0\r\n\r\n
 GET / HTTP/1.1\n\n
@@ -93,7 +93,8 @@ fn bytes_of(alloc: Global, text: &[u8]) -> Result<Vec<u8>, Fail> {
     Ok(bytes)
 }
 
-/// How many bytes came when a scanner doesn't go over them all any more, where so many come at once.
+/// How many bytes came when a scanner doesn't go over them all any more, where so many come at
+/// once.
 fn stop_of(bytes: &[u8], piece: usize) -> Option<usize> {
     let mut scanner = Scanner::new();
     let mut len = 0;

@@ -16,7 +16,8 @@ use Rattle.pl_schema_parts.specs.Rows.{reads, passed}
 use Rattle.pl_schema_parts.specs.Rows.{at_node, Row, has, read_object, in_turn}
 use Rattle.pl_reading.specs.Steps.{◌>>=◌}
 use Rattle.pl_schema_parts.specs.Rows.{some_items}
-use Rattle.pl_schema_parts.specs.Scalars.{pairs_in, items_in, condition_in, behaviour_in, depends_in}
+use Rattle.pl_schema_parts.specs.Scalars.{pairs_in, items_in, condition_in, behaviour_in}
+use Rattle.pl_schema_parts.specs.Scalars.{depends_in}
 use Rattle.pl_schema_parts.specs.Variables.{variables_in}
 
 -- a stage before its first key

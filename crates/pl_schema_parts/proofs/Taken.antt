@@ -41,7 +41,8 @@ one_more old new name upper updated is_upper i other =
 
 -- ---- the names of a list with one more item
 
-pub more : (names : List (List ℕ)) (name other : List ℕ) → (is_taken names other || spells other name) ≡
+pub more :
+    (names : List (List ℕ)) (name other : List ℕ) → (is_taken names other || spells other name) ≡
     is_taken (names ++ name ∷ []) other
 more names name other = ap (λ b. is_taken names other || b) (or_none (spells other name))
     ∙ sym (list_any-append (spells other) names (name ∷ []))

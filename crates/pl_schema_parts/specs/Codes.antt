@@ -2,8 +2,10 @@
 use Rattle.std.specs.Prelude.{ℕ, List, codes}
 use Rattle.pl_schema_parts.specs.declared.fault.SchemaCode.{SchemaCode}
 use Rattle.pl_schema_parts.specs.declared.fault.SchemaCode.TheVariants.{UnknownKey, MissingKey}
-use Rattle.pl_schema_parts.specs.declared.fault.SchemaCode.TheVariants.{WrongShape, BadName, FirstKey}
-use Rattle.pl_schema_parts.specs.declared.fault.SchemaCode.TheVariants.{NameTwice, TwoForms, BadNumber}
+use Rattle.pl_schema_parts.specs.declared.fault.SchemaCode.TheVariants.{WrongShape, BadName}
+use Rattle.pl_schema_parts.specs.declared.fault.SchemaCode.TheVariants.{FirstKey}
+use Rattle.pl_schema_parts.specs.declared.fault.SchemaCode.TheVariants.{NameTwice, TwoForms}
+use Rattle.pl_schema_parts.specs.declared.fault.SchemaCode.TheVariants.{BadNumber}
 use Rattle.pl_schema_parts.specs.declared.fault.SchemaCode.TheVariants.{BadCondition}
 
 abbrev pub code_of : SchemaCode → List ℕ

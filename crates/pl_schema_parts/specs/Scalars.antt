@@ -18,7 +18,8 @@ use Rattle.pl_expr.specs.Numerals.{number_in}
 use Rattle.pl_literal.specs.Booleans.{boolean_in}
 use Rattle.pl_literal.specs.Items.{Opened, is}
 use Rattle.pl_schema_parts.specs.declared.fault.SchemaCode.{SchemaCode}
-use Rattle.pl_schema_parts.specs.declared.fault.SchemaCode.TheVariants.{MissingKey, WrongShape, BadNumber}
+use Rattle.pl_schema_parts.specs.declared.fault.SchemaCode.TheVariants.{MissingKey, WrongShape}
+use Rattle.pl_schema_parts.specs.declared.fault.SchemaCode.TheVariants.{BadNumber}
 use Rattle.pl_schema_parts.specs.declared.fault.SchemaCode.TheVariants.{BadCondition}
 use Rattle.pl_schema_parts.specs.declared.pipeline.DependSpec.{DependSpec}
 use Rattle.pl_schema_parts.specs.Gives.{Fault}

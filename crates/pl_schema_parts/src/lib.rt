@@ -1,6 +1,6 @@
-//! The parts of pipelines as they are written: their types, and what reads the scalars, names, lists,
-//! pools, variables, legs and steps of an expanded tree (Microsoft Learn, Azure Pipelines, "YAML
-//! schema reference").
+//! The parts of pipelines as they are written: their types, and what reads the scalars, names,
+//! lists, pools, variables, legs and steps of an expanded tree (Microsoft Learn, Azure Pipelines,
+//! "YAML schema reference").
 #![tactic(auto)]
 
 mod copying;

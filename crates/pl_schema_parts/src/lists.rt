@@ -1,7 +1,8 @@
 ghost use Rattle.std.specs.Prelude.{[]};
 ghost use Rattle.pl_schema_parts.specs.Gives.{Gives};
 ghost use Rattle.pl_schema_parts.specs.Rows.{in_turn};
-ghost use Rattle.pl_schema_parts.specs.Scalars.{text_in, just_one, demands_in, depend_in, depends_in};
+ghost use Rattle.pl_schema_parts.specs.Scalars.{text_in, just_one, demands_in, depend_in};
+ghost use Rattle.pl_schema_parts.specs.Scalars.{depends_in};
 
 use crate::fault::SchemaFault;
 use crate::pipeline::DependSpec;

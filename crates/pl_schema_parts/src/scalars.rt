@@ -1,6 +1,7 @@
 ghost use Rattle.std.specs.Prelude.{◌≡◌, IfOk, MatchResult};
 ghost use Rattle.pl_schema_parts.specs.Gives.{Gives, Refuses};
-ghost use Rattle.pl_schema_parts.specs.Scalars.{text_in, filled_in, some_text, truth_in, behaviour_named};
+ghost use Rattle.pl_schema_parts.specs.Scalars.{text_in, filled_in, some_text, truth_in};
+ghost use Rattle.pl_schema_parts.specs.Scalars.{behaviour_named};
 ghost use Rattle.pl_schema_parts.specs.Scalars.{behaviour_in, limited, limited_in, condition_in};
 ghost use Rattle.pl_schema_parts.specs.Scalars.{pairs_in, items_in};
 

@@ -5,7 +5,8 @@ ghost use Rattle.pl_expr.specs.Conversions.{text_of};
 ghost use Rattle.pl_schema_parts.specs.Gives.{Gives, Makes};
 ghost use Rattle.pl_schema_parts.specs.Names.{is_taken, taken, also_taken};
 ghost use Rattle.pl_schema_parts.specs.Rows.{in_order, in_turn};
-ghost use Rattle.pl_schema_parts.specs.Steps.{is_step_key, step_name, step_names, read_form, step_pair};
+ghost use Rattle.pl_schema_parts.specs.Steps.{is_step_key, step_name, step_names, read_form};
+ghost use Rattle.pl_schema_parts.specs.Steps.{step_pair};
 ghost use Rattle.pl_schema_parts.specs.Steps.{step_from, step_in, steps_in};
 
 use crate::fault::{SchemaCode, SchemaFault};

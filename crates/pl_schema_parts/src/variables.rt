@@ -63,8 +63,8 @@ pub fn late_in(alloc: Global, node: &MarkedNode, text: &Text) -> Result<Option<E
 }
 
 /// A variable of that name, whose value a scalar is by its cast (Microsoft Learn, Azure Pipelines,
-/// "Define variables"). S3 at a list or a mapping, S9 at a value that begins with `$[` and ends with
-/// `]` and between these doesn't parse. Memory may come at any time.
+/// "Define variables"). S3 at a list or a mapping, S9 at a value that begins with `$[` and ends
+/// with `]` and between these doesn't parse. Memory may come at any time.
 #[tactic(auto, unfolding(crate::specs::Variables::variable_in))]
 pub fn variable_in(alloc: Global, name: Text, node: &MarkedNode) -> Result<Variable, SchemaFault>
     ensures { Gives result (spec.variable_in name node.now) }

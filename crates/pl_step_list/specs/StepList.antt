@@ -1,5 +1,7 @@
--- Step lists, the one form of texts that is accepted so far (YAML 1.2.2, sections 8.2.1 and 8.2.2): a mapping of the key `steps` to a sequence of one-key mappings.
-use Rattle.std.specs.Prelude.{ℕ, ◌+◌, Bool, false, ◌==◌, ◌&&◌, ◌||◌, not, nat_eq, nat_le, List, [], ◌∷◌, length, drop, Option, Some, None, if◌then◌else◌, codes}
+-- Step lists, the one form of texts that is accepted so far (YAML 1.2.2, sections 8.2.1 and 8.2.2):
+-- a mapping of the key `steps` to a sequence of one-key mappings.
+use Rattle.std.specs.Prelude.{ℕ, ◌+◌, Bool, false, ◌==◌, ◌&&◌, ◌||◌, not, nat_eq, nat_le, List, []}
+use Rattle.std.specs.Prelude.{◌∷◌, length, drop, Option, Some, None, if◌then◌else◌, codes}
 use Rattle.std.specs.Char.{is_ascii_alphabetic, is_ascii_alphanumeric}
 use Rattle.std.specs.Option.{option_and_then, option_map}
 use Rattle.std.specs.List.{slice_split, starts_with, list_all, last_or}
@@ -28,23 +30,28 @@ is_script s = begins_with_letter s && list_all is_script_byte s && not (is_space
 
 -- the script of a line `- script: S`
 abbrev pub script_of : List ℕ → Option (List ℕ)
-script_of line = if starts_with nat_eq line (codes "- script: ") && is_script (drop 10 line) then Some (drop 10 line) else None
+script_of line = if starts_with nat_eq line (codes "- script: ") && is_script (drop 10 line)
+    then Some (drop 10 line) else None
 
 -- the scripts of the lines behind the first; behind the last line feed stands nothing
 abbrev pub scripts_in : List (List ℕ) → Option (List (List ℕ))
 scripts_in [] = None
 scripts_in ([] ∷ []) = Some []
-scripts_in (line ∷ lines) = option_and_then (λ script. option_map (λ scripts. script ∷ scripts) (scripts_in lines)) (script_of line)
+scripts_in (line ∷ lines) = option_and_then (λ script. option_map (λ scripts. script ∷ scripts)
+    (scripts_in lines)) (script_of line)
 
 -- 1 to 2,000 of them
 abbrev pub counted : List (List ℕ) → Option (List (List ℕ))
-counted scripts = if nat_le 1 (length scripts) && nat_le (length scripts) 2000 then Some scripts else None
+counted scripts = if nat_le 1 (length scripts) && nat_le (length scripts) 2000 then Some scripts
+    else None
 
 abbrev pub scripts_behind : List (List ℕ) → Option (List (List ℕ))
 scripts_behind [] = None
-scripts_behind (line ∷ lines) = if pointwise nat_eq line (codes "steps:") then option_and_then counted (scripts_in lines) else None
+scripts_behind (line ∷ lines) = if pointwise nat_eq line (codes "steps:")
+    then option_and_then counted (scripts_in lines) else None
 
--- the scripts of a text: its lines are the line `steps:`, and then a line for each script; each is ended by a line feed
+-- the scripts of a text: its lines are the line `steps:`, and then a line for each script; each is
+-- ended by a line feed
 abbrev pub scripts_of : List ℕ → Option (List (List ℕ))
 scripts_of text = scripts_behind (slice_split (λ b. b == 10) text)
 
@@ -56,13 +63,19 @@ abbrev pub step_at : FileKey → ℕ → List ℕ → Node
 step_at file line script =
     record {
       place = place_at file line 3;
-      body = Map (record { key = codes "script"; key_place = place_at file line 3; item = scalar_at (place_at file line 11) script } ∷ []);
+      body = Map (record {
+        key = codes "script";
+        key_place = place_at file line 3;
+        item =
+            scalar_at (place_at file line 11) script;
+      } ∷ []);
     }
 
 -- the steps from a line on, one a line
 abbrev pub steps_from : FileKey → ℕ → List (List ℕ) → List Node
 steps_from file line [] = []
-steps_from file line (script ∷ scripts) = step_at file line script ∷ steps_from file (line + 1) scripts
+steps_from file line (script ∷ scripts) = step_at file line script ∷
+    steps_from file (line + 1) scripts
 
 -- the mapping of `steps` to a sequence, which begins at its first dash
 abbrev pub steps_node : FileKey → List Node → Node

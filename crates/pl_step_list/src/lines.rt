@@ -1,4 +1,5 @@
-ghost use Rattle.std.specs.Prelude.{◌≡◌, ◌<◌, ◌==◌, [], ◌∷◌, length, position, MatchOption, IfSome, IsTrue, ◌↔◌};
+ghost use Rattle.std.specs.Prelude.{◌≡◌, ◌<◌, ◌==◌, [], ◌∷◌, length, position, MatchOption, IfSome};
+ghost use Rattle.std.specs.Prelude.{IsTrue, ◌↔◌};
 ghost use Rattle.std.specs.Option.{option_map_or};
 ghost use Rattle.std.specs.List.{slice_split};
 
@@ -21,7 +22,8 @@ impl<'t> Model for Lines<'t> {
 
     ghost coded = { coded_list (coded_list coded_ℕ) };
 
-    ghost view = { λ lines. option_map_or (λ rest. slice_split (λ b. b == 10) rest.now) lines.rest [] };
+    ghost view = { λ lines. option_map_or (λ rest. slice_split (λ b. b == 10) rest.now) lines.rest
+        [] };
 }
 
 impl<'t> Lines<'t> {
@@ -34,7 +36,8 @@ impl<'t> Lines<'t> {
 
     /// Takes the first line off, or None where no line is left.
     pub(crate) fn next(&mut self) -> Option<&'t [u8]>
-        ensures { MatchOption result ((self.old ≡ []) × (self.new ≡ [])) (λ line. self.old ≡ line.now ∷ self.new) }
+        ensures { MatchOption result ((self.old ≡ []) × (self.new ≡ [])) (λ line. self.old ≡
+            line.now ∷ self.new) }
     {
         let rest = self.rest?;
         let (line, behind) = cut_line(rest);
@@ -52,7 +55,8 @@ impl<'t> Lines<'t> {
 
 /// The text before the first line feed, and the text behind it where there is one.
 fn cut_line(text: &[u8]) -> (&[u8], Option<&[u8]>)
-    ensures { slice_split (λ b. b == 10) text.now ≡ result.0.now ∷ option_map_or (λ rest. slice_split (λ b. b == 10) rest.now) result.1 [] }
+    ensures { slice_split (λ b. b == 10) text.now ≡ result.0.now ∷
+        option_map_or (λ rest. slice_split (λ b. b == 10) rest.now) result.1 [] }
 {
     match line_feed(text) {
         Some(at) => (&text[..at], Some(&text[at + 1..])),

@@ -50,7 +50,12 @@ fn one_pair(
     key_place: Place,
     item: Node,
 ) -> Result<ItemList<NodePair>, Memory>
-    ensures { IfOk result (λ pairs. pairs ≡ record { key = key; key_place = key_place; item = item } ∷ []) }
+    ensures { IfOk result (λ pairs. pairs ≡ record {
+      key = key;
+      key_place = key_place;
+      item =
+          item;
+    } ∷ []) }
 {
     let mut pairs = ItemList::new(alloc);
     pairs.push(NodePair {

@@ -20,7 +20,8 @@ const MOST_STEPS: usize = 2_000;
 /// `- script: S` for each script S, each line ended by a line feed; 1 to 2,000 scripts, each in its
 /// form.
 pub fn spelling()
-    ensures { (text : List ℕ) (scripts : List (List ℕ)) → (scripts_of text ≡ Some scripts) ↔ IsSpelled text scripts }
+    ensures { (text : List ℕ) (scripts : List (List ℕ)) → (scripts_of text ≡ Some scripts) ↔
+        IsSpelled text scripts }
 {}
 
 /// The node of a step list (YAML 1.2.2, sections 8.2.1 and 8.2.2) in a file, with the place of
@@ -52,7 +53,8 @@ fn steps_in(
     mut lines: Lines,
     file: &Shared<FileKey>,
 ) -> Result<Option<ItemList<Node>>, Memory>
-    ensures { IfOk result (λ steps. steps ≡ option_map (steps_from file.now 2) (option_and_then counted (scripts_in lines.entry))) }
+    ensures { IfOk result (λ steps. steps ≡ option_map (steps_from file.now 2)
+        (option_and_then counted (scripts_in lines.entry))) }
 {
     let mut steps = ItemList::new(alloc);
     while let Some(line) = lines.next() {

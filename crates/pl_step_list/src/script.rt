@@ -6,7 +6,8 @@ use std::str;
 
 /// The script of a line `- script: S`, or None where the line isn't of this form.
 pub(crate) fn script_of(line: &[u8]) -> Option<&str>
-    ensures { MatchOption result (spec.script_of line.now ≡ None) (λ script. spec.script_of line.now ≡ Some script.now) }
+    ensures { MatchOption result (spec.script_of line.now ≡ None)
+        (λ script. spec.script_of line.now ≡ Some script.now) }
 {
     let script = line.strip_prefix(b"- script: ")?;
     if is_script(script) {

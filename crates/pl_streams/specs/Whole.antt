@@ -37,7 +37,8 @@ pub record IsWhole (bytes : List ℕ) (old new : Inflow) : Type 0 where
   pub few : length bytes < taken_limit
   pub quiet : new.faults ≡ old.faults
 
--- It stopped before its end: a read failed, as many bytes were taken as may be, or memory was wanting.
+-- It stopped before its end: a read failed, as many bytes were taken as may be, or memory was
+-- wanting.
 abbrev pub IsBroken : Unread → List ℕ → Inflow → Inflow → Type 0
 IsBroken ReadFault bytes old new = new.faults ≡ one_more old.faults
 IsBroken Spent bytes old new = (length bytes ≡ taken_limit) × (new.faults ≡ old.faults)

@@ -22,10 +22,10 @@ pub enum Unread {
     Memory,
 }
 
-/// All bytes of a source, in whatever pieces they come. Ok where the source told its end behind fewer
-/// than `TAKEN_LIMIT` bytes. ReadFault where a read failed, and its count of faults rose; Spent where
-/// `TAKEN_LIMIT` bytes were taken; Memory where memory was wanting. What was read before an error is
-/// lost.
+/// All bytes of a source, in whatever pieces they come. Ok where the source told its end behind
+/// fewer than `TAKEN_LIMIT` bytes. ReadFault where a read failed, and its count of faults rose;
+/// Spent where `TAKEN_LIMIT` bytes were taken; Memory where memory was wanting. What was read
+/// before an error is lost.
 pub fn read_to_end<S: Source>(alloc: Global, source: &mut S) -> Result<Bytes, Unread>
     ensures { IsRead result (inflow S.Source source.old) (inflow S.Source source.new) }
 {

@@ -1,5 +1,6 @@
 -- The bound on the texts that functions make: 65,536 bytes.
-use Rattle.std.specs.Prelude.{◌≡◌, ℕ, ◌<◌, Bool, List, length, nat_le, Result, Ok, Err, if◌then◌else◌}
+use Rattle.std.specs.Prelude.{◌≡◌, ℕ, ◌<◌, Bool, List, length, nat_le, Result, Ok, Err}
+use Rattle.std.specs.Prelude.{if◌then◌else◌}
 use Rattle.std.specs.List.{list_all}
 use Rattle.pl_texts.specs.declared.fault.TextFault.{TextFault}
 use Rattle.pl_texts.specs.declared.fault.TextFault.TheVariants.{Index, TooLong, Memory}

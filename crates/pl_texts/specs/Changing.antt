@@ -11,8 +11,8 @@ lowered text = map to_ascii_lowercase text
 abbrev pub raised : List ℕ → List ℕ
 raised text = map to_ascii_uppercase text
 
--- From left to right, once so many bytes were passed over: where the sought text stands, the new one comes, and
--- the bytes that stood there are passed over. Any other byte stays.
+-- From left to right, once so many bytes were passed over: where the sought text stands, the new
+-- one comes, and the bytes that stood there are passed over. Any other byte stays.
 unfoldable pub replaced_behind : ℕ → List ℕ → List ℕ → List ℕ → List ℕ
 replaced_behind passed sought new [] = []
 replaced_behind (suc passed) sought new (byte ∷ text) = replaced_behind passed sought new text

@@ -31,15 +31,17 @@ pub fn upper(alloc: Global, text: &Text) -> Result<Text, TextFault>
     Ok(Text::from_string(upper))
 }
 
-/// The text without the white space at both ends (Unicode, White_Space). TooLong where that has more than 65,536 bytes.
+/// The text without the white space at both ends (Unicode, White_Space). TooLong where that has
+/// more than 65,536 bytes.
 pub fn trim(alloc: Global, text: &Text) -> Result<Text, TextFault>
     ensures { Gives result (bounded (trim text.now)) }
 {
     bounded_copy(alloc, text.as_str().trim())
 }
 
-/// The text with `new` in the place of each occurrence of `sought`, from left to right and without overlap, case
-/// counting. All stays where `sought` is empty. TooLong where the result has more than 65,536 bytes.
+/// The text with `new` in the place of each occurrence of `sought`, from left to right and without
+/// overlap, case counting. All stays where `sought` is empty. TooLong where the result has more
+/// than 65,536 bytes.
 pub fn replace(alloc: Global, text: &Text, sought: &Text, new: &Text) -> Result<Text, TextFault>
     ensures { Gives result (bounded (replaced text.now sought.now new.now)) }
 {

@@ -1,7 +1,8 @@
 ghost use Rattle.std.specs.Prelude.{◌≡◌, ◌<◌, [], length, IsSome, IfSome, is_some};
 ghost use Rattle.std.specs.Option.{option_copied, option_map};
 ghost use Rattle.pl_texts.specs.Bound.{Gives};
-ghost use Rattle.pl_texts.specs.Formatting.{formatted, filled, continued, cut_off, braced, hole, argument_of};
+ghost use Rattle.pl_texts.specs.Formatting.{formatted, filled, continued, cut_off, braced, hole};
+ghost use Rattle.pl_texts.specs.Formatting.{argument_of};
 ghost use Rattle.pl_reading.specs.Bytes.{digits_of, begins_with};
 
 use crate::bound::push_bounded;
@@ -14,9 +15,8 @@ use pl_base::{List, Text};
 use std::alloc::Global;
 
 /// The pattern with `{n}` replaced by argument n, counted from 0, `{{` by `{` and `}}` by `}`.
-///
-/// Index where any other brace stands, or an n that is no argument's number or has a leading zero. Else TooLong
-/// where the result has more than 65,536 bytes.
+///  Index where any other brace stands, or an n that is no argument's number or has a leading zero.
+/// Else TooLong where the result has more than 65,536 bytes.
 pub fn format(alloc: Global, pattern: &Text, arguments: &List<Text>) -> Result<Text, TextFault>
     ensures { Gives result (formatted arguments.now pattern.now) }
 {
@@ -56,10 +56,12 @@ fn fill(alloc: Global, pattern: &str, arguments: &List<Text>) -> Result<Text, Te
     Ok(made)
 }
 
-/// The text of the piece that the pattern begins with, and the pattern behind it. None where that is no piece.
+/// The text of the piece that the pattern begins with, and the pattern behind it. None where that
+/// is no piece.
 fn next_piece<'t>(pattern: &'t str, arguments: &'t List<Text>) -> Option<(&'t str, &'t str)>
     requires { 0 < length pattern.now }
-    ensures piece { filled arguments.now pattern.now ≡ continued arguments.now (option_map (λ parts. (parts.0.now, parts.1.now)) result) }
+    ensures piece { filled arguments.now pattern.now ≡
+        continued arguments.now (option_map (λ parts. (parts.0.now, parts.1.now)) result) }
     ensures shorter { IfSome result (λ parts. length parts.1.now < length pattern.now) }
 {
     if begins_with(pattern, b'{') {
@@ -73,7 +75,8 @@ fn next_piece<'t>(pattern: &'t str, arguments: &'t List<Text>) -> Option<(&'t st
 
 /// What a `{` begins: a second one, or a hole.
 fn opened<'t>(behind: &'t str, arguments: &'t List<Text>) -> Option<(&'t str, &'t str)>
-    ensures { option_map (λ parts. (parts.0.now, parts.1.now)) result ≡ cut_off behind.now (braced arguments.now 123 behind.now) }
+    ensures { option_map (λ parts. (parts.0.now, parts.1.now)) result ≡
+        cut_off behind.now (braced arguments.now 123 behind.now) }
 {
     if begins_with(behind, b'{') {
         return Some(("{", skip_byte(behind, b'{')));
@@ -83,7 +86,8 @@ fn opened<'t>(behind: &'t str, arguments: &'t List<Text>) -> Option<(&'t str, &'
 
 /// What a `}` begins: a second one.
 fn closed(behind: &str) -> Option<(&str, &str)>
-    ensures { option_map (λ parts. (parts.0.now, parts.1.now)) result ≡ cut_off behind.now (braced [] 125 behind.now) }
+    ensures { option_map (λ parts. (parts.0.now, parts.1.now)) result ≡
+        cut_off behind.now (braced [] 125 behind.now) }
 {
     if !begins_with(behind, b'}') {
         return None;
@@ -93,7 +97,8 @@ fn closed(behind: &str) -> Option<(&str, &str)>
 
 /// The argument whose number stands between braces, from behind the first one on.
 fn fill_hole<'t>(behind: &'t str, arguments: &'t List<Text>) -> Option<(&'t str, &'t str)>
-    ensures { option_map (λ parts. (parts.0.now, parts.1.now)) result ≡ cut_off behind.now (hole arguments.now behind.now) }
+    ensures { option_map (λ parts. (parts.0.now, parts.1.now)) result ≡
+        cut_off behind.now (hole arguments.now behind.now) }
 {
     let count = count_digits(behind);
     let (_digits, rest) = split_ascii(behind, count);

@@ -6,7 +6,8 @@ use crate::fault::TextFault;
 use pl_base::{List, Text};
 use std::alloc::Global;
 
-/// The texts in order, the separator between each two. TooLong where the result has more than 65,536 bytes.
+/// The texts in order, the separator between each two. TooLong where the result has more than
+/// 65,536 bytes.
 pub fn join(alloc: Global, separator: &Text, texts: &List<Text>) -> Result<Text, TextFault>
     ensures { Gives result (bounded (joined separator.now texts.now)) }
 {

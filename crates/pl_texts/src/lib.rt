@@ -1,4 +1,5 @@
-//! The functions on texts that expressions call (Microsoft Learn, Azure Pipelines, "Expressions", Functions).
+//! The functions on texts that expressions call (Microsoft Learn, Azure Pipelines, "Expressions",
+//! Functions).
 #![tactic(auto)]
 
 mod bound;

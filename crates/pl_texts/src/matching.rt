@@ -22,7 +22,8 @@ fn occurs(text: &str, sought: &str) -> bool
     text.contains(sought)
 }
 
-/// Whether the text begins with the sought one, the case of ASCII letters aside. It takes no memory.
+/// Whether the text begins with the sought one, the case of ASCII letters aside. It takes no
+/// memory.
 pub fn starts_with(text: &Text, sought: &Text) -> bool
     ensures { result ≡ begins (folded text.now) (folded sought.now) }
 {

@@ -10,8 +10,8 @@ use pl_base::{List, Memory, Text};
 use std::alloc::Global;
 use std::collections::BTreeSet;
 
-/// The pieces of the text between the characters of `separators`, empty pieces too. TooLong where a piece has more
-/// than 65,536 bytes.
+/// The pieces of the text between the characters of `separators`, empty pieces too. TooLong where a
+/// piece has more than 65,536 bytes.
 pub fn split(alloc: Global, text: &Text, separators: &Text) -> Result<List<Text>, TextFault>
     ensures { Gives result (all_bounded (pieces text.now separators.now)) }
 {
@@ -48,7 +48,8 @@ fn push_piece(pieces: &mut List<Text>, piece: String) -> Result<(), Memory>
 
 /// The characters that the text has.
 fn characters_of(alloc: Global, text: &str) -> Result<BTreeSet<char>, Memory>
-    ensures { IfOk result (λ set. (character : ℕ) → contains nat_cmp set character ≡ is_of text.now character) }
+    ensures { IfOk result (λ set. (character : ℕ) → contains nat_cmp set character ≡
+        is_of text.now character) }
 {
     let mut set = BTreeSet::new(alloc);
     for character in text.chars() {

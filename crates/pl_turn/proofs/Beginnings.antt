@@ -1,5 +1,8 @@
 -- Beginnings of a history, and the entries in it that name a number.
-use Rattle.std.proofs.Common.{◌≡◌, ℕ, zero, suc, ◌+◌, ◌<◌, ◌≤◌, ◌==◌, ◌≢◌, Bool, true, false, cond, not, T, List, [], ◌∷◌, ◌++◌, length, get_or, drop, set, All, Contains, count_by, ltb, sym, refl, ap, ◌∙◌, subst, ⊎_elim, append_assoc, append-nil, zero-add, arith, ltb→lt, nltb→le, eq-eqb, ne_eqb}
+use Rattle.std.proofs.Common.{◌≡◌, ℕ, zero, suc, ◌+◌, ◌<◌, ◌≤◌, ◌==◌, ◌≢◌, Bool, true, false, cond}
+use Rattle.std.proofs.Common.{not, T, List, [], ◌∷◌, ◌++◌, length, get_or, drop, set, All, Contains}
+use Rattle.std.proofs.Common.{count_by, ltb, sym, refl, ap, ◌∙◌, subst, ⊎_elim, append_assoc}
+use Rattle.std.proofs.Common.{append-nil, zero-add, arith, ltb→lt, nltb→le, eq-eqb, ne_eqb}
 use Rattle.std.proofs.lemmas.List.Elements.{filter-append}
 use Rattle.std.proofs.lemmas.List.Sums.{sum_by-set, sum_by-append}
 use mathlib.Core.List.{IsPrefix}

@@ -1,5 +1,8 @@
 -- A lock begins, a seat is split off and draws its number, and a seat is joined into another.
-use Rattle.std.proofs.Common.{◌≡◌, ℕ, zero, suc, ◌+◌, ◌<◌, ◌≤◌, ◌≢◌, ◌⊎◌, Bool, true, false, true≢false, cond, List, [], ◌∷◌, ◌++◌, get_or, set, eqb, Option, Some, None, is_some, All, Contains, count_by, MatchBool, sym, refl, ap, ◌∙◌, subst, inl, inr, ⊎_elim, arith, le_refl, eq-eqb, ne_eqb}
+use Rattle.std.proofs.Common.{◌≡◌, ℕ, zero, suc, ◌+◌, ◌<◌, ◌≤◌, ◌≢◌, ◌⊎◌, Bool, true, false}
+use Rattle.std.proofs.Common.{true≢false, cond, List, [], ◌∷◌, ◌++◌, get_or, set, eqb, Option, Some}
+use Rattle.std.proofs.Common.{None, is_some, All, Contains, count_by, MatchBool, sym, refl, ap, ◌∙◌}
+use Rattle.std.proofs.Common.{subst, inl, inr, ⊎_elim, arith, le_refl, eq-eqb, ne_eqb}
 use Rattle.std.proofs.lemmas.List.Elements.{Contains-append_cases}
 use mathlib.Core.Logic.{dite}
 use mathlib.Core.Option.{some, none, some-injective, some-ne-none}
@@ -9,12 +12,17 @@ use prog.Atomic.{either}
 use Rattle.atomic_table.specs.Table.{State, Me, step, keeps, Allows, Splits, Joins, opening}
 use Rattle.atomic_table.proofs.Lists.{at_set, at_snoc, at_longer, set_again, set_else}
 use Rattle.pl_turn.specs.History.{entries_of}
-use Rattle.pl_turn.specs.Rule.{ticket_of, has_ticket, founder, HasTicket, HasNumber, IsDistinct, Fits, Slot, OneHistory}
-use Rattle.pl_turn.specs.Steps.{newcomer, numbered, told_of, joined_away, learned, DrewNumber, Learned}
+use Rattle.pl_turn.specs.Rule.{ticket_of, has_ticket, founder, HasTicket, HasNumber, IsDistinct}
+use Rattle.pl_turn.specs.Rule.{Fits, Slot, OneHistory}
+use Rattle.pl_turn.specs.Steps.{newcomer, numbered, told_of, joined_away, learned, DrewNumber}
+use Rattle.pl_turn.specs.Steps.{Learned}
 use Rattle.pl_turn.specs.declared.view.Stage.TheVariants.{Idle}
 use Rattle.pl_turn.specs.declared.view.View.{View}
-use Rattle.pl_turn.proofs.Beginnings.{prefix-same, prefix-longer, entries-below, only, contains-nothing, set-at, same-at, one_if, count-set, count-snoc}
-use Rattle.pl_turn.proofs.Views.{none_is_none, idle-no_turn, as_true, as_false, at_true, still_fits, slot_kept, moves, stays}
+use Rattle.pl_turn.proofs.Beginnings.{prefix-same, prefix-longer, entries-below, only}
+use Rattle.pl_turn.proofs.Beginnings.{contains-nothing, set-at, same-at, one_if, count-set}
+use Rattle.pl_turn.proofs.Beginnings.{count-snoc}
+use Rattle.pl_turn.proofs.Views.{none_is_none, idle-no_turn, as_true, as_false, at_true, still_fits}
+use Rattle.pl_turn.proofs.Views.{slot_kept, moves, stays}
 
 module _ {T E L : Type 0} (history_of : T → List E) (label_of : T → L) (names : E → ℕ) (l : L) where
   abbrev St : Type 0

@@ -1,5 +1,7 @@
 -- A turn ends.
-use Rattle.std.proofs.Common.{◌≡◌, ℕ, ◌+◌, ◌<◌, ◌≢◌, true, cond, List, [], ◌∷◌, ◌++◌, get_or, set, Option, Some, None, is_some, All, unwrap_or, sym, refl, ap, ◌∙◌, subst, inl, arith, le_refl}
+use Rattle.std.proofs.Common.{◌≡◌, ℕ, ◌+◌, ◌<◌, ◌≢◌, true, cond, List, [], ◌∷◌, ◌++◌, get_or, set}
+use Rattle.std.proofs.Common.{Option, Some, None, is_some, All, unwrap_or, sym, refl, ap, ◌∙◌}
+use Rattle.std.proofs.Common.{subst, inl, arith, le_refl}
 use Rattle.std.proofs.lemmas.List.Elements.{All-append}
 use mathlib.Core.List.{IsPrefix}
 use mathlib.Core.Logic.{dite}
@@ -11,7 +13,8 @@ use Rattle.pl_turn.specs.Rule.{ticket_of, has_ticket, KnowsItsOwn, Slot, OneHist
 use Rattle.pl_turn.specs.Steps.{rested, EndedTurn}
 use Rattle.pl_turn.specs.declared.view.Stage.TheVariants.{Idle, Turn}
 use Rattle.pl_turn.specs.declared.view.View.{View}
-use Rattle.pl_turn.proofs.Beginnings.{prefix-same, prefix-more, entries-other, IsAtMostOne, added, one_if, count-set}
+use Rattle.pl_turn.proofs.Beginnings.{prefix-same, prefix-more, entries-other, IsAtMostOne, added}
+use Rattle.pl_turn.proofs.Beginnings.{one_if, count-set}
 use Rattle.pl_turn.proofs.Views.{same_some, none_is_none, idle-no_turn, as_true, still_fits, moves}
 
 module _ {T E L : Type 0} (history_of : T → List E) (label_of : T → L) (names : E → ℕ)

@@ -1,6 +1,8 @@
 -- What the rule says of the views that a step leaves alone, and of all views where one view
 -- changes.
-use Rattle.std.proofs.Common.{◌≡◌, ℕ, ◌+◌, ◌<◌, ◌≤◌, ◌≢◌, ◌⊎◌, Bool, true, false, true≢false, List, [], ◌∷◌, set, Option, Some, None, All, count_by, MatchBool, unwrap_or, sym, refl, ap, ◌∙◌, subst, inl, inr, ⊎_elim, arith}
+use Rattle.std.proofs.Common.{◌≡◌, ℕ, ◌+◌, ◌<◌, ◌≤◌, ◌≢◌, ◌⊎◌, Bool, true, false, true≢false, List}
+use Rattle.std.proofs.Common.{[], ◌∷◌, set, Option, Some, None, All, count_by, MatchBool, unwrap_or}
+use Rattle.std.proofs.Common.{sym, refl, ap, ◌∙◌, subst, inl, inr, ⊎_elim, arith}
 use mathlib.Core.List.{IsPrefix}
 use mathlib.Core.Option.{some, none}
 use lib.ListN.{get_elem?}
@@ -10,7 +12,8 @@ use Rattle.pl_turn.proofs.Beginnings.{set-at, same-at}
 use mathlib.Core.Logic.{dite}
 use native.Mathlib.Decide.{ℕ_discrete}
 use Rattle.pl_turn.specs.History.{entries_of}
-use Rattle.pl_turn.specs.Rule.{ticket_of, has_ticket, HasTicket, HasNumber, IsDistinct, HoldsTurn, Fits, Slot, OneHistory}
+use Rattle.pl_turn.specs.Rule.{ticket_of, has_ticket, HasTicket, HasNumber, IsDistinct, HoldsTurn}
+use Rattle.pl_turn.specs.Rule.{Fits, Slot, OneHistory}
 use Rattle.pl_turn.specs.Seats.{is_turn, IsSettled}
 use Rattle.pl_turn.specs.declared.view.Stage.{Stage}
 use Rattle.pl_turn.specs.declared.view.Stage.TheVariants.{Idle, Waiting, Turn}

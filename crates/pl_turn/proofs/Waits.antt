@@ -1,5 +1,7 @@
 -- A ticket is drawn, and a turn is waited for.
-use Rattle.std.proofs.Common.{◌≡◌, ℕ, ◌+◌, ◌==◌, true, cond, List, [], ◌∷◌, get_or, set, eqb, Option, Some, None, is_some, MatchBool, sym, refl, ap, ◌∙◌, subst, inl, inr, arith, le_refl, eq-eqb, ne_eqb}
+use Rattle.std.proofs.Common.{◌≡◌, ℕ, ◌+◌, ◌==◌, true, cond, List, [], ◌∷◌, get_or, set, eqb}
+use Rattle.std.proofs.Common.{Option, Some, None, is_some, MatchBool, sym, refl, ap, ◌∙◌, subst}
+use Rattle.std.proofs.Common.{inl, inr, arith, le_refl, eq-eqb, ne_eqb}
 use mathlib.Core.List.{IsPrefix}
 use mathlib.Core.Logic.{dite}
 use mathlib.Core.Option.{some, none}
@@ -13,7 +15,8 @@ use Rattle.pl_turn.specs.Steps.{waiting, having, DrewTicket, GotTurn, AwaitedTur
 use Rattle.pl_turn.specs.declared.view.Stage.TheVariants.{Idle, Waiting, Turn}
 use Rattle.pl_turn.specs.declared.view.View.{View}
 use Rattle.pl_turn.proofs.Beginnings.{prefix-same, set-at, same-at, count-set, one_if}
-use Rattle.pl_turn.proofs.Views.{same_some, none_is_none, idle-no_turn, waiting-no_turn, at_true, as_true, as_false, still_fits, slot_kept, moves, stays}
+use Rattle.pl_turn.proofs.Views.{same_some, none_is_none, idle-no_turn, waiting-no_turn, at_true}
+use Rattle.pl_turn.proofs.Views.{as_true, as_false, still_fits, slot_kept, moves, stays}
 
 module _ {T E L : Type 0} (history_of : T → List E) (label_of : T → L) (names : E → ℕ)
     (count_of : T → ℕ) (l : L) where

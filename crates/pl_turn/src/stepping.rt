@@ -96,7 +96,8 @@ pub(crate) fn draw_number<T: Standing + Drop, R: Wait>(
     unreachable!()
 }
 
-// Yields to other threads, and once it has done so some times, sleeps until another ticket is served.
+// Yields to other threads, and once it has done so some times, sleeps until another ticket is
+// served.
 fn rest<T: Standing + Drop, R: Wait>(rt: &R, lock: &TurnLock<T>, backoff: &Backoff, served: u64) {
     if backoff.is_completed() {
         lock.table

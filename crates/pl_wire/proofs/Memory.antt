@@ -12,9 +12,16 @@ use Rattle.pl_wire.specs.Written.{written, status_line, with_headers}
 use Rattle.serde_json.specs.Written.{compact_text}
 
 -- the data of a refusal
-refusal_data : (rule : List ℕ) → data_of (json.Object (replies.member (codes "rule") (json.Text rule) ∷ [])) ≡ object (member (codes "rule") (string rule) no_members)
+refusal_data :
+    (rule : List ℕ) →
+    data_of (json.Object (replies.member (codes "rule") (json.Text rule) ∷ [])) ≡
+    object (member (codes "rule") (string rule) no_members)
 refusal_data rule = search (rules, the_lemmas)
 
-pub memory_written : written (refusal 507 (codes "memory")) ≡ codes "HTTP/1.1 507 Insufficient Storage\r\nContent-Type: application/json\r\nContent-Length: 17\r\n\r\n{\"rule\":\"memory\"}"
+pub memory_written :
+    written (refusal 507 (codes "memory")) ≡
+    codes "HTTP/1.1 507 Insufficient Storage\r\nContent-Type: application/json\r\n" ++
+    codes "Content-Length: 17\r\n\r\n{\"rule\":\"memory\"}"
 unfolding written serde_json_on_literals digits
-memory_written = ap (λ d. status_line 507 ++ with_headers (codes "application/json") (compact_text d)) (refusal_data (codes "memory"))
+memory_written = ap (λ d. status_line 507 ++ with_headers (codes "application/json")
+    (compact_text d)) (refusal_data (codes "memory"))

@@ -1,10 +1,14 @@
 -- No bytes at all are no message, and may become one.
-use Rattle.std.proofs.Common.{◌≡◌, ℕ, ◌<◌, ◌≤◌, ◌⊎◌, inl, inr, List, [], ◌∷◌, ◌++◌, length, take, refl, sym, ap, ◌∙◌, subst, arith, true, IsUtf8, length-append}
+use Rattle.std.proofs.Common.{◌≡◌, ℕ, ◌<◌, ◌≤◌, ◌⊎◌, inl, inr, List, [], ◌∷◌, ◌++◌, length, take}
+use Rattle.std.proofs.Common.{refl, sym, ap, ◌∙◌, subst, arith, true, IsUtf8, length-append}
 use Rattle.std.proofs.lemmas.List.Elements.{All-cons, All-nil}
 use lib.Utf8.{encode}
-use Rattle.httparse.specs.Grammar.{RequestHead, print_request, ReadsRequest, IsRequestHead, is_token_byte, is_uri_byte, lf, IsField, NeverHasRequest, AllPass}
+use Rattle.httparse.specs.Grammar.{RequestHead, print_request, ReadsRequest, IsRequestHead}
+use Rattle.httparse.specs.Grammar.{is_token_byte, is_uri_byte, lf, IsField, NeverHasRequest}
+use Rattle.httparse.specs.Grammar.{AllPass}
 use Rattle.pl_heads.specs.declared.fault.HttpFault.{HttpFault}
-use Rattle.pl_heads.specs.declared.fault.HttpFault.TheVariants.{HeadBad, HeadLarge, LengthMissing, BodyLarge}
+use Rattle.pl_heads.specs.declared.fault.HttpFault.TheVariants.{HeadBad, HeadLarge, LengthMissing}
+use Rattle.pl_heads.specs.declared.fault.HttpFault.TheVariants.{BodyLarge}
 use Rattle.pl_heads.specs.Heads.{HasHead, IsLargeHead}
 use Rattle.pl_heads.proofs.ManyLines.{few_lines}
 use Rattle.pl_wire.specs.declared.message.Message.{Message}
@@ -12,11 +16,21 @@ use Rattle.pl_wire.specs.Message.{IsMessage, IsBad}
 use Rattle.pl_wire.proofs.Readings.{head_some}
 
 some_head : RequestHead
-some_head = record { blank = []; method = 71 ∷ []; target = 47 ∷ []; minor = 1; line_end = lf; fields = []; last = lf }
+some_head = record {
+  blank = [];
+  method = 71 ∷ [];
+  target = 47 ∷ [];
+  minor = 1;
+  line_end =
+      lf;
+  fields = [];
+  last = lf;
+}
 
 some_token : AllPass is_token_byte (71 ∷ [])
 unfolding is_token_byte
-some_token = All-cons (λ b. is_token_byte b ≡ true) 71 [] refl (All-nil (λ b. is_token_byte b ≡ true))
+some_token = All-cons (λ b. is_token_byte b ≡ true) 71 [] refl
+    (All-nil (λ b. is_token_byte b ≡ true))
 
 slash_text : IsUtf8 (47 ∷ [])
 unfolding encode
@@ -26,7 +40,11 @@ is_some : IsRequestHead some_head
 unfolding some_head
 is_some = record {
   method = (omega arith, some_token);
-  target = (omega arith, All-cons (λ b. is_uri_byte b ≡ true) 47 [] refl (All-nil (λ b. is_uri_byte b ≡ true)));
+  target = (
+    omega arith,
+    All-cons (λ b. is_uri_byte b ≡ true) 47 [] refl
+        (All-nil (λ b. is_uri_byte b ≡ true)),
+  );
   target_text = slash_text;
   minor = omega arith;
   fields = All-nil IsField;

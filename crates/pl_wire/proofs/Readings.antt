@@ -1,8 +1,13 @@
 -- Messages are read in one way.
-use Rattle.std.proofs.Common.{◌≡◌, ℕ, ◌+◌, ◌-◌, ◌<◌, ◌≤◌, ◌⊎◌, inl, inr, List, [], ◌∷◌, ◌++◌, length, take, drop, refl, sym, ap, ◌∙◌, subst, arith, append_assoc, append-nil, Result, Ok, Err, length-append}
-use Rattle.std.proofs.lemmas.List.{take-append-drop, take-append-le, length-take, length-take-le, take_all}
+use Rattle.std.proofs.Common.{◌≡◌, ℕ, ◌+◌, ◌-◌, ◌<◌, ◌≤◌, ◌⊎◌, inl, inr, List, [], ◌∷◌, ◌++◌}
+use Rattle.std.proofs.Common.{length, take, drop, refl, sym, ap, ◌∙◌, subst, arith, append_assoc}
+use Rattle.std.proofs.Common.{append-nil, Result, Ok, Err, length-append}
+use Rattle.std.proofs.lemmas.List.{take-append-drop, take-append-le, length-take, length-take-le}
+use Rattle.std.proofs.lemmas.List.{take_all}
 use Rattle.std.proofs.Math.Seq.{take-append-add, take-append_seam, drop-append_seam}
-use Rattle.httparse.specs.Grammar.{RequestHead, print_request, ReadsRequest, IsRequestHead, EndsInTarget, print_blank, print_version, print_end, print_section}
+use Rattle.httparse.specs.Grammar.{RequestHead, print_request, ReadsRequest, IsRequestHead}
+use Rattle.httparse.specs.Grammar.{EndsInTarget, print_blank, print_version, print_end}
+use Rattle.httparse.specs.Grammar.{print_section}
 use Rattle.httparse.proofs.GrammarLemmas.{ReadsRequest-append, request_unique, print_request-append}
 use Rattle.pl_heads.specs.declared.fault.HttpFault.{HttpFault}
 use Rattle.pl_heads.specs.declared.front.Head.{Head}
@@ -13,14 +18,18 @@ use Rattle.pl_heads.proofs.FrontLemmas.{fault-append, head-append, one, two_cuts
 use Rattle.pl_wire.specs.declared.message.Message.{Message}
 use Rattle.pl_wire.specs.declared.message.Next.{Next}
 use Rattle.pl_wire.specs.declared.message.Next.TheVariants.{Partial, Whole, Bad}
-use Rattle.pl_wire.specs.Message.{told, message_of, IsFramed, IsMessage, AwaitsContent, IsPartial, IsBad, StandsFirst, WaitsFor, OneReading, OneAnswer, MessagesStay, IsNotWhole}
+use Rattle.pl_wire.specs.Message.{told, message_of, IsFramed, IsMessage, AwaitsContent, IsPartial}
+use Rattle.pl_wire.specs.Message.{IsBad, StandsFirst, WaitsFor, OneReading, OneAnswer, MessagesStay}
+use Rattle.pl_wire.specs.Message.{IsNotWhole}
 
 -- ---- a whole message
 
 pub head_some : (h : RequestHead) → IsRequestHead h → 0 < length (print_request h)
-head_some h is = some (print_blank h.blank) h.method _ (sym (append-nil (print_request h)) ∙ print_request-append h [])
+head_some h is = some (print_blank h.blank) h.method _ (sym (append-nil (print_request h)) ∙
+    print_request-append h [])
   where
-    some : (a m rest : List ℕ) → print_request h ≡ a ++ (m ++ 32 ∷ rest) → 0 < length (print_request h)
+    some :
+        (a m rest : List ℕ) → print_request h ≡ a ++ (m ++ 32 ∷ rest) → 0 < length (print_request h)
     some a m rest same =
         omega (arith, ap length same, length-append a (m ++ 32 ∷ rest), length-append m (32 ∷ rest))
 
@@ -31,23 +40,29 @@ same_told front content h of =
     ∙ ap (λ (m : List ℕ). told (token_of (fields_of h)) m front.target.now content) of.method
     ∙ ap (λ (t : List ℕ). told (token_of (fields_of h)) h.method t content) of.target
 
-pub whole_message : (bytes : List ℕ) (front : Head) (content : List ℕ) (message : Message) (h : RequestHead)
-    → HasHead bytes h → IsReadOf front h → content ≡ take front.content (drop front.len bytes) → length content ≡ front.content
+pub whole_message : (bytes : List ℕ) (front : Head) (content : List ℕ) (message : Message)
+    (h : RequestHead)
+    → HasHead bytes h → IsReadOf front h → content ≡ take front.content (drop front.len bytes) →
+    length content ≡ front.content
     → message ≡ told front.token.now front.method.now front.target.now content
     → StandsFirst bytes (Whole (front.len + front.content) message)
 whole_message bytes front content message h has of cut len said =
     let rest = has.rest in
     let bytes_are : bytes ≡ print_request h ++ rest = has.reads.1 in
     let behind : drop front.len bytes ≡ rest =
-    ap (λ (n : ℕ). drop n bytes) of.len ∙ ap (drop (length (print_request h))) bytes_are ∙ drop-append_seam (print_request h) rest in
+    ap (λ (n : ℕ). drop n bytes) of.len ∙ ap (drop (length (print_request h))) bytes_are ∙
+    drop-append_seam (print_request h) rest in
     let content_is : content ≡ take front.content rest = cut ∙ ap (take front.content) behind in
     let some = head_some h has.reads.0 in
-    let size : length bytes ≡ length (print_request h) + length rest = ap length bytes_are ∙ length-append (print_request h) rest in
+    let size : length bytes ≡ length (print_request h) + length rest = ap length bytes_are ∙
+    length-append (print_request h) rest in
     let enough : front.content ≤ length rest =
     omega (arith, ap length content_is, length-take front.content rest, len) in
     let front_is : take (front.len + front.content) bytes ≡ print_request h ++ content =
-    ap (λ (n : ℕ). take (n + front.content) bytes) of.len ∙ ap (take (length (print_request h) + front.content)) bytes_are
-    ∙ take-append-add (print_request h) rest front.content ∙ ap (λ (c : List ℕ). print_request h ++ c) (sym content_is) in (
+    ap (λ (n : ℕ). take (n + front.content) bytes) of.len ∙
+    ap (take (length (print_request h) + front.content)) bytes_are
+    ∙ take-append-add (print_request h) rest front.content ∙ ap (λ (c : List ℕ). print_request h ++
+    c) (sym content_is) in (
       omega (arith, of.len),
       omega (arith, of.len),
       (
@@ -89,47 +104,75 @@ one_reading a b x y m n (h, c, f, m_is) (k, d, g, n_is) same =
     let lengths : ◌≡◌ {A = Result ℕ HttpFault} (Ok (length c)) (Ok (length d)) =
     sym f.framing ∙ ap framed heads.0 ∙ g.framing in
     let content : c ≡ d = same_front c d x y (ok_same lengths) heads.1 in (
-      f.reads.1 ∙ ap (λ (h : RequestHead). print_request h ++ c) heads.0 ∙ ap (λ (t : List ℕ). print_request k ++ t) content
+      f.reads.1 ∙ ap (λ (h : RequestHead). print_request h ++ c) heads.0 ∙
+          ap (λ (t : List ℕ). print_request k ++ t) content
           ∙ sym g.reads.1,
-      m_is ∙ ap (λ (h : RequestHead). message_of h c) heads.0 ∙ ap (message_of k) content ∙ sym n_is,
+      m_is ∙ ap (λ (h : RequestHead). message_of h c) heads.0 ∙ ap (message_of k) content ∙
+          sym n_is,
     )
 
 -- ---- one answer
 
-whole_head : (bytes : List ℕ) (taken : ℕ) (message : Message) → StandsFirst bytes (Whole taken message)
-    → (h : RequestHead) × (len : ℕ) × HasHead bytes h × (framed h ≡ Ok len) × (length (print_request h) + len ≤ length bytes)
+whole_head :
+    (bytes : List ℕ) (taken : ℕ) (message : Message) → StandsFirst bytes (Whole taken message)
+    → (h : RequestHead) × (len : ℕ) × HasHead bytes h × (framed h ≡ Ok len) ×
+    (length (print_request h) + len ≤ length bytes)
 whole_head bytes taken message (some, within, (h, content, f, message_is)) =
     let whole : bytes ≡ print_request h ++ (content ++ drop taken bytes) =
     sym (take-append-drop taken bytes) ∙ ap (λ (t : List ℕ). t ++ drop taken bytes) f.reads.1
     ∙ append_assoc (print_request h) content (drop taken bytes) in (
       h,
       length content,
-      record { rest = content ++ drop taken bytes; reads = (f.reads.0, whole); short = f.short; few = f.few },
+      record {
+        rest = content ++ drop taken bytes;
+        reads = (f.reads.0, whole);
+        short =
+            f.short;
+        few = f.few;
+      },
       f.framing,
-      omega (arith, ap length whole, length-append (print_request h) (content ++ drop taken bytes), length-append content (drop taken bytes)),
+      omega (
+        arith,
+        ap length whole,
+        length-append (print_request h) (content ++ drop taken bytes),
+        length-append content (drop taken bytes),
+      ),
     )
 
-no_fault : (bytes : List ℕ) (h : RequestHead) (len : ℕ) (fault : HttpFault) → HasHead bytes h → framed h ≡ Ok len
+no_fault :
+    (bytes : List ℕ) (h : RequestHead) (len : ℕ) (fault : HttpFault) → HasHead bytes h →
+    framed h ≡ Ok len
     → IsBad bytes fault → ⊥
-no_fault bytes h len fault has framing bad = ok_not_err (sym framing ∙ one.of_head bytes h fault has bad)
+no_fault bytes h len fault has framing bad =
+    ok_not_err (sym framing ∙ one.of_head bytes h fault has bad)
 
-not_both : (bytes : List ℕ) (taken : ℕ) (message : Message) → StandsFirst bytes (Whole taken message) → IsPartial bytes → ⊥
+not_both :
+    (bytes : List ℕ) (taken : ℕ) (message : Message) → StandsFirst bytes (Whole taken message) →
+    IsPartial bytes → ⊥
 not_both bytes taken message whole (inl part) =
     let w = whole_head bytes taken message whole in one.no_head bytes w.0 w.2 part
 not_both bytes taken message whole (inr (k, len, waits)) =
     let w = whole_head bytes taken message whole in
     let heads : w.0 ≡ k = one.one_head bytes w.0 k w.2 waits.has in
-    let lengths : ◌≡◌ {A = Result ℕ HttpFault} (Ok w.1) (Ok len) = sym w.3 ∙ ap framed heads ∙ waits.framing in
+    let lengths : ◌≡◌ {A = Result ℕ HttpFault} (Ok w.1) (Ok len) = sym w.3 ∙ ap framed heads ∙
+    waits.framing in
     let same : w.1 ≡ len = ok_same lengths in
-    let size : length (print_request w.0) ≡ length (print_request k) = ap (λ (h : RequestHead). length (print_request h)) heads in
+    let size : length (print_request w.0) ≡ length (print_request k) =
+    ap (λ (h : RequestHead). length (print_request h)) heads in
     omega (arith, w.4, waits.missing, same, size)
 
-part_fault : (bytes : List ℕ) (fault : HttpFault) → IsPartial bytes → IsBad bytes fault → EndsInTarget (take below_limit bytes)
+part_fault :
+    (bytes : List ℕ) (fault : HttpFault) → IsPartial bytes → IsBad bytes fault →
+    EndsInTarget (take below_limit bytes)
 part_fault bytes fault (inl part) bad =
-    subst EndsInTarget (sym (take_all below_limit bytes part.short)) (one.later bytes fault part bad).1
-part_fault bytes fault (inr (h, len, waits)) bad = absurd (no_fault bytes h len fault waits.has waits.framing bad)
+    subst EndsInTarget (sym (take_all below_limit bytes part.short))
+    (one.later bytes fault part bad).1
+part_fault bytes fault (inr (h, len, waits)) bad =
+    absurd (no_fault bytes h len fault waits.has waits.framing bad)
 
-one_whole : (bytes : List ℕ) (t u : ℕ) (m n : Message) → StandsFirst bytes (Whole t m) → StandsFirst bytes (Whole u n)
+one_whole :
+    (bytes : List ℕ) (t u : ℕ) (m n : Message) → StandsFirst bytes (Whole t m) →
+    StandsFirst bytes (Whole u n)
     → Whole t m ≡ Whole u n
 one_whole bytes t u m n (some, within, is) (more, also, other) =
     let same = one_reading (take t bytes) (take u bytes) (drop t bytes) (drop u bytes) m n is other
@@ -164,7 +207,8 @@ stay = record {
   wholes = λ bytes more taken message whole. (
     whole.0,
     omega (arith, length-append bytes more, whole.1),
-    subst (λ (t : List ℕ). IsMessage t message) (sym (take-append-le taken bytes more whole.1)) whole.2,
+    subst (λ (t : List ℕ). IsMessage t message) (sym (take-append-le taken bytes more whole.1))
+        whole.2,
   );
   faults = fault-append;
 }
@@ -174,22 +218,37 @@ stay = record {
 pub message_stands : (front more : List ℕ) (message : Message) → IsMessage front message
     → StandsFirst (front ++ more) (Whole (length front) message)
 message_stands front more message (h, content, f, message_is) = (
-  omega (arith, head_some h f.reads.0, ap length f.reads.1, length-append (print_request h) content),
+  omega (
+    arith,
+    head_some h f.reads.0,
+    ap length f.reads.1,
+    length-append (print_request h)
+        content,
+  ),
   omega (arith, length-append front more),
-  subst (λ (t : List ℕ). IsMessage t message) (sym (take-append_seam front more)) (h, content, f, message_is),
+  subst (λ (t : List ℕ). IsMessage t message) (sym (take-append_seam front more)) (
+    h,
+    content,
+    f,
+    message_is,
+  ),
 )
 
 front_stands : (rest : List ℕ) (len : ℕ) (message : Message) → IsMessage (take len rest) message
     → StandsFirst rest (Whole (length (take len rest)) message)
 front_stands rest len message is =
-    subst (λ (t : List ℕ). StandsFirst t (Whole (length (take len rest)) message)) (take-append-drop len rest)
+    subst (λ (t : List ℕ). StandsFirst t (Whole (length (take len rest)) message))
+    (take-append-drop len rest)
     (message_stands (take len rest) (drop len rest) message is)
 
-pub partial_none : (rest : List ℕ) → IsPartial rest → (len : ℕ) (message : Message) → IsMessage (take len rest) message → ⊥
+pub partial_none :
+    (rest : List ℕ) → IsPartial rest → (len : ℕ) (message : Message) →
+    IsMessage (take len rest) message → ⊥
 partial_none rest part len message is =
     not_both rest (length (take len rest)) message (front_stands rest len message is) part
 
-pub bad_none : (rest : List ℕ) (fault : HttpFault) → IsBad rest fault → (len : ℕ) (message : Message)
+pub bad_none :
+    (rest : List ℕ) (fault : HttpFault) → IsBad rest fault → (len : ℕ) (message : Message)
     → IsMessage (take len rest) message → ⊥
 bad_none rest fault bad len message is =
     let w = whole_head rest (length (take len rest)) message (front_stands rest len message is) in
@@ -198,7 +257,9 @@ bad_none rest fault bad len message is =
 -- ---- what is waited for
 
 -- a whole head's content
-pub waits_content : (bytes : List ℕ) (front : Head) (h : RequestHead) (wanted : ℕ) → HasHead bytes h → IsReadOf front h
+pub waits_content :
+    (bytes : List ℕ) (front : Head) (h : RequestHead) (wanted : ℕ) → HasHead bytes h →
+    IsReadOf front h
     → wanted ≤ front.len + front.content → WaitsFor wanted bytes
 waits_content bytes front h wanted has of least more short = inr (
   h,

@@ -1,6 +1,7 @@
 -- The JSON value (RFC 8259) that a reply's body is, as `serde_json` sees it.
 use Rattle.std.specs.Prelude.{ℕ, List, [], ◌∷◌}
-use Rattle.serde_json.specs.Data.{Data, null, boolean, number, unsigned, string, array, object, Members, no_members, put}
+use Rattle.serde_json.specs.Data.{Data, null, boolean, number, unsigned, string, array, object}
+use Rattle.serde_json.specs.Data.{Members, no_members, put}
 use Rattle.serde_json.specs.View.{items_of}
 use Rattle.pl_core.specs.declared.reply.Json.{Json, fold-Json}
 use Rattle.pl_core.specs.declared.reply.Json.TheOpen.{Json-F, JsonMember-F}
@@ -10,7 +11,8 @@ use Rattle.pl_core.specs.declared.reply.JsonMember.{JsonMember, fold-JsonMember}
 abbrev pub Named : Type 0
 Named = List ℕ × Data
 
--- the members put in, one after the other: they stand in byte order of their names, and of one name the last counts
+-- the members put in, one after the other: they stand in byte order of their names, and of one name
+-- the last counts
 abbrev pub with_members : Members → List Named → Members
 with_members members [] = members
 with_members members (named ∷ more) = with_members (put named.0 named.1 members) more

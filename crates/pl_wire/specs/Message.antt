@@ -1,5 +1,6 @@
 -- The messages of the service (RFC 9112, sections 2 to 6): a head and its content.
-use Rattle.std.specs.Prelude.{◌≡◌, ℕ, ◌+◌, ◌≤◌, ◌<◌, ◌⊎◌, List, [], ◌∷◌, ◌++◌, length, take, Result, Ok, Err}
+use Rattle.std.specs.Prelude.{◌≡◌, ℕ, ◌+◌, ◌≤◌, ◌<◌, ◌⊎◌, List, [], ◌∷◌, ◌++◌, length, take, Result}
+use Rattle.std.specs.Prelude.{Ok, Err}
 use Rattle.sha2.specs.Sha256.{sha256}
 use Rattle.httparse.specs.Grammar.{RequestHead, print_request, ReadsRequest, EndsInTarget}
 use Rattle.pl_base.specs.declared.digest.Digest.{Digest}
@@ -15,7 +16,8 @@ use Rattle.pl_routes.specs.declared.place.RouteFault.{RouteFault}
 use Rattle.pl_routes.specs.declared.place.RouteFault.TheVariants as fault
 use Rattle.pl_routes.specs.Routes.{route_in, table}
 use Rattle.pl_wire.specs.declared.message.RequestFault.{RequestFault}
-use Rattle.pl_wire.specs.declared.message.RequestFault.TheVariants.{RouteUnknown, MethodUnknown, BodyBad}
+use Rattle.pl_wire.specs.declared.message.RequestFault.TheVariants.{RouteUnknown, MethodUnknown}
+use Rattle.pl_wire.specs.declared.message.RequestFault.TheVariants.{BodyBad}
 use Rattle.pl_wire.specs.declared.message.Message.{Message}
 use Rattle.pl_wire.specs.declared.message.Message.TheVariants.{Ask, Refused}
 use Rattle.pl_wire.specs.declared.message.Next.{Next}
@@ -70,11 +72,13 @@ pub record AwaitsContent (bytes : List ℕ) (head : RequestHead) (len : ℕ) : T
 
 -- the beginning of a head, or a head whose content isn't whole
 abbrev pub IsPartial : List ℕ → Type 0
-IsPartial bytes = IsPartialHead bytes ⊎ ((head : RequestHead) × (len : ℕ) × AwaitsContent bytes head len)
+IsPartial bytes = IsPartialHead bytes ⊎ ((head : RequestHead) × (len : ℕ) ×
+    AwaitsContent bytes head len)
 
 -- bytes that begin as these begin a message, while they are fewer than so many
 abbrev pub WaitsFor : ℕ → List ℕ → Type 0
-WaitsFor wanted bytes = (more : List ℕ) → length (bytes ++ more) < wanted → IsPartial (bytes ++ more)
+WaitsFor wanted bytes = (more : List ℕ) → length (bytes ++ more) < wanted →
+    IsPartial (bytes ++ more)
 
 -- neither: a fault after which the link ends
 abbrev pub IsBad : List ℕ → HttpFault → Type 0
@@ -89,7 +93,8 @@ StandsFirst bytes (Bad fault) = IsBad bytes fault
 
 -- no message is a proper front of another, and a message's bytes have one reading
 abbrev pub OneReading : Type 0
-OneReading = (a b x y : List ℕ) (m n : Message) → IsMessage a m → IsMessage b n → a ++ x ≡ b ++ y → (a ≡ b) × (m ≡ n)
+OneReading = (a b x y : List ℕ) (m n : Message) → IsMessage a m → IsMessage b n → a ++ x ≡ b ++ y →
+    (a ≡ b) × (m ≡ n)
 
 abbrev pub IsNotWhole : Next → Type 0
 IsNotWhole (Whole taken message) = ⊥
@@ -99,11 +104,14 @@ IsNotWhole (Bad fault) = Unit {0}
 -- Of the answers to bytes one is right, but while they end inside a target: that it isn't UTF-8 may
 -- be told later, and a fault is told in its place where the limit comes first.
 abbrev pub OneAnswer : Type 0
-OneAnswer = (bytes : List ℕ) (first second : Next) → StandsFirst bytes first → StandsFirst bytes second
-    → (first ≡ second) ⊎ (EndsInTarget (take below_limit bytes) × IsNotWhole first × IsNotWhole second)
+OneAnswer = (bytes : List ℕ) (first second : Next) → StandsFirst bytes first →
+    StandsFirst bytes second
+    → (first ≡ second) ⊎ (EndsInTarget (take below_limit bytes) × IsNotWhole first ×
+    IsNotWhole second)
 
 -- a message at the front stays when more bytes come, and so does a fault
 pub record MessagesStay : Type 0 where
   pub wholes : (bytes more : List ℕ) (taken : ℕ) (message : Message)
       → StandsFirst bytes (Whole taken message) → StandsFirst (bytes ++ more) (Whole taken message)
-  pub faults : (bytes more : List ℕ) (fault : HttpFault) → IsBad bytes fault → IsBad (bytes ++ more) fault
+  pub faults :
+      (bytes more : List ℕ) (fault : HttpFault) → IsBad bytes fault → IsBad (bytes ++ more) fault

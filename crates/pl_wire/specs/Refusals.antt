@@ -3,9 +3,11 @@ use Rattle.std.specs.Prelude.{codes}
 use Rattle.pl_core.specs.declared.reply.Reply.{Reply}
 use Rattle.pl_core.specs.Replies.{refusal}
 use Rattle.pl_heads.specs.declared.fault.HttpFault.{HttpFault}
-use Rattle.pl_heads.specs.declared.fault.HttpFault.TheVariants.{HeadBad, HeadLarge, LengthMissing, BodyLarge}
+use Rattle.pl_heads.specs.declared.fault.HttpFault.TheVariants.{HeadBad, HeadLarge, LengthMissing}
+use Rattle.pl_heads.specs.declared.fault.HttpFault.TheVariants.{BodyLarge}
 use Rattle.pl_wire.specs.declared.message.RequestFault.{RequestFault}
-use Rattle.pl_wire.specs.declared.message.RequestFault.TheVariants.{RouteUnknown, MethodUnknown, BodyBad}
+use Rattle.pl_wire.specs.declared.message.RequestFault.TheVariants.{RouteUnknown, MethodUnknown}
+use Rattle.pl_wire.specs.declared.message.RequestFault.TheVariants.{BodyBad}
 
 -- to bytes that are no message
 abbrev pub reply_to_fault : HttpFault → Reply

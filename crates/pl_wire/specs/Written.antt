@@ -45,7 +45,8 @@ with_headers kind content = kind_line kind ++ length_line (length content) ++ cr
 -- what stands behind the status line
 abbrev pub written_body : Body → List ℕ
 written_body Empty = crlf
-written_body (body.Json value) = with_headers (codes "application/json") (compact_text (data_of value))
+written_body (body.Json value) = with_headers (codes "application/json")
+    (compact_text (data_of value))
 written_body (Raw bytes) = with_headers (codes "text/plain") bytes
 
 -- a reply as it is sent

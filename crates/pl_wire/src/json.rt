@@ -1,7 +1,8 @@
 ghost use Rattle.std.specs.Prelude.{◌≡◌, IfOk, false, map};
 ghost use Rattle.serde_json.specs.Data.{no_members};
 ghost use Rattle.serde_json.specs.View.{items_view, members_view, view};
-ghost use Rattle.serde_json.specs.Written.{compact_text, has_float, items_have_float, members_have_float};
+ghost use Rattle.serde_json.specs.Written.{compact_text, has_float, items_have_float};
+ghost use Rattle.serde_json.specs.Written.{members_have_float};
 ghost use Rattle.pl_wire.specs.Data.{data_of, named_of, with_members};
 
 use pl_base::{List, Memory};
@@ -38,8 +39,10 @@ fn items_of(alloc: Global, items: &List<Json>) -> Result<Vec<Value>, Memory>
 
 #[cycle(valued)]
 fn members_of(alloc: Global, members: &List<JsonMember>) -> Result<Map<String, Value>, Memory>
-    ensures same { IfOk result (λ object. members_view object.entries ≡ with_members no_members (map named_of members.now)) }
-    ensures no_float { IfOk result (λ object. members_have_float (members_view object.entries) ≡ false) }
+    ensures same { IfOk result (λ object. members_view object.entries ≡
+        with_members no_members (map named_of members.now)) }
+    ensures no_float { IfOk result (λ object. members_have_float (members_view object.entries) ≡
+        false) }
 {
     let mut object = Map::new(alloc);
     for member in members.as_slice() {

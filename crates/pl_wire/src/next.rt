@@ -3,7 +3,8 @@ ghost use Rattle.sha2.specs.Sha256.{sha256};
 ghost use Rattle.pl_heads.specs.Fronts.{StandsAtFront};
 ghost use Rattle.pl_heads.specs.declared.front.Front.TheVariants as front;
 ghost use Rattle.pl_routes.specs.Routes.{route_in, table};
-ghost use Rattle.pl_wire.specs.Message.{OneAnswer, OneReading, MessagesStay, StandsFirst, asked, message_by, told, with_content};
+ghost use Rattle.pl_wire.specs.Message.{OneAnswer, OneReading, MessagesStay, StandsFirst, asked};
+ghost use Rattle.pl_wire.specs.Message.{message_by, told, with_content};
 
 use crate::message::{Message, Next, RequestFault};
 use pl_base::{Digest, List, Memory};

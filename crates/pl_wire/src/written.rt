@@ -2,7 +2,8 @@ ghost use Rattle.std.specs.Prelude.{◌≡◌, ◌++◌, codes, string_bytes, If
 ghost use Rattle.pl_core.specs.Replies.{refusal};
 ghost use Rattle.pl_wire.specs.Message.{crlf};
 ghost use Rattle.pl_wire.specs.Refusals.{reply_to_fault, reply_to_refused};
-ghost use Rattle.pl_wire.specs.Written.{kind_line, length_line, phrase, status_line, with_headers, written};
+ghost use Rattle.pl_wire.specs.Written.{kind_line, length_line, phrase, status_line, with_headers};
+ghost use Rattle.pl_wire.specs.Written.{written};
 
 use crate::json::json_text;
 use crate::message::RequestFault;

@@ -1,4 +1,5 @@
-ghost use Rattle.std.specs.Prelude.{◌≡◌, ◌<◌, ◌≤◌, Some, [], IsTrue, IfOk, OnOk, OnErr, IsErr, length, max, take};
+ghost use Rattle.std.specs.Prelude.{◌≡◌, ◌<◌, ◌≤◌, Some, [], IsTrue, IfOk, OnOk, OnErr, IsErr};
+ghost use Rattle.std.specs.Prelude.{length, max, take};
 ghost use Rattle.pl_base.specs.Counts.{one_more};
 ghost use Rattle.pl_base.specs.Streams.{with_end, is_listed};
 ghost use Rattle.std.specs.Vec.{vec_capacity};
@@ -62,7 +63,8 @@ impl Sink for MemSink {
     fn write(&mut self, bytes: &[u8]) -> Result<usize, Failed>
         ensures within { IfOk result (λ count. count ≤ length bytes.now) }
         ensures some { 0 < length bytes.now → IfOk result (λ count. 0 < count) }
-        ensures bytes { IfOk result (λ count. Some self.new.bytes.items ≡ with_end (Some self.old.bytes.items) (take count bytes.now)) }
+        ensures bytes { IfOk result (λ count. Some self.new.bytes.items ≡
+            with_end (Some self.old.bytes.items) (take count bytes.now)) }
         ensures quiet { OnOk result (self.new.faults ≡ self.old.faults) }
         ensures failed { OnErr result (self.new.faults ≡ one_more self.old.faults) }
         ensures kept { OnErr result (Some self.new.bytes.items ≡ Some self.old.bytes.items) }

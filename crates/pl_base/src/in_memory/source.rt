@@ -1,4 +1,5 @@
-ghost use Rattle.std.specs.Prelude.{◌≡◌, ◌<◌, ◌≤◌, ◌↔◌, [], Some, drop, take, length, max, false, IsTrue, IfOk, OnOk, OnErr, IsErr, IfSome};
+ghost use Rattle.std.specs.Prelude.{◌≡◌, ◌<◌, ◌≤◌, ◌↔◌, [], Some, drop, take, length, max, false};
+ghost use Rattle.std.specs.Prelude.{IsTrue, IfOk, OnOk, OnErr, IsErr, IfSome};
 ghost use Rattle.pl_base.specs.Counts.{one_more};
 ghost use Rattle.pl_base.specs.Streams.{with_front, is_listed};
 
@@ -21,8 +22,8 @@ pub struct MemSource {
 }
 
 impl MemSource {
-    /// These bytes, of which a read gives at most `piece` (0 counts as 1). The calls of `read` whose
-    /// numbers are listed, counted from 1, fail.
+    /// These bytes, of which a read gives at most `piece` (0 counts as 1). The calls of `read`
+    /// whose numbers are listed, counted from 1, fail.
     pub fn new(bytes: Bytes, piece: usize, failing: List<u64>) -> MemSource
         ensures bytes { result.bytes ≡ bytes }
         ensures start { result.at ≡ 0 }
@@ -53,12 +54,16 @@ impl Source for MemSource {
 
     fn read(&mut self, into: &mut [u8]) -> Result<usize, Failed>
         ensures within { IfOk result (λ count. count ≤ length into.old) }
-        ensures bytes { IfOk result (λ count. Some (drop self.old.at self.old.bytes) ≡ with_front (take count into.new) (Some (drop self.new.at self.new.bytes))) }
-        ensures end { 0 < length into.old → IfOk result (λ count. count ≡ 0 → IsTrue self.new.ended × IfSome (Some (drop self.new.at self.new.bytes)) (λ rest. rest ≡ [])) }
+        ensures bytes { IfOk result (λ count. Some (drop self.old.at self.old.bytes) ≡
+            with_front (take count into.new) (Some (drop self.new.at self.new.bytes))) }
+        ensures end { 0 < length into.old →
+            IfOk result (λ count. count ≡ 0 → IsTrue self.new.ended ×
+            IfSome (Some (drop self.new.at self.new.bytes)) (λ rest. rest ≡ [])) }
         ensures quiet { OnOk result (self.new.faults ≡ self.old.faults) }
         ensures failed { OnErr result (self.new.faults ≡ one_more self.old.faults) }
         ensures running { IfOk result (λ count. 0 < count → self.new.ended ≡ self.old.ended) }
-        ensures kept { OnErr result (Some (drop self.new.at self.new.bytes) ≡ Some (drop self.old.at self.old.bytes)) }
+        ensures kept { OnErr result (Some (drop self.new.at self.new.bytes) ≡
+            Some (drop self.old.at self.old.bytes)) }
         ensures unended { OnErr result (self.new.ended ≡ self.old.ended) }
         ensures counted { self.new.calls ≡ one_more self.old.calls }
         ensures listed { self.new.failing ≡ self.old.failing }

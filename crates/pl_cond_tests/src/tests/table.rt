@@ -104,8 +104,8 @@ fn first_wrong_in(alloc: Global, pipeline: &str, block: &str) -> Result<Text, Me
 }
 
 /// The first line of a table that doesn't hold; else the empty text. A table has blocks with empty
-/// lines between. The first line of a block, `PLACE | STAGE | STAGE ..`, says which condition is asked
-/// and how the run stands; each other one is `ANSWER CONDITION`.
+/// lines between. The first line of a block, `PLACE | STAGE | STAGE ..`, says which condition is
+/// asked and how the run stands; each other one is `ANSWER CONDITION`.
 pub fn first_wrong(alloc: Global, pipeline: &str, table: &str) -> Result<Text, Memory> {
     for block in table.split("\n\n") {
         let wrong = first_wrong_in(alloc, pipeline, block)?;

@@ -33,8 +33,8 @@ False containsValue(variables, 'other')
 True startsWith(variables['Build.SourceBranch'], 'refs/heads/')
 True eq(join(',', variables.*), 'blue,3,,Succeeded,Succeeded blue,,none,,here,Manual,refs/heads/main,main')";
 
-/// Variables of the pipeline and of a stage, a later one in the place of an earlier one, `$[ ]` over
-/// those before it, and those of the run, which win.
+/// Variables of the pipeline and of a stage, a later one in the place of an earlier one, `$[ ]`
+/// over those before it, and those of the run, which win.
 #[test]
 fn a_stage_sees_its_variables(rt: HostRuntime) -> Result<(), Fail> {
     let wrong = first_wrong(rt.alloc(), STAGES, VARIABLES)?;

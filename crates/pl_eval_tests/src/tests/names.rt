@@ -2,7 +2,8 @@ ghost use Rattle.std.specs.Prelude.{◌≡◌, List as list, ℕ, Bool, map, IfO
 ghost use Rattle.std.specs.List.{list_all, list_any};
 ghost use Rattle.std.specs.FinMap as finite;
 ghost use Rattle.pl_base.specs.declared.outcome.Outcome.{Outcome as Ended};
-ghost use Rattle.pl_eval.specs.Statuses.{went_well, went_wrong, was_run, result_named, results_named};
+ghost use Rattle.pl_eval.specs.Statuses.{went_well, went_wrong, was_run, result_named};
+ghost use Rattle.pl_eval.specs.Statuses.{results_named};
 ghost use Rattle.pl_base.specs.Folding.{folded};
 
 use pl_base::{List, MarkedPair, Memory, Outcome, Text, Value};
@@ -105,7 +106,9 @@ fn all_well(all: &List<Option<Outcome>>) -> bool
 
 #[tactic(auto, using(crate::proofs::InMemory::all_named_no, crate::proofs::InMemory::all_named_yes))]
 fn all_named_well(named: &List<Named>, names: &List<Text>) -> bool
-    ensures { result ≡ list_all went_well (results_named (map (λ pair. (pair.name, pair.outcome)) named.now) names.now) }
+    ensures { result ≡
+        list_all went_well (results_named (map (λ pair. (pair.name, pair.outcome)) named.now)
+        names.now) }
 {
     for name in names.as_slice() {
         if !is_well(result_of(named, name)) {
@@ -129,7 +132,9 @@ fn one_wrong(all: &List<Option<Outcome>>) -> bool
 
 #[tactic(auto, using(crate::proofs::InMemory::any_named_yes, crate::proofs::InMemory::any_named_no))]
 fn one_named_wrong(named: &List<Named>, names: &List<Text>) -> bool
-    ensures { result ≡ list_any went_wrong (results_named (map (λ pair. (pair.name, pair.outcome)) named.now) names.now) }
+    ensures { result ≡
+        list_any went_wrong (results_named (map (λ pair. (pair.name, pair.outcome)) named.now)
+        names.now) }
 {
     for name in names.as_slice() {
         if is_wrong(result_of(named, name)) {
@@ -141,7 +146,9 @@ fn one_named_wrong(named: &List<Named>, names: &List<Text>) -> bool
 
 #[tactic(auto, using(crate::proofs::InMemory::any_named_yes, crate::proofs::InMemory::any_named_no))]
 fn one_named_run(named: &List<Named>, names: &List<Text>) -> bool
-    ensures { result ≡ list_any was_run (results_named (map (λ pair. (pair.name, pair.outcome)) named.now) names.now) }
+    ensures { result ≡
+        list_any was_run (results_named (map (λ pair. (pair.name, pair.outcome)) named.now)
+        names.now) }
 {
     for name in names.as_slice() {
         if is_run(result_of(named, name)) {

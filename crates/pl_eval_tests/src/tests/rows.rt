@@ -13,7 +13,8 @@ eq('', variables.none) => True@made
 format('{{{0}}}', 'a') => '{a}'@made
 1.5 => unparsed";
 
-/// Comparisons convert the right value to the left one's type, and texts have their quotes and braces.
+/// Comparisons convert the right value to the left one's type, and texts have their quotes and
+/// braces.
 #[test]
 fn compares_by_the_left_value_and_fills_patterns(rt: HostRuntime) -> Result<(), Fail> {
     let alloc = rt.alloc();
@@ -51,7 +52,8 @@ format/0 => ''@made
 always/1 => True@made
 canceled/1 => False@made";
 
-/// Trees that the grammar never gives: a missing argument counts as Null, and one too many isn't looked at.
+/// Trees that the grammar never gives: a missing argument counts as Null, and one too many isn't
+/// looked at.
 #[test]
 fn counts_a_missing_argument_as_null(rt: HostRuntime) -> Result<(), Fail> {
     let alloc = rt.alloc();

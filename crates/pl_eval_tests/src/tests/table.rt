@@ -45,8 +45,8 @@ fn call_of(alloc: Global, function: &str, count: &str) -> Result<Option<Expr>, M
     }
 }
 
-/// The expression that a line of a table begins with, as a condition; or the call `FUNCTION/COUNT`, whose count the
-/// grammar may not give.
+/// The expression that a line of a table begins with, as a condition; or the call `FUNCTION/COUNT`,
+/// whose count the grammar may not give.
 fn expression_of(alloc: Global, text: &str) -> Result<Option<Expr>, Memory> {
     if let Some((function, count)) = text.split_once('/') {
         return call_of(alloc, function, count);
@@ -100,8 +100,8 @@ fn first_wrong_over<'a>(
     Ok("")
 }
 
-/// The first line `EXPRESSION => EXPECTED` of a table whose expression isn't shown as is expected over the world in that
-/// state, else the empty text.
+/// The first line `EXPRESSION => EXPECTED` of a table whose expression isn't shown as is expected
+/// over the world in that state, else the empty text.
 pub fn first_wrong(alloc: Global, state: State, table: &str) -> Result<&str, Memory> {
     let here = here(alloc)?;
     let names = world(alloc, state)?;

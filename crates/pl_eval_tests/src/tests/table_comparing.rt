@@ -100,7 +100,8 @@ le(1, parameters.list) => V1
 gt('a', parameters.list) => V1
 lt('a', parameters.bare) => V1";
 
-/// The orders of values, and V1 where the left value is an array or object, or the right one doesn't convert.
+/// The orders of values, and V1 where the left value is an array or object, or the right one
+/// doesn't convert.
 #[test]
 fn orders_values(rt: HostRuntime) -> Result<(), Fail> {
     let alloc = rt.alloc();

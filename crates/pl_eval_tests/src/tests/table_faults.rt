@@ -34,7 +34,8 @@ gt(parameters.long, parameters.edge) => True@made
 lower(lower(parameters.long)) => V4
 length(lower(parameters.edge)) => 65536@made";
 
-/// V4 where a function makes a text of more than 65,536 bytes, also where its argument was so long already.
+/// V4 where a function makes a text of more than 65,536 bytes, also where its argument was so long
+/// already.
 #[test]
 fn keeps_the_bound_of_texts(rt: HostRuntime) -> Result<(), Fail> {
     let alloc = rt.alloc();

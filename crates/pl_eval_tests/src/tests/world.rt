@@ -1,4 +1,5 @@
-//! The world of the tests: values that are read from one text (`ROOTS`), and how dependencies ended.
+//! The world of the tests: values that are read from one text (`ROOTS`), and how dependencies
+//! ended.
 use super::names::{MemNames, Named};
 use pl_base::{
     Crossing, FileKey, List, MarkedNode, MarkedPair, Memory, Origin, Outcome, Place, Shared,
@@ -7,9 +8,10 @@ use pl_base::{
 use pl_expr::{Expr, Mode, parse};
 use std::alloc::Global;
 
-/// The roots and what is in them, each value on a line of its own: the line of its source, its key (`-` at an item of an
-/// array), and what it is. `{` begins an object and `[` an array, of the values up to its `end`; `letters N` is a text of
-/// N times the letter x; anything else is a literal of the expression language, or `Null`.
+/// The roots and what is in them, each value on a line of its own: the line of its source, its key
+/// (`-` at an item of an array), and what it is. `{` begins an object and `[` an array, of the
+/// values up to its `end`; `letters N` is a text of N times the letter x; anything else is a
+/// literal of the expression language, or `Null`.
 const ROOTS: &str = "1 parameters {
   2 Name 'Ann'
   3 name 'second'
@@ -72,8 +74,8 @@ end
 end
 60 item 'loop'";
 
-/// How the dependencies stand. By name, whatever the state: `A` Succeeded (a second `a` Failed), `B` Failed, `C`
-/// Canceled, `D` Skipped, `E` SucceededWithIssues; any other name has no result.
+/// How the dependencies stand. By name, whatever the state: `A` Succeeded (a second `a` Failed),
+/// `B` Failed, `C` Canceled, `D` Skipped, `E` SucceededWithIssues; any other name has no result.
 #[derive(Clone, Copy)]
 pub enum State {
     /// Succeeded and SucceededWithIssues.

@@ -351,7 +351,8 @@ pub(super) fn deep_fault_of(alloc: Global, mode: Mode, line: &str) -> Result<Tex
     fault_of(alloc, mode, deep_text(alloc, line)?.as_str())
 }
 
-/// E6: at the first byte of the primary or tail with which the tree gets deeper than 50. E2 and E3 come before it.
+/// E6: at the first byte of the primary or tail with which the tree gets deeper than 50. E2 and E3
+/// come before it.
 #[test]
 fn refuses_trees_deeper_than_fifty(rt: HostRuntime) -> Result<(), Fail> {
     let alloc = rt.alloc();

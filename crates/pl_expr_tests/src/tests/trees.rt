@@ -4,8 +4,8 @@ use pl_expr::{Expr, Mode, parse, print, to_text};
 use std::alloc::Global;
 use std::test::Fail;
 
-/// A tree in a notation of the tests' own: `$a` is a root, `#1` a number, `v1.2.3` a version, `"a"` a text, `[a b]` an
-/// index, `{a b c}` a projection and `(f a b)` a call.
+/// A tree in a notation of the tests' own: `$a` is a root, `#1` a number, `v1.2.3` a version, `"a"`
+/// a text, `[a b]` an index, `{a b c}` a projection and `(f a b)` a call.
 #[cycle(shown)]
 fn show(alloc: Global, out: &mut Text, expr: &Expr) -> Result<(), Memory> {
     match expr {

@@ -4,7 +4,8 @@ use pl_expr::{Mode, loosely_equal, order, to_bool, to_number, to_text, to_versio
 use std::alloc::Global;
 use std::test::Fail;
 
-/// The value that a word of the tables below stands for: `text:..`, `version:..`, `number:..` or a name.
+/// The value that a word of the tables below stands for: `text:..`, `version:..`, `number:..` or a
+/// name.
 fn value(alloc: Global, word: &str) -> Result<Value, Memory> {
     if let Some(text) = word.strip_prefix("text:") {
         return Ok(Value::Str(Text::from_str(alloc, text)?));

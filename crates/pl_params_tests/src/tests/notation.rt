@@ -1,5 +1,5 @@
-//! Trees in short: `[a, b]` is a sequence, `{k: v}` a mapping, `''` the empty scalar, and anything else
-//! a scalar. Each node and each key stands at its first character.
+//! Trees in short: `[a, b]` is a sequence, `{k: v}` a mapping, `''` the empty scalar, and anything
+//! else a scalar. Each node and each key stands at its first character.
 use pl_base::{
     Crossing, FileKey, List, MarkedNode, Memory, Node, NodeBody, NodePair, Place, Shared,
     SharedList, Text, Value,

@@ -13,7 +13,8 @@ const JOBS: &str = r#"{job: J, steps: []}, {job: K, steps: []} => [__default](J)
 {deployment: D, environment: e, strategy: {runOnce: {deploy: {steps: []}}}}, {job: K, dependsOn: D, steps: []} => [__default](D)(K D)
 {job: J, steps: []}, {deployment: D, dependsOn: J, environment: e, strategy: {runOnce: {deploy: {steps: []}}}} => [__default](J)(D J)"#;
 
-/// A job waits for the jobs that it names, each by all its legs in order, and without names for none.
+/// A job waits for the jobs that it names, each by all its legs in order, and without names for
+/// none.
 #[test]
 fn jobs_wait(rt: HostRuntime) -> Result<(), Fail> {
     let wrong = first_wrong(rt.alloc(), Aspect::Waits, "{jobs: [", JOBS, "]}")?;

@@ -66,8 +66,8 @@ fn refuses(alloc: Global, begin: &str, line: &str, end: &str) -> Result<bool, Me
     Ok(found.as_str() == wanted.as_str())
 }
 
-/// The first line `TEXT => CODE NAMES` that doesn't hold, `^` being the place of the fault; else the
-/// empty text.
+/// The first line `TEXT => CODE NAMES` that doesn't hold, `^` being the place of the fault; else
+/// the empty text.
 pub fn first_not_refused(
     alloc: Global,
     begin: &str,

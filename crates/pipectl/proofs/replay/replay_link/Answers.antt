@@ -1,5 +1,8 @@
 use Rattle.std.proofs.Common.{refl, arith}
-use Rattle.pipectl.proofs.Endings.{serving_starts, serving_answers, serving_reads, ends_at_once, ends_bad, bad_unwritten, bad_unkept, write_broke, memory_broke, ends_spent, ends_failed, ends_between, ends_inside, memory_unread, waits_more, nothing_came, still_partial}
+use Rattle.pipectl.proofs.Endings.{serving_starts, serving_answers, serving_reads, ends_at_once}
+use Rattle.pipectl.proofs.Endings.{ends_bad, bad_unwritten, bad_unkept, write_broke, memory_broke}
+use Rattle.pipectl.proofs.Endings.{ends_spent, ends_failed, ends_between, ends_inside}
+use Rattle.pipectl.proofs.Endings.{memory_unread, waits_more, nothing_came, still_partial}
 use Rattle.pipectl.proofs.replay.replay_link.Goals as goal
 
 pub returns-in_default : goal.returns-in_default

@@ -1,4 +1,5 @@
-use Rattle.std.proofs.Common.{◌≡◌, ℕ, ◌+◌, List, length, take, drop, Option, ap, sym, ◌∙◌, ◌++◌, arith, length-drop}
+use Rattle.std.proofs.Common.{◌≡◌, ℕ, ◌+◌, List, length, take, drop, Option, ap, sym, ◌∙◌, ◌++◌}
+use Rattle.std.proofs.Common.{arith, length-drop}
 use Rattle.std.proofs.Math.Seq.{take-add}
 use Rattle.pl_base.specs.Streams.{with_end}
 use Rattle.pipectl.proofs.Sessions.{with_end-append}

@@ -34,20 +34,30 @@ the_empty = []
 abbrev pub the_items : (X : Type 0) → list X → list X
 the_items X items = items
 
-pub the_items_listed : (X : Type 0) (items : list X) → listed _ (children (the_former this) X items) ≡ the_items X items
+pub the_items_listed :
+    (X : Type 0) (items : list X) →
+    listed _ (children (the_former this) X items) ≡ the_items X items
 the_items_listed X items = list-listed X items
 
 abbrev vec_fields : Former {0}
-vec_fields = via (vec.the_former this Global) Inside (λ X fields. fields.items) (λ X items. record { items = items }) (λ X fields. refl) (λ X items. refl)
+vec_fields = via (vec.the_former this Global) Inside (λ X fields. fields.items)
+    (λ X items. record { items = items }) (λ X fields. refl) (λ X items. refl)
 
 module _ (R S : RattleType) (h : R.Denot → S.Denot) where
-  pub the_places : Alike R S h → Alike (outer.the_row R) (outer.the_row S) ((the_former this).map R.Denot S.Denot h)
-  the_places alike = view_places vec_fields (list_of this) view (λ X Y k u. refl) (λ X u. refl) R.Denot S.Denot h
+  pub the_places :
+      Alike R S h →
+      Alike (outer.the_row R) (outer.the_row S) ((the_former this).map R.Denot S.Denot h)
+  the_places alike = view_places vec_fields (list_of this) view (λ X Y k u. refl) (λ X u. refl)
+      R.Denot S.Denot h
       (outer.the_row R).coded (outer.the_row S).coded
-      (invariant R.Denot) (invariant S.Denot) (λ u p q. refl) (λ u p q. refl) (λ u e. tt) (λ u e. tt)
+      (invariant R.Denot) (invariant S.Denot) (λ u p q. refl) (λ u p q. refl) (λ u e. tt)
+      (λ u e. tt)
       (over (inner.the_row R)) (over (inner.the_row S))
       (struct_places (inner.the_type R) (inner.the_type S) (vec.mapped h, tt) _ (λ items. refl) refl
       (laid _ _ _ (vec.the_places heap.the_row ghosts R S h alike), tt))
 
-  pub the_codes_placed : Recodes R S h → Recodes (outer.the_row R) (outer.the_row S) ((the_former this).map R.Denot S.Denot h)
-  the_codes_placed recodes items = sym (code_map R.coded.code S.coded.code h (λ x. sym (recodes x)) items)
+  pub the_codes_placed :
+      Recodes R S h →
+      Recodes (outer.the_row R) (outer.the_row S) ((the_former this).map R.Denot S.Denot h)
+  the_codes_placed recodes items = sym (code_map R.coded.code S.coded.code h (λ x. sym (recodes x))
+      items)

@@ -48,18 +48,32 @@ module _ (R S : RattleType) (h : R.Denot → S.Denot) where
   one_handle : Alike R S h → Alike (arc_row R) (arc_row S) (λ b. revalued b (h b.value))
   unfolding part_of
   one_handle alike = record {
-    mir_same = λ i. (arc_row (one_value R (alike.mir_same i) (λ _. ftrue) (λ _ _. nothing) gnil)).mir;
-    own_same = λ b i. (arc_row (one_value R (alike.mir_same i) (alike.own_same b.value i) (alike.shr_same b.value i) gnil)).own_val (revalued b tt);
-    shr_same = λ b i. (arc_row (one_value R (alike.mir_same i) (alike.own_same b.value i) (alike.shr_same b.value i) gnil)).shr_at (revalued b tt);
+    mir_same =
+        λ i. (arc_row (one_value R (alike.mir_same i) (λ _. ftrue) (λ _ _. nothing) gnil)).mir;
+    own_same =
+        λ b i.
+        (arc_row (one_value R (alike.mir_same i) (alike.own_same b.value i)
+        (alike.shr_same b.value i) gnil)).own_val (revalued b tt);
+    shr_same =
+        λ b i.
+        (arc_row (one_value R (alike.mir_same i) (alike.own_same b.value i)
+        (alike.shr_same b.value i) gnil)).shr_at (revalued b tt);
   }
 
-  pub the_places : Alike R S h → Alike (outer.the_row R) (outer.the_row S) ((the_former this).map R.Denot S.Denot h)
-  the_places alike = view_places handle_fields this view (λ X Y k u. refl) (λ X u. refl) R.Denot S.Denot h
+  pub the_places :
+      Alike R S h →
+      Alike (outer.the_row R) (outer.the_row S) ((the_former this).map R.Denot S.Denot h)
+  the_places alike = view_places handle_fields this view (λ X Y k u. refl) (λ X u. refl) R.Denot
+      S.Denot h
       (outer.the_row R).coded (outer.the_row S).coded
-      (invariant R.Denot) (invariant S.Denot) (λ u p q. refl) (λ u p q. refl) (λ u e. tt) (λ u e. tt)
+      (invariant R.Denot) (invariant S.Denot) (λ u p q. refl) (λ u p q. refl) (λ u e. tt)
+      (λ u e. tt)
       (over (inner.the_row R)) (over (inner.the_row S))
-      (struct_places (inner.the_type R) (inner.the_type S) ((λ b. revalued b (h b.value)), tt) _ (λ d. refl) refl
+      (struct_places (inner.the_type R) (inner.the_type S) ((λ b. revalued b (h b.value)), tt) _
+      (λ d. refl) refl
       (laid _ _ _ (one_handle alike), tt))
 
-  pub the_codes_placed : Recodes R S h → Recodes (outer.the_row R) (outer.the_row S) ((the_former this).map R.Denot S.Denot h)
+  pub the_codes_placed :
+      Recodes R S h →
+      Recodes (outer.the_row R) (outer.the_row S) ((the_former this).map R.Denot S.Denot h)
   the_codes_placed recodes = recodes

@@ -8,7 +8,8 @@ use Rattle.pl_bundle.proofs.head.head_of.Goals as goal
 pub returns-in-None : goal.returns-in-None
 returns-in-None c =
     ap (λ line. key_by (slice_split is_space line)) (sym c.content.ensures)
-    ∙ (ap key_by (parts_whole c.content.result.now c.in-None.ensures) ∙ one_part c.content.result.now)
+    ∙ (ap key_by (parts_whole c.content.result.now c.in-None.ensures) ∙
+    one_part c.content.result.now)
 
 pub returns-in-Some : goal.returns-in-Some
 returns-in-Some c =

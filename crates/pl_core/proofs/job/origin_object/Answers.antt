@@ -17,6 +17,9 @@ returns c =
     ∙ both (ap (λ n. member (codes "col") (json.Number n)) c.from.ensures)
     (both (ap (λ items. member (codes "crossings") (json.Array items)) c.new.ensures)
     (both (ap (λ n. member (codes "line") (json.Number n)) c.from-2.ensures)
-    (both (ap (member (codes "path")) (c.in_ok-text.ensures ∙ ap json.Text c.as_str.ensures ∙ ap (λ file. json.Text file.path) c.deref-file.ensures))
-    (both (ap (member (codes "ref")) (c.in_ok-text-2.ensures ∙ ap json.Text c.as_str-2.ensures ∙ ap (λ file. json.Text file.git_ref) c.deref-file.ensures))
-    (both (ap (member (codes "repo")) (c.in_ok-text-3.ensures ∙ ap json.Text c.as_str-3.ensures ∙ ap (λ file. json.Text file.repo) c.deref-file.ensures)) refl))))))
+    (both (ap (member (codes "path")) (c.in_ok-text.ensures ∙ ap json.Text c.as_str.ensures ∙
+    ap (λ file. json.Text file.path) c.deref-file.ensures))
+    (both (ap (member (codes "ref")) (c.in_ok-text-2.ensures ∙ ap json.Text c.as_str-2.ensures ∙
+    ap (λ file. json.Text file.git_ref) c.deref-file.ensures))
+    (both (ap (member (codes "repo")) (c.in_ok-text-3.ensures ∙ ap json.Text c.as_str-3.ensures ∙
+    ap (λ file. json.Text file.repo) c.deref-file.ensures)) refl))))))

@@ -16,4 +16,5 @@ returns c =
     ∙ both (ap (member (codes "form")) (c.in_ok-text.ensures ∙ ap json.Text c.as_str-2.ensures))
     (both (ap (member (codes "key")) c.in_ok-origin_object.ensures)
     (both (ap (member (codes "origin")) c.in_ok-origin_object-2.ensures)
-    (both (ap (λ pairs. member (codes "step") (json.Object pairs)) (i1 ∙ both (ap₂ member c.as_str.ensures c.in_ok-scalar_object.ensures) refl)) refl))))
+    (both (ap (λ pairs. member (codes "step") (json.Object pairs))
+    (i1 ∙ both (ap₂ member c.as_str.ensures c.in_ok-scalar_object.ensures) refl)) refl))))

@@ -16,5 +16,6 @@ loop-at-preserved c =
 
 pub returns : goal.returns
 returns c = found_all (job_entries c.loop-at.at) c.args.jobs.now c.loop-at.at
-    (places_under (job_entries 0 c.args.jobs.now)) (under c.loop-at.places) c.loop-at-test.false refl
+    (places_under (job_entries 0 c.args.jobs.now)) (under c.loop-at.places) c.loop-at-test.false
+    refl
     c.loop-at.invariant

@@ -16,5 +16,6 @@ loop-at-preserved c =
 
 pub returns : goal.returns
 returns c = found_all (stage_entries c.loop-at.at) c.args.stages.now c.loop-at.at
-    (places_under (stage_entries 0 c.args.stages.now)) (under c.loop-at.places) c.loop-at-test.false refl
+    (places_under (stage_entries 0 c.args.stages.now)) (under c.loop-at.places) c.loop-at-test.false
+    refl
     c.loop-at.invariant

@@ -4,4 +4,5 @@ use Rattle.pl_expr.specs.Conversions.{equals}
 use Rattle.pl_eval.proofs.applied.is_a_property.Given as goal
 
 abbrev pub invariant-loop-pair : goal.invariant-loop-pair
-invariant-loop-pair l = list_any (λ pair. equals l.sought pair.item.value) l.pair-items ≡ list_any (λ pair. equals l.sought pair.item.value) (drop l.pair-index l.pair-items)
+invariant-loop-pair l = list_any (λ pair. equals l.sought pair.item.value) l.pair-items ≡
+    list_any (λ pair. equals l.sought pair.item.value) (drop l.pair-index l.pair-items)

@@ -11,7 +11,8 @@ use Rattle.pl_eval.proofs.held.lengthen.Goals as goal
 pub returns-in-Ok : goal.returns-in-Ok
 returns-in-Ok g c meant given =
     let known = g.N.Names.known c.args.names.now in
-    let is : meant ≡ Ok c.in-Ok.at = subst (λ (at : Result MarkedNode EvalFault). Gives at meant) c.in-Ok.is given in
+    let is : meant ≡ Ok c.in-Ok.at = subst (λ (at : Result MarkedNode EvalFault). Gives at meant)
+    c.in-Ok.is given in
     ap (indexed c.args.here.now (part_means known c.args.here.now c.args.root.now c.args.path)) is
     ∙ (longer c.args.here.now (root_of known c.args.root.now) c.args.path c.in-Ok.at
     ∙ ap (part_means known c.args.here.now c.args.root.now) (sym c.in_ok-push-in-Ok.ensures.ok))

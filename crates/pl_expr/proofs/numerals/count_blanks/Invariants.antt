@@ -4,4 +4,5 @@ use Rattle.pl_expr.specs.Numerals.{is_blank}
 use Rattle.pl_expr.proofs.numerals.count_blanks.Given as goal
 
 abbrev pub invariant-loop-count : goal.invariant-loop-count
-invariant-loop-count l = prefix_len is_blank l.bytes ≡ l.count + prefix_len is_blank (drop l.count l.bytes)
+invariant-loop-count l = prefix_len is_blank l.bytes ≡ l.count + prefix_len is_blank
+    (drop l.count l.bytes)

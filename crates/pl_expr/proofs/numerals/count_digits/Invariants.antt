@@ -4,4 +4,5 @@ use Rattle.std.specs.Char.{is_ascii_digit}
 use Rattle.pl_expr.proofs.numerals.count_digits.Given as goal
 
 abbrev pub invariant-loop-count : goal.invariant-loop-count
-invariant-loop-count l = prefix_len is_ascii_digit l.bytes ≡ l.count + prefix_len is_ascii_digit (drop l.count l.bytes)
+invariant-loop-count l = prefix_len is_ascii_digit l.bytes ≡ l.count + prefix_len is_ascii_digit
+    (drop l.count l.bytes)

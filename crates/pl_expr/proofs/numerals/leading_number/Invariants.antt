@@ -6,6 +6,7 @@ use Rattle.pl_expr.proofs.numerals.leading_number.Given as goal
 
 abbrev pub invariant-loop-byte : goal.invariant-loop-byte
 invariant-loop-byte l = record {
-  counted : prefix_len is_ascii_digit l.bytes ≡ l.byte-index + prefix_len is_ascii_digit (drop l.byte-index l.bytes);
+  counted : prefix_len is_ascii_digit l.bytes ≡ l.byte-index + prefix_len is_ascii_digit
+      (drop l.byte-index l.bytes);
   value : l.number ≡ min (number_of (take l.byte-index l.bytes)) (2 ^ 64 - 1);
 }

@@ -32,14 +32,17 @@ decreases-read_index l = 8 * l.depth + 4
 abbrev pub invariant-read_arguments-loop-turn : goal.invariant-read_arguments-loop-turn
 invariant-read_arguments-loop-turn l = record {
   text : shadow (Utf8 l.rest);
-  reading : arguments_at (inner_of l.mode l.depth) l.function (length l.text - l._turn) l.arguments.list l.rest ≡ arguments_at (inner_of l.mode l.depth) l.function (length l.text) [] l.text;
+  reading : arguments_at (inner_of l.mode l.depth) l.function (length l.text - l._turn)
+      l.arguments.list l.rest ≡ arguments_at (inner_of l.mode l.depth) l.function (length l.text) []
+      l.text;
   within : l.arguments.depth + 1 ≤ l.depth;
 }
 
 abbrev pub invariant-read_tails-tails : goal.invariant-read_tails-tails
 invariant-read_tails-tails l = record {
   text : shadow (Utf8 l.rest);
-  reading : Continues (inner_of l.mode l.depth) l.depth l.tree.expr l.rest (tails_at (inner_of l.mode l.depth) l.depth l.depth l.fn.tree.expr l.text);
+  reading : Continues (inner_of l.mode l.depth) l.depth l.tree.expr l.rest
+      (tails_at (inner_of l.mode l.depth) l.depth l.depth l.fn.tree.expr l.text);
   within : l.tree.depth ≤ l.depth;
 }
 

@@ -6,4 +6,5 @@ use Rattle.pl_heads.proofs.fields.look_up.Given as goal
 
 abbrev pub invariant-loop-field : goal.invariant-loop-field
 invariant-loop-field l =
-    IsFound l.bytes (values_of l.name (map (header_bytes l.bytes) (take l.field-index l.fields))) l.found
+    IsFound l.bytes (values_of l.name (map (header_bytes l.bytes) (take l.field-index l.fields)))
+    l.found

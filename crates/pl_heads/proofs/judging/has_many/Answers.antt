@@ -12,7 +12,8 @@ unreachable-requires c =
 
 pub returns-in-Partial : goal.returns-in-Partial
 returns-in-Partial c =
-    cut_open c.args.bytes.now c.split_at.result.0.now c.in-Some.end c.in-Some.ensures c.split_at.ensures.front
+    cut_open c.args.bytes.now c.split_at.result.0.now c.in-Some.end c.in-Some.ensures
+    c.split_at.ensures.front
     c.in-Partial.ensures
 
 pub returns-in-Many : goal.returns-in-Many
@@ -22,5 +23,6 @@ returns-in-Many c =
 
 pub returns-in-Never : goal.returns-in-Never
 returns-in-Never c =
-    cut_never c.args.bytes.now c.split_at.result.0.now c.in-Some.end c.in-Some.ensures c.split_at.ensures.front
+    cut_never c.args.bytes.now c.split_at.result.0.now c.in-Some.end c.in-Some.ensures
+    c.split_at.ensures.front
     c.in-Never.ensures

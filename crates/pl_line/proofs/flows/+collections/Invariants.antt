@@ -28,18 +28,22 @@ decreases-mapping l = 8 * l.depth + 4
 
 abbrev pub invariant-sequence-loop-line : goal.invariant-sequence-loop-line
 invariant-sequence-loop-line l =
-    (turns : ℕ) × (length (all_of l.line.text) < turns) × (length (all_of l.line.text) < length (all_of l.fn.line.text))
+    (turns : ℕ) × (length (all_of l.line.text) < turns) ×
+    (length (all_of l.line.text) < length (all_of l.fn.line.text))
     × (entries 93 (λ _ left. value l.file (node l.file l.depth) left) turns l.items (row l.line)
-    ≡ entries 93 (λ _ left. value l.file (node l.file l.depth) left) (length (all_of l.fn.line.text)) [] (behind 1 (row l.fn.line)))
+    ≡ entries 93 (λ _ left. value l.file (node l.file l.depth) left)
+    (length (all_of l.fn.line.text)) [] (behind 1 (row l.fn.line)))
 
 abbrev pub decreases-sequence-loop-line : goal.decreases-sequence-loop-line
 decreases-sequence-loop-line l = length (all_of l.line.text)
 
 abbrev pub invariant-mapping-loop-pairs : goal.invariant-mapping-loop-pairs
 invariant-mapping-loop-pairs l =
-    (turns : ℕ) × (length (all_of l.line.text) < turns) × (length (all_of l.line.text) < length (all_of l.fn.line.text))
+    (turns : ℕ) × (length (all_of l.line.text) < turns) ×
+    (length (all_of l.line.text) < length (all_of l.fn.line.text))
     × (entries 125 (pair l.file (node l.file l.depth)) turns l.pairs.pairs (row l.line)
-    ≡ entries 125 (pair l.file (node l.file l.depth)) (length (all_of l.fn.line.text)) [] (behind 1 (row l.fn.line)))
+    ≡ entries 125 (pair l.file (node l.file l.depth)) (length (all_of l.fn.line.text)) []
+    (behind 1 (row l.fn.line)))
 
 abbrev pub decreases-mapping-loop-pairs : goal.decreases-mapping-loop-pairs
 decreases-mapping-loop-pairs l = length (all_of l.line.text)

@@ -4,4 +4,5 @@ use Rattle.pl_line.proofs.Laws.Left.{empty_at}
 use Rattle.pl_line.proofs.left.is_empty.Goals as goal
 
 pub returns-in-Some : goal.returns-in-Some
-returns-in-Some c = empty_at (row c.args.line.now) c.in-Some.first c.in-Some.ensures (sym c.if-not-is_blank.ensures)
+returns-in-Some c = empty_at (row c.args.line.now) c.in-Some.first c.in-Some.ensures
+    (sym c.if-not-is_blank.ensures)

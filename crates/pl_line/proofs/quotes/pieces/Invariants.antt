@@ -7,9 +7,11 @@ use Rattle.pl_line.proofs.quotes.pieces.Given as goal
 
 abbrev pub invariant-loop-character : goal.invariant-loop-character
 invariant-loop-character l =
-    (turns : ℕ) × (length (all_of l.line.text) < l.len + turns) × (1 ≤ l.len) × (l.len + length (all_of l.rest) ≡ length (all_of l.line.text))
+    (turns : ℕ) × (length (all_of l.line.text) < l.len + turns) × (1 ≤ l.len) ×
+    (l.len + length (all_of l.rest) ≡ length (all_of l.line.text))
     × (all_of l.rest ≡ drop l.len (all_of l.line.text))
-    × (pieces_of l.style (row l.line) turns (string_bytes l.text) l.len ≡ pieces_of l.style (row l.line) (length (all_of l.line.text)) [] 1)
+    × (pieces_of l.style (row l.line) turns (string_bytes l.text) l.len ≡
+    pieces_of l.style (row l.line) (length (all_of l.line.text)) [] 1)
 
 abbrev pub decreases-loop-character : goal.decreases-loop-character
 decreases-loop-character l = length (all_of l.rest)

@@ -7,7 +7,8 @@ use Rattle.pl_line.proofs.rows.first_line.Given as goal
 
 abbrev pub invariant-loop-c : goal.invariant-loop-c
 invariant-loop-c l = record {
-  value : l.len + position_or_len (λ c. c == 10) (chars l.rest.text.now) ≡ position_or_len (λ c. c == 10) (chars l.text);
+  value : l.len + position_or_len (λ c. c == 10) (chars l.rest.text.now) ≡
+      position_or_len (λ c. c == 10) (chars l.text);
   within : l.len + length (chars l.rest.text.now) ≡ length (chars l.text);
   left : chars l.rest.text.now ≡ drop l.len (chars l.text);
   place : l.readable ≡ position_or_len rows.is_control (chars l.text);

@@ -6,7 +6,8 @@ use Rattle.pl_line.proofs.rows.to_control.Given as goal
 
 abbrev pub invariant-loop-c : goal.invariant-loop-c
 invariant-loop-c l = record {
-  value : l.count + position_or_len rows.is_control (chars l.rest.text.now) ≡ position_or_len rows.is_control (chars l.fn.rest.text.now);
+  value : l.count + position_or_len rows.is_control (chars l.rest.text.now) ≡
+      position_or_len rows.is_control (chars l.fn.rest.text.now);
   within : l.count + length (chars l.rest.text.now) ≡ length (chars l.fn.rest.text.now);
   left : chars l.rest.text.now ≡ drop l.count (chars l.fn.rest.text.now);
 }

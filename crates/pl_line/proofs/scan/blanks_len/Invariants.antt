@@ -7,7 +7,8 @@ use Rattle.pl_line.proofs.scan.blanks_len.Given as goal
 
 abbrev pub invariant-loop-c : goal.invariant-loop-c
 invariant-loop-c l = record {
-  value : l.len + position_or_len (λ x. not (bytes.is_blank x)) (all_of l.rest) ≡ position_or_len (λ x. not (bytes.is_blank x)) (all_of l.text);
+  value : l.len + position_or_len (λ x. not (bytes.is_blank x)) (all_of l.rest) ≡
+      position_or_len (λ x. not (bytes.is_blank x)) (all_of l.text);
   within : l.len + length (all_of l.rest) ≡ length (all_of l.text);
 }
 

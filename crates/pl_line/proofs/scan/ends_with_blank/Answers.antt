@@ -10,4 +10,5 @@ returns-in-Some c =
     c.is_blank.ensures
     ∙ ap is_blank c.from.ensures
     ∙ ap ends_with_blank
-    (c.in-Some.ensures.value ∙ sym (last_or-slice_get c.as_bytes.result.now) ∙ ap (last_or None) c.as_bytes.ensures.value)
+    (c.in-Some.ensures.value ∙ sym (last_or-slice_get c.as_bytes.result.now) ∙
+    ap (last_or None) c.as_bytes.ensures.value)

@@ -5,7 +5,8 @@ use Rattle.pl_line.proofs.scan.plain_len.Given as goal
 
 abbrev pub invariant-loop-c : goal.invariant-loop-c
 invariant-loop-c l = record {
-  value : l.len + plain_len l.whole l.behind_blank (all_of l.rest) ≡ plain_len l.whole false (all_of l.text);
+  value : l.len + plain_len l.whole l.behind_blank (all_of l.rest) ≡
+      plain_len l.whole false (all_of l.text);
   within : l.len + length (all_of l.rest) ≡ length (all_of l.text);
 }
 

@@ -12,17 +12,21 @@ loop-preserved c =
 
 pub overflow_sub-bytes : goal.overflow_sub-bytes
 overflow_sub-bytes c =
-    bytes_fit c.args.text.now c.text.result.now c.loop.counter c.utf8.text c.text.utf8 (ap chars c.text.ensures ∙ c.loop.invariant)
+    bytes_fit c.args.text.now c.text.result.now c.loop.counter c.utf8.text c.text.utf8
+    (ap chars c.text.ensures ∙ c.loop.invariant)
 
 pub range-requires-clause-end_boundary : goal.range-requires-clause-end_boundary
 range-requires-clause-end_boundary c =
-    bytes_end c.args.text.now c.text.result.now c.loop.counter c.utf8.text c.text.utf8 (ap chars c.text.ensures ∙ c.loop.invariant)
+    bytes_end c.args.text.now c.text.result.now c.loop.counter c.utf8.text c.text.utf8
+    (ap chars c.text.ensures ∙ c.loop.invariant)
 
 pub returns : goal.returns
 returns c =
     let all : c.loop.counter ≡ c.args.len = omega arith in
-    let bytes : length c.args.text.now - length c.text.result.now - 0 ≡ length c.args.text.now - length c.text.result.now = omega arith in
+    let bytes : length c.args.text.now - length c.text.result.now - 0 ≡
+    length c.args.text.now - length c.text.result.now = omega arith in
     c.range.ensures.value
     ∙ ap (λ n. take n c.args.text.now) bytes
-    ∙ bytes_are c.args.text.now c.text.result.now c.loop.counter c.utf8.text c.text.utf8 (ap chars c.text.ensures ∙ c.loop.invariant)
+    ∙ bytes_are c.args.text.now c.text.result.now c.loop.counter c.utf8.text c.text.utf8
+    (ap chars c.text.ensures ∙ c.loop.invariant)
     ∙ ap (λ n. encode_utf8_all (take n (chars c.args.text.now))) all

@@ -7,4 +7,5 @@ pub returns-clause-same : goal.returns-clause-same
 returns-clause-same c =
     let left = c.args.left.now in
     let right = c.args.right.now in
-    Decides-at c.values_alike.result (alike left right) c.values_alike.ensures (alike_decides left right)
+    Decides-at c.values_alike.result (alike left right) c.values_alike.ensures
+    (alike_decides left right)

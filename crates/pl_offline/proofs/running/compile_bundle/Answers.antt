@@ -44,7 +44,8 @@ returns-in-Ok-write_all-2 g c = (
       c.in-Ok-Line.field-0-is c.in-Ok-Line.ensures),
   subst (λ text. IsSent text (outflow g.K.Sink c.args.sink.now)
       (outflow g.K.Sink c.write_all-in-Ok-Line.new.sink))
-      (c.as_bytes-in-Ok-Line.ensures.value ∙ c.as_str-in-Ok-Line.ensures) c.in-Ok-write_all-2.ensures,
+      (c.as_bytes-in-Ok-Line.ensures.value ∙ c.as_str-in-Ok-Line.ensures)
+      c.in-Ok-write_all-2.ensures,
 )
 
 pub returns-in-Ok-Line : goal.returns-in-Ok-Line
@@ -59,5 +60,6 @@ returns-in-Ok-Line g c = (
       c.in-Ok-Line.field-0-is c.in-Ok-Line.ensures)),
   subst (λ text. IsBegun text (outflow g.K.Sink c.args.sink.now)
       (outflow g.K.Sink c.write_all-in-Ok-Line.new.sink))
-      (c.as_bytes-in-Ok-Line.ensures.value ∙ c.as_str-in-Ok-Line.ensures) c.in-Err-write_all-2.ensures,
+      (c.as_bytes-in-Ok-Line.ensures.value ∙ c.as_str-in-Ok-Line.ensures)
+      c.in-Err-write_all-2.ensures,
 )

@@ -11,6 +11,7 @@ loop-at-preserved c = λ upper.
     let items = c.as_slice-items.result.now in
     let next : at ≡ at - 1 + 1 = omega arith in
     let within : at - 1 < length items = omega arith in
-    let step = place_before (λ one. bytes_eq upper (folded one.name)) items (at - 1) at c.index-items-at.result next within c.index-items-at.is in
+    let step = place_before (λ one. bytes_eq upper (folded one.name)) items (at - 1) at
+    c.index-items-at.result next within c.index-items-at.is in
     let h = c.in_ok-insert in
     grind (arith, text_keys, step, c.loop-at.invariant upper, c.in_ok-name.ensures)

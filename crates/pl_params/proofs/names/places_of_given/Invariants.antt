@@ -6,4 +6,5 @@ use Rattle.pl_base.specs.Folding.{folded}
 use Rattle.pl_params.proofs.names.places_of_given.Given as goal
 
 abbrev pub invariant-loop-at : goal.invariant-loop-at
-invariant-loop-at l = (upper : List ℕ) → get_by_text l.places upper ≡ position_from (λ one. bytes_eq upper (folded one.name)) l.at (drop l.at l.items)
+invariant-loop-at l = (upper : List ℕ) → get_by_text l.places upper ≡
+    position_from (λ one. bytes_eq upper (folded one.name)) l.at (drop l.at l.items)

@@ -3,4 +3,5 @@ use Rattle.pl_literal.specs.Items.{is}
 use Rattle.pl_params.proofs.parts.under.Given as goal
 
 abbrev pub invariant-loop-pair : goal.invariant-loop-pair
-invariant-loop-pair l = find (λ pair. is pair.key l.key) l.pairs ≡ find (λ pair. is pair.key l.key) (drop l.pair-index l.pair-items)
+invariant-loop-pair l = find (λ pair. is pair.key l.key) l.pairs ≡ find (λ pair. is pair.key l.key)
+    (drop l.pair-index l.pair-items)

@@ -5,4 +5,5 @@ use Rattle.pl_results.proofs.parts.job_parts.Given as goal
 
 abbrev pub invariant-loop-at : goal.invariant-loop-at
 invariant-loop-at l = l.parts ++ map (job_part l.legs)
-    (once_behind (names_of (take l.at l.legs)) (names_of (drop l.at l.legs))) ≡ spec.job_parts l.legs
+    (once_behind (names_of (take l.at l.legs)) (names_of (drop l.at l.legs))) ≡
+    spec.job_parts l.legs

@@ -3,7 +3,8 @@ use Rattle.std.specs.Option.{option_map}
 use Rattle.pl_results.specs.declared.parts.Group.{Group}
 use Rattle.pl_results.specs.Parts.{group_at, group_of}
 use Rattle.pl_results.proofs.Turns.{number_none, number_some}
-use Rattle.pl_results.proofs.parts.stage_groups.Goals.{in-Some+in_ok-group_of+in_ok-push, in_default}
+use Rattle.pl_results.proofs.parts.stage_groups.Goals.{in-Some+in_ok-group_of+in_ok-push}
+use Rattle.pl_results.proofs.parts.stage_groups.Goals.{in_default}
 use Rattle.pl_results.proofs.parts.stage_groups.Goals as goal
 
 pub loop-at-preserved : goal.loop-at-preserved

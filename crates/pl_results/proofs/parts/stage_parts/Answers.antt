@@ -3,7 +3,8 @@ use Rattle.std.specs.Option.{option_map}
 use Rattle.pl_plan.specs.declared.plan.PlanStage.{PlanStage}
 use Rattle.pl_results.specs.Parts.{stage_part_at, stage_part_of}
 use Rattle.pl_results.proofs.Turns.{number_none, number_some}
-use Rattle.pl_results.proofs.parts.stage_parts.Goals.{in-Some+in_ok-stage_part_of+in_ok-push, in_default}
+use Rattle.pl_results.proofs.parts.stage_parts.Goals.{in-Some+in_ok-stage_part_of+in_ok-push}
+use Rattle.pl_results.proofs.parts.stage_parts.Goals.{in_default}
 use Rattle.pl_results.proofs.parts.stage_parts.Goals as goal
 
 pub loop-at-preserved : goal.loop-at-preserved

@@ -6,5 +6,6 @@ use Rattle.pl_routes.proofs.parts.cut.Goals as goal
 pub returns : goal.returns
 returns c =
     map_from_collect _ c.collect.ensures.ran
-    (YieldsList-from_str_split 47 c.args.target.now (lit< tt) c.split.ensures.text c.split.ensures.has_more
+    (YieldsList-from_str_split 47 c.args.target.now (lit< tt) c.split.ensures.text
+    c.split.ensures.has_more
     c.split.ensures.pattern)

@@ -6,4 +6,5 @@ use Rattle.pl_texts.proofs.formatting.fill.Goals as goal
 pub returns : goal.returns
 returns c =
     let ended : length c.loop-rest.rest.now ≡ 0 = grind (arith, common_steps, c.is_empty.ensures) in
-    all_filled _ _ _ c.loop-rest.invariant.made (filled_empty c.args.arguments.now c.loop-rest.rest.now ended) c.loop-rest.invariant.within
+    all_filled _ _ _ c.loop-rest.invariant.made
+    (filled_empty c.args.arguments.now c.loop-rest.rest.now ended) c.loop-rest.invariant.within

@@ -6,4 +6,5 @@ use Rattle.pl_texts.proofs.formatting.is_pattern.Goals as goal
 pub returns : goal.returns
 returns c =
     let ended : length c.loop-rest.rest.now ≡ 0 = grind (arith, common_steps, c.is_empty.ensures) in
-    sym (c.loop-rest.invariant.same ∙ ap is_some (filled_empty c.args.arguments.now c.loop-rest.rest.now ended))
+    sym (c.loop-rest.invariant.same ∙
+    ap is_some (filled_empty c.args.arguments.now c.loop-rest.rest.now ended))

@@ -9,4 +9,5 @@ abbrev pub invariant-loop-character : goal.invariant-loop-character
 invariant-loop-character l =
     (goal.iterator-loop-character).can_next l.character-iterator ×
     (goal.iterator-loop-character).is_finite l.character-iterator ×
-    ((character : ℕ) → contains nat_cmp l.set character ≡ list_any (λ other. other == character) (take (length l.yielded) (chars l.text)))
+    ((character : ℕ) → contains nat_cmp l.set character ≡ list_any (λ other. other == character)
+    (take (length l.yielded) (chars l.text)))

@@ -7,6 +7,7 @@ pub loop-job-preserved : goal.loop-job-preserved
 loop-job-preserved c =
     let uses = job_uses c.args.pipeline.now c.args.stage.now in
     put_more uses (put_all (kept c.args.uses.now) (flat_map uses c.as_slice-job-items.result.now))
-    (kept c.loop-job.uses) (kept c.put_job.new.uses) c.as_slice-job-items.result.now c.loop-job.job-index
+    (kept c.loop-job.uses) (kept c.put_job.new.uses) c.as_slice-job-items.result.now
+    c.loop-job.job-index
     c.job-item.result c.loop-job.invariant c.loop-job-test.true c.job-item.is
     c.in_ok-put_job.ensures

@@ -13,6 +13,8 @@ invariant-items_of-loop-item l = record {
 
 abbrev pub invariant-members_of-loop-member : goal.invariant-members_of-loop-member
 invariant-members_of-loop-member l = record {
-  same : with_members (members_view l.object.entries) (map named_of (drop l.member-index l.members)) ≡ with_members no_members (map named_of l.members);
+  same : with_members (members_view l.object.entries)
+      (map named_of (drop l.member-index l.members)) ≡
+      with_members no_members (map named_of l.members);
   no_float : members_have_float (members_view l.object.entries) ≡ false;
 }

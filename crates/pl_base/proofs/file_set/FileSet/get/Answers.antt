@@ -4,4 +4,5 @@ use Rattle.pl_base.proofs.FileKeys.{get_text}
 use Rattle.pl_base.proofs.file_set.FileSet.get.Goals as goal
 
 pub returns : goal.returns
-returns c = c.get.ensures.value ∙ sym (get_text c.self.inside.texts.entries c.args.key.now) ∙ ap (λ set. map.get set c.args.key.now) c.self.view_is
+returns c = c.get.ensures.value ∙ sym (get_text c.self.inside.texts.entries c.args.key.now) ∙
+    ap (λ set. map.get set c.args.key.now) c.self.view_is

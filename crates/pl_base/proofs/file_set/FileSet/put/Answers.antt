@@ -5,5 +5,6 @@ use Rattle.pl_base.proofs.file_set.FileSet.put.Goals as goal
 
 pub returns-clause-ok : goal.returns-clause-ok
 returns-clause-ok c =
-    one_put c.self.inside.texts.entries c.insert.new.self.entries c.args.key c.args.text c.in_ok-insert.ensures.updates.0
+    one_put c.self.inside.texts.entries c.insert.new.self.entries c.args.key c.args.text
+    c.in_ok-insert.ensures.updates.0
     ∙ ap (λ set. map.insert set c.args.key c.args.text) c.self.view_is

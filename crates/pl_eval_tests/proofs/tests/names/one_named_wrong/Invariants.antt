@@ -4,4 +4,8 @@ use Rattle.pl_eval.specs.Statuses.{went_wrong, results_named}
 use Rattle.pl_eval_tests.proofs.tests.names.one_named_wrong.Given as goal
 
 abbrev pub invariant-loop-name : goal.invariant-loop-name
-invariant-loop-name l = list_any went_wrong (results_named (map (λ pair. (pair.name, pair.outcome)) l.named) l.name-items) ≡ list_any went_wrong (results_named (map (λ pair. (pair.name, pair.outcome)) l.named) (drop l.name-index l.name-items))
+invariant-loop-name l =
+    list_any went_wrong (results_named (map (λ pair. (pair.name, pair.outcome)) l.named)
+    l.name-items) ≡
+    list_any went_wrong (results_named (map (λ pair. (pair.name, pair.outcome)) l.named)
+    (drop l.name-index l.name-items))

@@ -11,11 +11,13 @@ loop-preserved c =
     ∙ drop-drop 1 c.loop.counter (chars c.args.self.now.text.now)
 
 pub overflow_sub-result : goal.overflow_sub-result
-overflow_sub-result c = within_all c.args.len c.args.self.now.len (chars c.args.self.now.text.now) c.requires
+overflow_sub-result c = within_all c.args.len c.args.self.now.len (chars c.args.self.now.text.now)
+    c.requires
 
 pub returns : goal.returns
 returns c =
     let all : c.loop.counter ≡ c.args.len = omega arith in
-    rest_of c.args.len c.args.self.now.len (chars c.args.self.now.text.now) (chars c.loop.rest.text.now)
+    rest_of c.args.len c.args.self.now.len (chars c.args.self.now.text.now)
+    (chars c.loop.rest.text.now)
     (within_all c.args.len c.args.self.now.len (chars c.args.self.now.text.now) c.requires)
     (c.loop.invariant ∙ ap (λ n. drop n (chars c.args.self.now.text.now)) all)

@@ -5,5 +5,6 @@ use Rattle.pl_step_list.proofs.lines.Lines.is_empty.Goals as goal
 
 pub returns : goal.returns
 returns c =
-    subst (λ (left : List (List ℕ)). (IsTrue c.is_none.result → left ≡ []) × (left ≡ [] → IsTrue c.is_none.result)) c.self.view_is
+    subst (λ (left : List (List ℕ)). (IsTrue c.is_none.result → left ≡ []) ×
+    (left ≡ [] → IsTrue c.is_none.result)) c.self.view_is
     (no_line c.self.inside.rest c.is_none.result c.is_none.ensures)

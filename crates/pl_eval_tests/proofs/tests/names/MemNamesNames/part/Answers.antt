@@ -12,10 +12,12 @@ returns-in-Some c =
     let is = rw c.as_slice.ensures at c.index-as_slice-place.is in
     subst P
     (ap (λ node. part_of (option_map (found_behind c.args.path.now) node))
-    (root_there c.args.self.now.roots c.args.root.now c.in-Some.place c.index-as_slice-place.result _ c.in-Some.ensures.0 c.in-Some.ensures.1 is
+    (root_there c.args.self.now.roots c.args.root.now c.in-Some.place c.index-as_slice-place.result
+    _ c.in-Some.ensures.0 c.in-Some.ensures.1 is
     (ap (λ (pair : MarkedPair). pair.item) (sym c.index-as_slice-place.is))))
     c.part_behind.ensures
 
 pub returns-in-None : goal.returns-in-None
 returns-in-None c =
-    ap (λ node. part_of (option_map (found_behind c.args.path.now) node)) (root_missing c.args.self.now.roots c.args.root.now c.in-None.ensures)
+    ap (λ node. part_of (option_map (found_behind c.args.path.now) node))
+    (root_missing c.args.self.now.roots c.args.root.now c.in-None.ensures)
