@@ -1,5 +1,7 @@
--- Trees of nodes: their depth, their keys, and what is left of them without places (YAML 1.2.2, section 3.2.1).
-use Rattle.std.specs.Prelude.{◌≡◌, ℕ, ◌+◌, max, Bool, true, ◌&&◌, not, nat_eq, List, [], ◌∷◌, ◌++◌, Result, Ok, Err, codes}
+-- Trees of nodes: their depth, their keys, and what is left of them without places (YAML 1.2.2,
+-- section 3.2.1).
+use Rattle.std.specs.Prelude.{◌≡◌, ℕ, ◌+◌, max, Bool, true, ◌&&◌, not, nat_eq, List, [], ◌∷◌, ◌++◌}
+use Rattle.std.specs.Prelude.{Result, Ok, Err, codes}
 use Rattle.std.specs.Str.{is_utf8}
 use Rattle.std.specs.List.{starts_with, list_any, list_all}
 use Rattle.std.specs.Cmp.Lexicographic.{pointwise}
@@ -9,7 +11,8 @@ use Rattle.pl_base.specs.Places.{place_at}
 use Rattle.pl_base.specs.declared.node.Node.{Node, fold-Node}
 use Rattle.pl_base.specs.declared.node.NodeBody.{NodeBody, fold-NodeBody}
 use Rattle.pl_base.specs.declared.node.NodeBody.TheVariants as bodies
-use Rattle.pl_base.specs.declared.node.NodeBody.TheOpen.{NodeBody-F, Node-F, NodePair-F, Scalar, Seq, Map}
+use Rattle.pl_base.specs.declared.node.NodeBody.TheOpen.{NodeBody-F, Node-F, NodePair-F, Scalar}
+use Rattle.pl_base.specs.declared.node.NodeBody.TheOpen.{Seq, Map}
 use Rattle.pl_base.specs.declared.node.NodePair.{NodePair, fold-NodePair}
 use Rattle.pl_line.specs.declared.code.YamlCode.{YamlCode}
 
@@ -36,11 +39,14 @@ depth = fold-Node ℕ ℕ ℕ depth_of_body depth_of_node depth_of_pair
 -- ---- no mapping of a tree has a key twice, but one that begins with `${{`
 
 abbrev pub is_again : List ℕ → List (List ℕ) → Bool
-is_again key before = not (starts_with nat_eq key (codes "${{")) && list_any (λ other. pointwise nat_eq other key) before
+is_again key before =
+    not (starts_with nat_eq key (codes "${{")) && list_any (λ other. pointwise nat_eq other key)
+    before
 
 abbrev pub differ_behind : List (List ℕ) → List (List ℕ × Bool) → Bool
 differ_behind before [] = true
-differ_behind before (pair ∷ pairs) = not (is_again pair.0 before) && (pair.1 && differ_behind (before ++ pair.0 ∷ []) pairs)
+differ_behind before (pair ∷ pairs) = not (is_again pair.0 before) &&
+    (pair.1 && differ_behind (before ++ pair.0 ∷ []) pairs)
 
 abbrev pub differ_in_body : NodeBody-F Bool Bool (List ℕ × Bool) → Bool
 differ_in_body (Scalar text) = true
@@ -92,7 +98,8 @@ abbrev pub pair_without : FileKey → NodePair-F NodeBody Node NodePair → Node
 pair_without file pair = record { key = pair.key; key_place = place_at file 1 1; item = pair.item }
 
 abbrev pub without_places : FileKey → Node → Node
-without_places file = fold-Node NodeBody Node NodePair body_without (node_without file) (pair_without file)
+without_places file = fold-Node NodeBody Node NodePair body_without (node_without file)
+    (pair_without file)
 
 -- what a text spells is that tree, up to places
 abbrev pub ReadsAs : FileKey → Node → Result Node (YamlCode × Place) → Type 0

@@ -3,8 +3,8 @@ use pl_yaml::{YamlFault, read, write};
 use std::alloc::Global;
 use std::test::Fail;
 
-/// A step in building a node on a stack. An item or a pair takes the last node off, and puts it behind what the
-/// collection before it holds.
+/// A step in building a node on a stack. An item or a pair takes the last node off, and puts it
+/// behind what the collection before it holds.
 #[derive(Clone, Copy)]
 enum Step {
     Scalar(&'static str),
@@ -69,7 +69,8 @@ fn take(alloc: Global, stack: &mut Vec<Node>, step: Step) -> Result<(), Memory> 
     Ok(())
 }
 
-// A node in short, without its places: a scalar in quotes, a sequence in brackets, a mapping in braces.
+// A node in short, without its places: a scalar in quotes, a sequence in brackets, a mapping in
+// braces.
 #[cycle(shown)]
 fn shown(alloc: Global, node: &Node) -> Result<String, Memory> {
     match &node.body {

@@ -1,5 +1,7 @@
 -- Block scalars (YAML 1.2.2, sections 8.1.1 to 8.1.3).
-use Rattle.std.specs.Prelude.{ℕ, ◌+◌, ◌-◌, max, Bool, false, ◌==◌, ◌&&◌, ◌||◌, not, nat_lt, List, [], ◌∷◌, ◌++◌, length, drop, replicate, Option, Some, None, Result, Ok, Err, if◌then◌else◌, encode_utf8_all}
+use Rattle.std.specs.Prelude.{ℕ, ◌+◌, ◌-◌, max, Bool, false, ◌==◌, ◌&&◌, ◌||◌, not, nat_lt, List}
+use Rattle.std.specs.Prelude.{[], ◌∷◌, ◌++◌, length, drop, replicate, Option, Some, None, Result}
+use Rattle.std.specs.Prelude.{Ok, Err, if◌then◌else◌, encode_utf8_all}
 use Rattle.pl_base.specs.declared.place.FileKey.{FileKey}
 use Rattle.pl_base.specs.declared.node.Node.{Node}
 use Rattle.pl_base.specs.declared.node.NodeBody.TheVariants.{Scalar}
@@ -35,7 +37,8 @@ are_indicators a b = is_digit a && is_sign b || is_sign a && is_digit b
 abbrev pub indicators : List ℕ → List ℕ
 indicators [] = []
 indicators (a ∷ []) = if is_digit a || is_sign a then a ∷ [] else []
-indicators (a ∷ (b ∷ cs)) = if are_indicators a b then a ∷ b ∷ [] else if is_digit a || is_sign a then a ∷ [] else []
+indicators (a ∷ (b ∷ cs)) = if are_indicators a b then a ∷ b ∷ [] else if is_digit a || is_sign a
+    then a ∷ [] else []
 
 abbrev pub digit : List ℕ → Option ℕ
 digit [] = None
@@ -43,10 +46,17 @@ digit (c ∷ cs) = if is_digit c then Some (c - 48) else digit cs
 
 abbrev pub chomping : List ℕ → Chomping
 chomping [] = chompings.Clip
-chomping (c ∷ cs) = if c == 45 then chompings.Strip else if c == 43 then chompings.Keep else chomping cs
+chomping (c ∷ cs) = if c == 45 then chompings.Strip else if c == 43 then chompings.Keep
+    else chomping cs
 
 abbrev pub header_with : Bool → List ℕ → Header
-header_with is_folded marks = record { folded = is_folded; digit = digit marks; chomping = chomping marks; len = 1 + length marks }
+header_with is_folded marks = record {
+  folded = is_folded;
+  digit = digit marks;
+  chomping =
+      chomping marks;
+  len = 1 + length marks;
+}
 
 -- the header that a row begins with
 abbrev pub header_of : Row → Header
@@ -61,13 +71,16 @@ first_column (row ∷ rows) = if is_bare row then first_column rows else row.col
 unfoldable pub within_column : ℕ → List Row → Result Unit Fault
 within_column column [] = Ok tt
 within_column column (row ∷ rows) =
-    if is_bare row then (if nat_lt column row.column then Err (fault_at codes_of.BadIndent row) else within_column column rows)
+    if is_bare row then (if nat_lt column row.column then Err (fault_at codes_of.BadIndent row)
+    else within_column column rows)
     else Ok tt
 
--- The column at which a block scalar's content begins, held by a block of that column. A digit counts from the block's column, at the top from
--- column 1. Without one, the first line that isn't blank tells it, where it is deeper than the block; else there is no content.
+-- The column at which a block scalar's content begins, held by a block of that column. A digit
+-- counts from the block's column, at the top from column 1. Without one, the first line that isn't
+-- blank tells it, where it is deeper than the block; else there is no content.
 abbrev pub found_column : ℕ → ℕ → List Row → Result (Option ℕ) Fault
-found_column parent column rows = if nat_lt parent column then (within_column column rows >>= λ _. Ok (Some column)) else Ok None
+found_column parent column rows = if nat_lt parent column
+    then (within_column column rows >>= λ _. Ok (Some column)) else Ok None
 
 abbrev pub content_column : ℕ → Option ℕ → List Row → Result (Option ℕ) Fault
 content_column parent (Some n) rows = Ok (Some (max parent 1 + n))
@@ -80,16 +93,22 @@ pub record TextLine : Type 0 where
 
 -- a line of the code, without where it lies in memory
 abbrev pub text_line : BlockLine → TextLine
-text_line line = record { text = replicate line.spaces 32 ++ all_of line.text; broken = line.broken }
+text_line line = record {
+  text = replicate line.spaces 32 ++ all_of line.text;
+  broken =
+      line.broken;
+}
 
--- A line of at least the content's indentation is content from that column on. Another one belongs to the scalar only if it is blank, as an empty line.
+-- A line of at least the content's indentation is content from that column on. Another one belongs
+-- to the scalar only if it is blank, as an empty line.
 abbrev pub reaches : Option ℕ → Row → Bool
 reaches None row = false
 reaches (Some column) row = not (nat_lt row.column column)
 
 abbrev pub text_from : Option ℕ → Row → List ℕ
 text_from None row = []
-text_from (Some column) row = if nat_lt row.column column then [] else replicate (row.column - column) 32 ++ row.text
+text_from (Some column) row = if nat_lt row.column column then []
+    else replicate (row.column - column) 32 ++ row.text
 
 abbrev pub line_from : Option ℕ → Row → Bool → TextLine
 line_from column row is_broken = record { text = text_from column row; broken = is_broken }
@@ -99,7 +118,8 @@ abbrev pub inside : Row → Result Unit Fault
 inside row = if is_marker row then Err (fault_at codes_of.Documents row) else line_end row
 
 abbrev pub line_before : Option ℕ → Row → Read (List TextLine) → List Row → Read (List TextLine)
-line_before column row more rows = inside row >>= λ _. more >>= λ read. Ok (line_from column row (has_row rows) ∷ read.0, read.1)
+line_before column row more rows = inside row >>= λ _. more >>=
+    λ read. Ok (line_from column row (has_row rows) ∷ read.0, read.1)
 
 -- the lines of a block scalar, up to the first other line
 unfoldable pub lines : Option ℕ → List Row → Read (List TextLine)
@@ -129,8 +149,8 @@ is_flush (c ∷ cs) = not (is_blank c)
 abbrev pub own_break : TextLine → List ℕ
 own_break line = if line.broken then 10 ∷ [] else []
 
--- The break behind the last line that isn't empty, or behind an empty line that follows it: nothing (`-`), what the file has there (`+`), or that of the last
--- line alone.
+-- The break behind the last line that isn't empty, or behind an empty line that follows it: nothing
+-- (`-`), what the file has there (`+`), or that of the last line alone.
 abbrev pub last_break : Chomping → TextLine → List ℕ
 last_break chompings.Strip line = []
 last_break chompings.Keep line = own_break line
@@ -140,10 +160,12 @@ abbrev pub begins_void : List TextLine → Bool
 begins_void [] = false
 begins_void (line ∷ after) = is_void line
 
--- The break behind a line before others, the next of which isn't empty. `>` folds it between two lines that begin with no blank: to a space, or to nothing
--- where empty lines, whose breaks stay, stand between.
+-- The break behind a line before others, the next of which isn't empty. `>` folds it between two
+-- lines that begin with no blank: to a space, or to nothing where empty lines, whose breaks stay,
+-- stand between.
 abbrev pub inner_break : Bool → TextLine → List TextLine → TextLine → List ℕ
-inner_break is_folded line after next = if is_folded && (is_flush line.text && is_flush next.text) then (if begins_void after then [] else 32 ∷ []) else 10 ∷ []
+inner_break is_folded line after next = if is_folded && (is_flush line.text && is_flush next.text)
+    then (if begins_void after then [] else 32 ∷ []) else 10 ∷ []
 
 abbrev pub break_before : Bool → Chomping → TextLine → List TextLine → Option TextLine → List ℕ
 break_before is_folded chomps line after None = last_break chomps line
@@ -152,15 +174,23 @@ break_before is_folded chomps line after (Some next) = inner_break is_folded lin
 -- the characters of a block scalar's lines
 unfoldable pub block_text : Bool → Chomping → List TextLine → List ℕ
 block_text is_folded chomps [] = []
-block_text is_folded chomps (line ∷ after) = line.text ++ (break_before is_folded chomps line after (next_line after) ++ block_text is_folded chomps after)
+block_text is_folded chomps (line ∷ after) = line.text ++
+    (break_before is_folded chomps line after (next_line after) ++
+    block_text is_folded chomps after)
 
--- the block scalar that begins at a row and is held by a block of that column, with the rows behind it
+-- the block scalar that begins at a row and is held by a block of that column, with the rows behind
+-- it
 abbrev pub scalar_with : FileKey → ℕ → Row → Header → List Row → Read Node
 scalar_with file parent row header rows =
     closed header.len row
     >>= λ _. content_column parent header.digit rows
     >>= λ column. lines column rows
-    >>= λ read. Ok (node_at file row (Scalar (encode_utf8_all (block_text header.folded header.chomping read.0))), read.1)
+    >>=
+    λ read. Ok (
+      node_at file row
+          (Scalar (encode_utf8_all (block_text header.folded header.chomping read.0))),
+      read.1,
+    )
 
 unfoldable pub block : FileKey → ℕ → Row → List Row → Read Node
 block file parent row rows = scalar_with file parent row (header_of row) rows

@@ -1,5 +1,6 @@
 -- What begins on a line (YAML 1.2.2, sections 5.3, 7.3.3, 8.2.1, 8.2.2, 9.1.2 and 9.1.4).
-use Rattle.std.specs.Prelude.{ℕ, ◌+◌, Bool, false, ◌==◌, ◌&&◌, ◌||◌, nat_eq, List, [], ◌∷◌, length, drop, if◌then◌else◌, codes}
+use Rattle.std.specs.Prelude.{ℕ, ◌+◌, Bool, false, ◌==◌, ◌&&◌, ◌||◌, nat_eq, List, [], ◌∷◌, length}
+use Rattle.std.specs.Prelude.{drop, if◌then◌else◌, codes}
 use Rattle.std.specs.List.{starts_with}
 use Rattle.pl_line.specs.declared.code.YamlCode.{YamlCode}
 use Rattle.pl_line.specs.declared.code.YamlCode.TheVariants as codes_of
@@ -12,7 +13,8 @@ use Rattle.pl_yaml.specs.declared.head.Head.TheVariants as heads
 
 -- a word of three characters at column 1
 abbrev pub is_word : List ℕ → Row → Bool
-is_word word row = starts_with nat_eq row.text word && (row.column == 1 && ends_word row.whole (drop (length word) row.text))
+is_word word row = starts_with nat_eq row.text word &&
+    (row.column == 1 && ends_word row.whole (drop (length word) row.text))
 
 abbrev pub is_marker : Row → Bool
 is_marker row = is_word (codes "---") row || is_word (codes "...") row

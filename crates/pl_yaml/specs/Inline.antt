@@ -19,7 +19,8 @@ use Rattle.pl_yaml.specs.Content.{closed}
 use Rattle.pl_yaml.specs.Plain.{word}
 use Rattle.pl_yaml.specs.BlockScalars.{block}
 
--- a quoted scalar or a flow collection that takes so many characters, behind which its line has no content
+-- a quoted scalar or a flow collection that takes so many characters, behind which its line has no
+-- content
 abbrev pub quoted_node : FileKey → Row → List ℕ × ℕ → Result Node Fault
 quoted_node file row read = closed read.1 row >>= λ _. Ok (node_at file row (Scalar read.0))
 
@@ -30,12 +31,15 @@ flow_node row read = closed read.1 row >>= λ _. Ok read.0
 abbrev pub with_left : List Row → Result Node Fault → Read Node
 with_left rows read = read >>= λ made. Ok (made, rows)
 
--- A value on the line of its key or dash, held by a block of that column; so many collections may still open. No block collection begins there.
+-- A value on the line of its key or dash, held by a block of that column; so many collections may
+-- still open. No block collection begins there.
 abbrev pub inline_by : FileKey → ℕ → ℕ → Row → Head → List Row → Read Node
 inline_by file depth parent row (heads.Word n) rows = word file parent row n rows
 inline_by file depth parent row heads.Block rows = block file parent row rows
-inline_by file depth parent row heads.Quote rows = with_left rows (quoted row >>= quoted_node file row)
-inline_by file depth parent row heads.Flow rows = with_left rows (flow file depth row >>= flow_node row)
+inline_by file depth parent row heads.Quote rows =
+    with_left rows (quoted row >>= quoted_node file row)
+inline_by file depth parent row heads.Flow rows = with_left rows (flow file depth row >>=
+    flow_node row)
 inline_by file depth parent row (heads.Key n) rows = Err (fault_behind codes_of.NoEntry n row)
 inline_by file depth parent row head rows = Err (fault_at (refusal_inline head) row)
 

@@ -1,5 +1,6 @@
 -- Keys of block mappings (YAML 1.2.2, sections 7.4.2, 7.4.3 and 8.2.2).
-use Rattle.std.specs.Prelude.{ℕ, ◌+◌, Bool, false, ◌==◌, ◌&&◌, nat_lt, List, [], ◌∷◌, Option, Some, None, Result, Ok, Err, if◌then◌else◌}
+use Rattle.std.specs.Prelude.{ℕ, ◌+◌, Bool, false, ◌==◌, ◌&&◌, nat_lt, List, [], ◌∷◌, Option, Some}
+use Rattle.std.specs.Prelude.{None, Result, Ok, Err, if◌then◌else◌}
 use Rattle.pl_base.specs.declared.place.FileKey.{FileKey}
 use Rattle.pl_line.specs.declared.code.YamlCode.TheVariants as codes_of
 use Rattle.pl_line.specs.declared.line_fault.Fault.{Fault}
@@ -44,15 +45,18 @@ plain_key row n = record { start = row; text = plain n row; left = behind (n + 1
 -- a quoted scalar of so many characters, behind which a `:` must stand
 abbrev pub quoted_key : Row → List ℕ × ℕ → Result FoundKey Fault
 quoted_key row read =
-    if is_colon (behind read.1 row) then Ok (record { start = row; text = read.0; left = behind 1 (behind read.1 row) })
+    if is_colon (behind read.1 row)
+    then Ok (record { start = row; text = read.0; left = behind 1 (behind read.1 row) })
     else Err (fault_at codes_of.NoEntry (behind read.1 row))
 
 abbrev pub in_quotes : Row → Result FoundKey Fault
 in_quotes row = quoted row >>= quoted_key row
 
--- what follows a flow collection in a key's place: with a `:` it is a key, of a kind that isn't read
+-- what follows a flow collection in a key's place: with a `:` it is a key, of a kind that isn't
+-- read
 abbrev pub no_key : Row → Fault
-no_key row = fault_at (if begins_with 58 row.text then codes_of.ComplexKey else codes_of.NoEntry) row
+no_key row = fault_at (if begins_with 58 row.text then codes_of.ComplexKey else codes_of.NoEntry)
+    row
 
 -- the key that begins at a row; so many collections may still open
 abbrev pub key_by : FileKey → ℕ → Row → Head → Result FoundKey Fault

@@ -1,5 +1,6 @@
 -- What a text spells (YAML 1.2.2, in the profile of docs).
-use Rattle.std.specs.Prelude.{◌≡◌, ℕ, false, not, nat_lt, List, [], ◌∷◌, length, Result, Ok, Err, if◌then◌else◌, chars}
+use Rattle.std.specs.Prelude.{◌≡◌, ℕ, false, not, nat_lt, List, [], ◌∷◌, length, Result, Ok, Err}
+use Rattle.std.specs.Prelude.{if◌then◌else◌, chars}
 use Rattle.std.specs.Str.{is_utf8}
 use Rattle.pl_base.specs.declared.place.FileKey.{FileKey}
 use Rattle.pl_base.specs.declared.place.Place.{Place}
@@ -28,7 +29,8 @@ nothing_left (row ∷ rows) = Err (fault_at codes_of.BadIndent row)
 
 -- the node of a text's rows
 unfoldable pub document : FileKey → List Row → Result Node Fault
-document file rows = lead rows >>= λ left. node file 64 whole_text left >>= λ read. content read.1 >>= λ rest. nothing_left rest >>= λ _. Ok read.0
+document file rows = lead rows >>= λ left. node file 64 whole_text left >>=
+    λ read. content read.1 >>= λ rest. nothing_left rest >>= λ _. Ok read.0
 
 -- a refusal at a place of the file
 abbrev pub refused : FileKey → YamlCode → ℕ → ℕ → Result Node (YamlCode × Place)
@@ -38,7 +40,8 @@ abbrev pub placed : FileKey → Result Node Fault → Result Node (YamlCode × P
 placed file (Ok node) = Ok node
 placed file (Err fault) = refused file fault.code fault.line fault.column
 
--- The node that a text spells, or the first fault and its place. At most 262,144 bytes, which are UTF-8.
+-- The node that a text spells, or the first fault and its place. At most 262,144 bytes, which are
+-- UTF-8.
 unfoldable pub spells : FileKey → List ℕ → Result Node (YamlCode × Place)
 spells file text =
     if nat_lt 262144 (length text) then refused file codes_of.TooLarge 1 1

@@ -1,5 +1,6 @@
 -- Block collections whose values are being read: what is read from there on.
-use Rattle.std.specs.Prelude.{◌≡◌, ℕ, ◌+◌, ◌<◌, ◌≤◌, List, [], ◌∷◌, ◌++◌, Option, Some, None, Result, Ok, Err}
+use Rattle.std.specs.Prelude.{◌≡◌, ℕ, ◌+◌, ◌<◌, ◌≤◌, List, [], ◌∷◌, ◌++◌, Option, Some, None}
+use Rattle.std.specs.Prelude.{Result, Ok, Err}
 use Rattle.pl_base.specs.declared.place.FileKey.{FileKey}
 use Rattle.pl_base.specs.declared.node.Node.{Node}
 use Rattle.pl_base.specs.declared.node.NodeBody.{NodeBody}
@@ -22,7 +23,7 @@ use Rattle.pl_yaml.specs.declared.stack.Open.TheVariants as opens
 use Rattle.pl_yaml.specs.declared.stack.Sequence.{Sequence}
 use Rattle.pl_yaml.specs.declared.stack.Start.{Start}
 use Rattle.pl_yaml.specs.Reading.{Read}
-use Rattle.pl_yaml.specs.Nodes.{Values, values_at, node, items, pairs}
+use Rattle.pl_yaml.specs.Nodes.{values_at, node, item, items, pairs}
 
 -- where a row's column is, and a node that begins there
 abbrev pub start_of : Row → Start
@@ -37,18 +38,21 @@ made file (opens.Sequence s) = node_from file s.start (Seq s.items)
 made file (opens.Mapping m) = node_from file m.start (Map m.pairs.pairs)
 
 -- a collection's node, where these entries were read and so many more may follow
-abbrev pub items_from : FileKey → Values → ℕ → Start → ℕ → List Node → List Row → Read Node
-items_from file values parent start turns before rows =
-    items file values parent start.column turns before rows >>= λ read. Ok (node_from file start (Seq read.0), read.1)
+abbrev pub items_from : FileKey → Sequence → ℕ → List Node → List Row → Read Node
+items_from file s turns before rows =
+    items (item file (values_at file s.depth)) s.parent s.start.column turns before rows
+    >>= λ read. Ok (node_from file s.start (Seq read.0), read.1)
 
-abbrev pub pairs_from : FileKey → Values → Start → ℕ → List NodePair → List Row → Read Node
-pairs_from file values start turns before rows = pairs file values start.column turns before rows >>= λ read. Ok (node_from file start (Map read.0), read.1)
+abbrev pub pairs_from : FileKey → Mapping → ℕ → List NodePair → List Row → Read Node
+pairs_from file m turns before rows =
+    pairs file (values_at file m.depth) m.start.column turns before rows
+    >>= λ read. Ok (node_from file m.start (Map read.0), read.1)
 
 abbrev pub in_sequence : FileKey → ℕ → Sequence → List Row → Read Node
-in_sequence file turns s rows = items_from file (values_at file s.depth) s.parent s.start turns s.items rows
+in_sequence file turns s rows = items_from file s turns s.items rows
 
 abbrev pub in_mapping : FileKey → ℕ → Mapping → List Row → Read Node
-in_mapping file turns m rows = pairs_from file (values_at file m.depth) m.start turns m.pairs.pairs rows
+in_mapping file turns m rows = pairs_from file m turns m.pairs.pairs rows
 
 abbrev pub in_open : FileKey → ℕ → Open → List Row → Read Node
 in_open file turns (opens.Sequence s) rows = in_sequence file turns s rows
@@ -56,11 +60,13 @@ in_open file turns (opens.Mapping m) rows = in_mapping file turns m rows
 
 -- the same behind the value of its last entry
 abbrev pub with_item : FileKey → Mapping → Node → List NodePair
-with_item file m item = m.pairs.pairs ++ record { key = m.key; key_place = place_at file m.key_start.line m.key_start.column; item = item } ∷ []
+with_item file m item =
+    let place = place_at file m.key_start.line m.key_start.column in
+    m.pairs.pairs ++ record { key = m.key; key_place = place; item = item } ∷ []
 
 abbrev pub into : FileKey → ℕ → Open → Node × List Row → Read Node
-into file turns (opens.Sequence s) read = items_from file (values_at file s.depth) s.parent s.start turns (s.items ++ read.0 ∷ []) read.1
-into file turns (opens.Mapping m) read = pairs_from file (values_at file m.depth) m.start turns (with_item file m read.0) read.1
+into file turns (opens.Sequence s) read = items_from file s turns (s.items ++ read.0 ∷ []) read.1
+into file turns (opens.Mapping m) read = pairs_from file m turns (with_item file m read.0) read.1
 
 -- an entry's value, and a key's pair
 abbrev pub found : FileKey → Found → List Row → Read Node
@@ -75,7 +81,8 @@ abbrev pub begins : FileKey → Begun → List Row → Read Node
 begins file (Made item) rows = Ok (item, rows)
 begins file (Opened begun) rows = in_open file (size rows + 1) begun rows
 
--- what is read on from a collection that has gone to its next entry, with what was found there of its value
+-- what is read on from a collection that has gone to its next entry, with what was found there of
+-- its value
 abbrev pub goes : FileKey → ℕ → Open → Option Found → List Row → Read Node
 goes file turns begun None rows = Ok (made file begun, rows)
 goes file turns begun (Some value) rows = found file value rows >>= into file turns begun
@@ -90,8 +97,9 @@ abbrev pub Falls : Option Found → List Row → List Row → Type 0
 Falls None before rows = size rows ≤ size before
 Falls (Some value) before rows = size rows < size before
 
--- When a node was read for the innermost of the collections that wait, which come first, this is the whole. Each has more turns than lines and characters are
--- left.
+-- When a node was read for the innermost of the collections that wait, which come first, this is
+-- the whole. Each has more turns than lines and characters are left.
 abbrev pub Resumes : FileKey → ℕ → List Open → Read Node → Read Node → Type 0
 Resumes file left [] read whole = read ≡ whole
-Resumes file left (begun ∷ others) read whole = (turns : ℕ) × (left < turns) × Resumes file left others (read >>= into file turns begun) whole
+Resumes file left (begun ∷ others) read whole = (turns : ℕ) × (left < turns) ×
+    Resumes file left others (read >>= into file turns begun) whole

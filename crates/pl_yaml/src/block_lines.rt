@@ -8,8 +8,8 @@ use crate::reader::Reader;
 use pl_line::Line;
 use std::marker::Model;
 
-/// The lines of a block scalar that are still to be looked at: so many, whose content begins at that
-/// column.
+/// The lines of a block scalar that are still to be looked at: so many, whose content begins at
+/// that column.
 #[derive(Drop)]
 pub(crate) struct BlockLines<'t> {
     column: Option<u64>,
@@ -55,7 +55,8 @@ impl<'t> BlockLines<'t> {
     /// The first line, or None where no line is left.
     #[tactic(auto, using(crate::proofs::Laws::BlockScalars::seen))]
     pub(crate) fn first(&self) -> Option<BlockLine<'t>>
-        ensures { MatchOption result (self.now ≡ []) (λ line. self.now ≡ spec.text_line line ∷ drop 1 self.now) }
+        ensures { MatchOption result (self.now ≡ []) (λ line. self.now ≡ spec.text_line line ∷
+            drop 1 self.now) }
     {
         if self.left == 0 {
             return None;
@@ -67,7 +68,8 @@ impl<'t> BlockLines<'t> {
     /// Takes the first line off, or None where no line is left.
     #[tactic(auto, using(crate::proofs::Laws::BlockScalars::taken))]
     pub(crate) fn next(&mut self) -> Option<BlockLine<'t>>
-        ensures { MatchOption result ((self.old ≡ []) × (self.new ≡ [])) (λ line. self.old ≡ spec.text_line line ∷ self.new) }
+        ensures { MatchOption result ((self.old ≡ []) × (self.new ≡ [])) (λ line. self.old ≡
+            spec.text_line line ∷ self.new) }
     {
         if self.left == 0 {
             return None;

@@ -102,7 +102,8 @@ fn one_more(count: usize) -> Result<usize, Memory>
 /// Reads the lines of a block scalar, up to the first other line, and counts them.
 #[tactic(auto, unfolding(crate::specs::BlockScalars::lines))]
 fn lines(column: Option<u64>, reader: &mut Reader) -> Result<usize, ReadFault>
-    ensures gives { Gives (λ count. (take count (spec.text_lines column reader.old), reader.new)) result (spec.lines column reader.old) }
+    ensures gives { Gives (λ count. (take count (spec.text_lines column reader.old), reader.new))
+        result (spec.lines column reader.old) }
     ensures falls { OnOk result (size reader.new ≤ size reader.old) }
     ensures within { IfOk result (λ count. count ≤ length reader.old) }
 {
@@ -129,7 +130,8 @@ pub(crate) fn block(
     reader: &mut Reader,
 ) -> Result<Node, ReadFault>
     requires { 1 ≤ length (all_of line.now.text) }
-    ensures gives { Gives (λ node. (node, reader.new)) result (spec.block file.now parent (row line.now) reader.old) }
+    ensures gives { Gives (λ node. (node, reader.new)) result
+        (spec.block file.now parent (row line.now) reader.old) }
     ensures falls { OnOk result (size reader.new ≤ size reader.old) }
 {
     let header = header_of(line);

@@ -1,4 +1,5 @@
-ghost use Rattle.std.specs.Prelude.{◌≡◌, ◌++◌, ◌∷◌, OnOk, IfOk, encode_utf8_all, string_bytes, option_to_list};
+ghost use Rattle.std.specs.Prelude.{◌≡◌, ◌++◌, ◌∷◌, OnOk, IfOk, encode_utf8_all, string_bytes};
+ghost use Rattle.std.specs.Prelude.{option_to_list};
 ghost use Rattle.std.specs.Option.{option_map};
 ghost use Rattle.pl_yaml.specs.BlockScalars as spec;
 
@@ -58,7 +59,8 @@ fn next_behind<'t>(
     line: &BlockLine<'t>,
     after: &BlockLines<'t>,
 ) -> Option<BlockLine<'t>>
-    requires { option_map spec.text_line next ≡ spec.next_line (spec.text_line line.now ∷ after.now) }
+    requires { option_map spec.text_line next
+        ≡ spec.next_line (spec.text_line line.now ∷ after.now) }
     ensures { option_map spec.text_line result ≡ spec.next_line after.now }
 {
     if is_void(line) {
@@ -82,7 +84,8 @@ fn last_break(chomping: Chomping, line: &BlockLine) -> Option<char>
 
 /// The break behind a line before others, the next of which isn't empty.
 fn inner_break(folded: bool, line: &BlockLine, after: &BlockLines, next: &BlockLine) -> Option<char>
-    ensures { option_to_list result ≡ spec.inner_break folded (spec.text_line line.now) after.now (spec.text_line next.now) }
+    ensures { option_to_list result ≡ spec.inner_break folded (spec.text_line line.now) after.now
+        (spec.text_line next.now) }
 {
     if !folded || !is_flush(line) || !is_flush(next) {
         return Some('\n');
@@ -101,7 +104,8 @@ fn break_before(
     after: &BlockLines,
     next: Option<BlockLine>,
 ) -> Option<char>
-    ensures { option_to_list result ≡ spec.break_before folded chomping (spec.text_line line.now) after.now (option_map spec.text_line next.entry) }
+    ensures { option_to_list result ≡ spec.break_before folded chomping (spec.text_line line.now)
+        after.now (option_map spec.text_line next.entry) }
 {
     match next {
         Some(next) => inner_break(folded, line, after, &next),
@@ -112,7 +116,8 @@ fn break_before(
 /// Adds a line to a text.
 #[tactic(auto, using(crate::proofs::Laws::BlockScalars::pushed))]
 fn push_line(text: &mut String, line: &BlockLine) -> Result<(), AllocError>
-    ensures { OnOk result (string_bytes text.new ≡ string_bytes text.old ++ encode_utf8_all (spec.text_line line.now).text) }
+    ensures { OnOk result (string_bytes text.new ≡ string_bytes text.old ++
+        encode_utf8_all (spec.text_line line.now).text) }
 {
     push_times(text, ' ', line.spaces)?;
     push_all(text, line.text)
@@ -120,7 +125,8 @@ fn push_line(text: &mut String, line: &BlockLine) -> Result<(), AllocError>
 
 /// Adds a break to a text, where there is one.
 fn push_break(text: &mut String, end: Option<char>) -> Result<(), AllocError>
-    ensures { OnOk result (string_bytes text.new ≡ string_bytes text.old ++ encode_utf8_all (option_to_list end)) }
+    ensures { OnOk result (string_bytes text.new ≡ string_bytes text.old ++
+        encode_utf8_all (option_to_list end)) }
 {
     match end {
         Some(end) => push_times(text, end, 1),
@@ -136,7 +142,8 @@ pub(crate) fn block_text(
     chomping: Chomping,
     lines: BlockLines,
 ) -> Result<Text, Memory>
-    ensures { IfOk result (λ text. text ≡ encode_utf8_all (spec.block_text folded chomping lines.entry)) }
+    ensures { IfOk result (λ text. text ≡
+        encode_utf8_all (spec.block_text folded chomping lines.entry)) }
 {
     let mut text = String::new(alloc);
     let mut after = lines;

@@ -40,7 +40,8 @@ const WHOLE_TEXT: Slot = Slot {
 /// - TabIndent: a tab before a line's content, at the tab;
 /// - Anchor, Tag: a node begins with `&` or `*`, with `!`;
 /// - ComplexKey: `? ` where an entry begins, or a flow collection as a key, at its `:`;
-/// - Documents: `---` or `...` at column 1 before a blank or the line's end, unless it is a `---` alone
+/// - Documents: `---` or `...` at column 1 before a blank or the line's end, unless it is a `---`
+///   alone
 ///   on its line before any content, which is skipped; or `%` at column 1 before any content;
 /// - BadIndent: a line whose indentation fits no entry and continues nothing, at its content; a
 ///   blank line longer than the content of a block scalar that it begins;
@@ -50,13 +51,13 @@ const WHOLE_TEXT: Slot = Slot {
 ///   `${{`;
 /// - TooDeep: a collection with which more than 64 are open, where it begins;
 /// - TooLarge: more than 262,144 bytes, before all others, at line 1, column 1;
-/// - NoEntry: anything else that can't stand where it does, a control character among them, and `? `
+/// - NoEntry: anything else that can't stand where it does, a control character among them, and `?
+///   `
 ///   at an entry of a flow sequence. So is the `{` of `[${{ x }}]`, since a plain scalar in a flow
 ///   collection ends before `{`: such an expression is written in quotes, or in a block sequence.
-///
-/// The text is read from its bytes, line by line. Block collections that wait for a value stand on a
-/// stack of at most 64. Memory is taken for the node, for that stack, and for the keys of mappings
-/// with more than eight pairs; Memory is answered where a growth is refused.
+///  The text is read from its bytes, line by line. Block collections that wait for a value stand on
+/// a stack of at most 64. Memory is taken for the node, for that stack, and for the keys of
+/// mappings with more than eight pairs; Memory is answered where a growth is refused.
 pub fn read(alloc: Global, text: &[u8], file: &FileKey) -> Result<Node, YamlFault>
     ensures { spec.Reads file.now text.now result }
 {

@@ -30,9 +30,11 @@ fn next_item<'t>(
     column: u32,
     reader: &mut Reader<'t>,
 ) -> Result<Option<Line<'t>>, ReadFault>
-    ensures gives { Gives (λ found. (option_map row found, reader.new)) result (spec.next_item parent column reader.old) }
+    ensures gives { Gives (λ found. (option_map row found, reader.new)) result
+        (spec.next_item parent column reader.old) }
     ensures falls { OnOk result (size reader.new ≤ size reader.old) }
-    ensures first { IfOk result (λ found. IfSome found (λ line. IsFirst (row line) reader.new × (1 ≤ length (all_of line.text)))) }
+    ensures first { IfOk result (λ found. IfSome found (λ line. IsFirst (row line) reader.new ×
+        (1 ≤ length (all_of line.text)))) }
 {
     to_content(reader)?;
     let Some(line) = reader.first() else {
@@ -83,7 +85,8 @@ fn value(
     line: &Line,
     reader: &mut Reader,
 ) -> Result<Found, ReadFault>
-    ensures gives { Leads (λ found. stack.found file.now found reader.new) result (spec.value file.now (spec.values_at file.now depth) slot (row line.now) reader.old) }
+    ensures gives { Leads (λ found. stack.found file.now found reader.new) result
+        (spec.value file.now (spec.values_at file.now depth) slot (row line.now) reader.old) }
     ensures falls { OnOk result (size reader.new ≤ size reader.old) }
 {
     if is_done(line) {
@@ -105,7 +108,8 @@ fn item<'t>(
 ) -> Result<Found, ReadFault>
     requires first { IsFirst (row line.now) reader.old }
     requires dash { 1 ≤ length (all_of line.now.text) }
-    ensures gives { Leads (λ found. stack.found file.now found reader.new) result (spec.item file.now (spec.values_at file.now depth) (row line.now) reader.old) }
+    ensures gives { Leads (λ found. stack.found file.now found reader.new) result
+        (spec.item file.now (spec.values_at file.now depth) (row line.now) reader.old) }
     ensures falls { OnOk result (size reader.new < size reader.old) }
 {
     let rest = behind(line, 1);
@@ -128,7 +132,10 @@ fn pair(
     reader: &mut Reader,
 ) -> Result<Found, ReadFault>
     requires { IsFirst (row key.now.start) reader.old }
-    ensures gives { Leads (λ found. stack.paired file.now key.now (stack.found file.now found reader.new)) result (spec.pair file.now (spec.values_at file.now depth) before.now.pairs (found_key key.now) reader.old) }
+    ensures gives { Leads (λ found. stack.paired file.now key.now
+        (stack.found file.now found reader.new)) result
+        (spec.pair file.now (spec.values_at file.now depth) before.now.pairs (found_key key.now)
+        reader.old) }
     ensures falls { OnOk result (size reader.new < size reader.old) }
 {
     if before.is_doubled(&key.text) {
@@ -146,7 +153,9 @@ fn next_of_sequence(
     sequence: &Sequence,
     reader: &mut Reader,
 ) -> Result<Option<Found>, ReadFault>
-    ensures gives { (turns : ℕ) → 0 < turns → Leads (λ next. stack.goes file.now (turns - 1) (opens.Sequence sequence.now) next reader.new) result (stack.in_sequence file.now turns sequence.now reader.old) }
+    ensures gives { (turns : ℕ) → 0 < turns →
+        Leads (λ next. stack.goes file.now (turns - 1) (opens.Sequence sequence.now) next
+        reader.new) result (stack.in_sequence file.now turns sequence.now reader.old) }
     ensures falls { IfOk result (λ next. stack.Falls next reader.old reader.new) }
 {
     let Some(line) = next_item(sequence.parent, sequence.start.column, reader)? else {
@@ -163,7 +172,9 @@ fn next_of_mapping(
     mapping: &mut Mapping,
     reader: &mut Reader,
 ) -> Result<Option<Found>, ReadFault>
-    ensures gives { (turns : ℕ) → 0 < turns → Leads (λ next. stack.goes file.now (turns - 1) (opens.Mapping mapping.new) next reader.new) result (stack.in_mapping file.now turns mapping.old reader.old) }
+    ensures gives { (turns : ℕ) → 0 < turns →
+        Leads (λ next. stack.goes file.now (turns - 1) (opens.Mapping mapping.new) next reader.new)
+        result (stack.in_mapping file.now turns mapping.old reader.old) }
     ensures falls { IfOk result (λ next. stack.Falls next reader.old reader.new) }
 {
     let depth = mapping.depth;
@@ -177,15 +188,17 @@ fn next_of_mapping(
 }
 
 impl Open {
-    /// Goes to the next entry, and reads its value if that stands on the entry's line; None where no
-    /// more follow.
+    /// Goes to the next entry, and reads its value if that stands on the entry's line; None where
+    /// no more follow.
     pub(crate) fn next(
         &mut self,
         alloc: Global,
         file: &Shared<FileKey>,
         reader: &mut Reader,
     ) -> Result<Option<Found>, ReadFault>
-        ensures gives { (turns : ℕ) → 0 < turns → Leads (λ next. stack.goes file.now (turns - 1) self.new next reader.new) result (stack.in_open file.now turns self.old reader.old) }
+        ensures gives { (turns : ℕ) → 0 < turns →
+            Leads (λ next. stack.goes file.now (turns - 1) self.new next reader.new) result
+            (stack.in_open file.now turns self.old reader.old) }
         ensures falls { IfOk result (λ next. stack.Falls next reader.old reader.new) }
     {
         match self {

@@ -23,7 +23,8 @@ pub(crate) fn quoted_node(
     read: Quoted,
 ) -> Result<Node, ReadFault>
     requires { read.len ≤ length (all_of line.now.text) }
-    ensures { Gives (λ node. node) result (spec.quoted_node file.now (row line.now) (read.text, read.len)) }
+    ensures { Gives (λ node. node) result (spec.quoted_node file.now (row line.now)
+        (read.text, read.len)) }
 {
     closed(line, read.len)?;
     let body = NodeBody::Scalar(read.text);
@@ -51,7 +52,8 @@ pub(crate) fn inline(
     line: &Line,
     reader: &mut Reader,
 ) -> Result<Node, ReadFault>
-    ensures gives { Gives (λ node. (node, reader.new)) result (spec.inline file.now depth parent (row line.now) reader.old) }
+    ensures gives { Gives (λ node. (node, reader.new)) result
+        (spec.inline file.now depth parent (row line.now) reader.old) }
     ensures falls { OnOk result (size reader.new ≤ size reader.old) }
 {
     match head_of(line) {

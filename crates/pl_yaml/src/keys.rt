@@ -79,7 +79,8 @@ fn key_at<'t>(
     depth: u32,
     line: &Line<'t>,
 ) -> Result<Key<'t>, ReadFault>
-    ensures gives { Gives spec.found_key result (spec.key_by file.now depth (row line.now) (head_of (row line.now))) }
+    ensures gives { Gives spec.found_key result (spec.key_by file.now depth (row line.now)
+        (head_of (row line.now))) }
     ensures start { IfOk result (λ key. row key.start ≡ row line.now) }
 {
     match head_of(line) {
@@ -103,9 +104,11 @@ pub(crate) fn next_key<'t>(
     column: u32,
     reader: &mut Reader<'t>,
 ) -> Result<Option<Key<'t>>, ReadFault>
-    ensures gives { Gives (λ found. (option_map spec.found_key found, reader.new)) result (spec.next_key file.now depth column reader.old) }
+    ensures gives { Gives (λ found. (option_map spec.found_key found, reader.new)) result
+        (spec.next_key file.now depth column reader.old) }
     ensures falls { OnOk result (size reader.new ≤ size reader.old) }
-    ensures first { IfOk result (λ found. IfSome found (λ key. IsFirst (row key.start) reader.new)) }
+    ensures first { IfOk result
+        (λ found. IfSome found (λ key. IsFirst (row key.start) reader.new)) }
 {
     to_content(reader)?;
     let Some(line) = reader.first() else {

@@ -43,7 +43,9 @@ fn empty(alloc: Global, file: &Shared<FileKey>, slot: Slot) -> Result<Node, Memo
 
 /// The sequence that begins at a line, where so many collections may still open.
 fn sequence(alloc: Global, depth: u32, parent: u32, line: &Line) -> Result<Open, ReadFault>
-    ensures { (file : file_key) (rows : list Row) → Leads (λ begun. stack.in_open file (size rows + 1) begun rows) result (spec.sequence file (spec.inner file depth) parent (row line.now) rows) }
+    ensures { (file : file_key) (rows : list Row) →
+        Leads (λ begun. stack.in_open file (size rows + 1) begun rows) result
+        (spec.sequence file (spec.inner file depth) parent (row line.now) rows) }
 {
     if depth == 0 {
         return Err(fault_at(YamlCode::TooDeep, line));
@@ -58,7 +60,9 @@ fn sequence(alloc: Global, depth: u32, parent: u32, line: &Line) -> Result<Open,
 
 /// The mapping that begins at a line, where so many collections may still open.
 fn mapping(alloc: Global, depth: u32, line: &Line) -> Result<Open, ReadFault>
-    ensures { (file : file_key) (rows : list Row) → Leads (λ begun. stack.in_open file (size rows + 1) begun rows) result (spec.mapping file (spec.inner file depth) (row line.now) rows) }
+    ensures { (file : file_key) (rows : list Row) →
+        Leads (λ begun. stack.in_open file (size rows + 1) begun rows) result
+        (spec.mapping file (spec.inner file depth) (row line.now) rows) }
 {
     if depth == 0 {
         return Err(fault_at(YamlCode::TooDeep, line));
@@ -81,7 +85,8 @@ fn begun_quoted(
     line: &Line,
     reader: &mut Reader,
 ) -> Result<Begun, ReadFault>
-    ensures gives { Leads (λ begun. stack.begins file.now begun reader.new) result (spec.in_quotes file.now (spec.inner file.now depth) (row line.now) reader.old) }
+    ensures gives { Leads (λ begun. stack.begins file.now begun reader.new) result
+        (spec.in_quotes file.now (spec.inner file.now depth) (row line.now) reader.old) }
     ensures falls { OnOk result (size reader.new ≤ size reader.old) }
 {
     let read = quoted(alloc, line)?;
@@ -121,7 +126,8 @@ fn begun(
     line: &Line,
     reader: &mut Reader,
 ) -> Result<Begun, ReadFault>
-    ensures gives { Leads (λ begun. stack.begins file.now begun reader.new) result (spec.begun file.now depth (spec.inner file.now depth) parent (row line.now) reader.old) }
+    ensures gives { Leads (λ begun. stack.begins file.now begun reader.new) result
+        (spec.begun file.now depth (spec.inner file.now depth) parent (row line.now) reader.old) }
     ensures falls { OnOk result (size reader.new ≤ size reader.old) }
 {
     match head_of(line) {
@@ -156,7 +162,8 @@ fn begin(
     slot: Slot,
     reader: &mut Reader,
 ) -> Result<Begun, ReadFault>
-    ensures gives { Leads (λ begun. stack.begins file.now begun reader.new) result (spec.node file.now depth slot reader.old) }
+    ensures gives { Leads (λ begun. stack.begins file.now begun reader.new) result
+        (spec.node file.now depth slot reader.old) }
     ensures falls { OnOk result (size reader.new ≤ size reader.old) }
 {
     to_content(reader)?;
@@ -169,10 +176,12 @@ fn begin(
     begun(alloc, file, depth, slot.parent, &line, reader)
 }
 
-/// Makes the node of the collection that ended, and goes on with the one that waits for it, which has
-/// it behind its entries.
+/// Makes the node of the collection that ended, and goes on with the one that waits for it, which
+/// has it behind its entries.
 fn close(alloc: Global, file: &Shared<FileKey>, top: &mut Open, waiting: Open) -> Result<(), Memory>
-    ensures { OnOk result ((turns : ℕ) (rows : list Row) → stack.in_open file.now turns top.new rows ≡ stack.into file.now turns waiting (stack.made file.now top.old, rows)) }
+    ensures { OnOk result ((turns : ℕ) (rows : list Row) →
+        stack.in_open file.now turns top.new rows ≡ stack.into file.now turns waiting
+        (stack.made file.now top.old, rows)) }
 {
     let done = mem::replace(top, waiting);
     let node = done.into_node(alloc, file)?;
@@ -180,17 +189,17 @@ fn close(alloc: Global, file: &Shared<FileKey>, top: &mut Open, waiting: Open) -
 }
 
 /// Reads the entries of a collection that has begun, and makes its node.
-///
-/// Collections in one another are read by one loop. Those that wait for a value stand on a stack, the
-/// innermost on top: a collection is put there when a value of it has begun on later lines, and taken
-/// off when that value was read.
+///  Collections in one another are read by one loop. Those that wait for a value stand on a stack,
+/// the innermost on top: a collection is put there when a value of it has begun on later lines, and
+/// taken off when that value was read.
 fn entries(
     alloc: Global,
     file: &Shared<FileKey>,
     begun: Open,
     reader: &mut Reader,
 ) -> Result<Node, ReadFault>
-    ensures { Gives (λ node. (node, reader.new)) result (stack.in_open file.now (size reader.old + 1) begun reader.old) }
+    ensures { Gives (λ node. (node, reader.new)) result
+        (stack.in_open file.now (size reader.old + 1) begun reader.old) }
 {
     let mut top = begun;
     let mut outer = ItemList::new(alloc);

@@ -46,7 +46,8 @@ impl<'t> Reader<'t> {
 
     /// What is left of the line that is read next, or None where no line is left.
     pub(crate) fn first(&self) -> Option<Line<'t>>
-        ensures { MatchOption result (self.now ≡ []) (λ line. self.now ≡ row line ∷ drop 1 self.now) }
+        ensures { MatchOption result (self.now ≡ [])
+            (λ line. self.now ≡ row line ∷ drop 1 self.now) }
     {
         self.current
     }

@@ -1,4 +1,5 @@
-ghost use Rattle.std.specs.Prelude.{◌≡◌, ◌≤◌, ◌-◌, ◌++◌, length, IfOk, OnOk, encode_utf8_all, string_bytes};
+ghost use Rattle.std.specs.Prelude.{◌≡◌, ◌≤◌, ◌-◌, ◌++◌, length, IfOk, OnOk, encode_utf8_all};
+ghost use Rattle.std.specs.Prelude.{string_bytes};
 ghost use Rattle.pl_line.specs.Characters.{all_of};
 ghost use Rattle.pl_line.specs.Rows.{row, size};
 ghost use Rattle.pl_line.specs.Reading.{Gives};
@@ -17,7 +18,8 @@ use std::alloc::{AllocError, Global};
 /// Adds the first so many of a line's characters to a text, without the blanks behind them.
 pub(crate) fn push_part(text: &mut String, len: usize, line: &Line) -> Result<(), AllocError>
     requires { len ≤ length (all_of line.now.text) }
-    ensures { OnOk result (string_bytes text.new ≡ string_bytes text.old ++ encode_utf8_all (spec.part len (row line.now))) }
+    ensures { OnOk result (string_bytes text.new ≡ string_bytes text.old ++
+        encode_utf8_all (spec.part len (row line.now))) }
 {
     text.push_str(content(line.text, len))
 }
@@ -37,7 +39,8 @@ fn continued(line: &Line) -> Result<usize, ReadFault>
 
 /// Adds the breaks between a plain scalar's line of that number and a line that continues it.
 fn push_folded(text: &mut String, last: u32, line: &Line) -> Result<(), AllocError>
-    ensures { OnOk result (string_bytes text.new ≡ string_bytes text.old ++ encode_utf8_all (spec.folded (line.now.number - last - 1))) }
+    ensures { OnOk result (string_bytes text.new ≡ string_bytes text.old ++
+        encode_utf8_all (spec.folded (line.now.number - last - 1))) }
 {
     let empty = line.number.saturating_sub(last).saturating_sub(1);
     if empty == 0 {
@@ -51,7 +54,8 @@ fn push_folded(text: &mut String, last: u32, line: &Line) -> Result<(), AllocErr
 /// of that number add.
 #[tactic(auto, unfolding(crate::specs::Plain::further), using(crate::proofs::Laws::Content::size_drop))]
 fn further(parent: u32, last: u32, text: &mut String, reader: &mut Reader) -> Result<(), ReadFault>
-    ensures gives { Gives (λ _. (string_bytes text.new, reader.new)) result (spec.behind_bytes (string_bytes text.old) (spec.further parent last reader.old)) }
+    ensures gives { Gives (λ _. (string_bytes text.new, reader.new)) result
+        (spec.behind_bytes (string_bytes text.old) (spec.further parent last reader.old)) }
     ensures falls { OnOk result (size reader.new ≤ size reader.old) }
 {
     let mut last = last;
@@ -87,7 +91,9 @@ fn behind_line(
     text: &mut String,
     reader: &mut Reader,
 ) -> Result<(), ReadFault>
-    ensures gives { Gives (λ _. (string_bytes text.new, reader.new)) result (spec.behind_bytes (string_bytes text.old) (spec.behind_line parent (row line.now) len reader.old)) }
+    ensures gives { Gives (λ _. (string_bytes text.new, reader.new)) result
+        (spec.behind_bytes (string_bytes text.old) (spec.behind_line parent (row line.now) len
+        reader.old)) }
     ensures falls { OnOk result (size reader.new ≤ size reader.old) }
 {
     if line.text.len() == len {
@@ -108,7 +114,8 @@ pub(crate) fn word(
     reader: &mut Reader,
 ) -> Result<Node, ReadFault>
     requires { len ≤ length (all_of line.now.text) }
-    ensures gives { Gives (λ node. (node, reader.new)) result (spec.word file.now parent (row line.now) len reader.old) }
+    ensures gives { Gives (λ node. (node, reader.new)) result
+        (spec.word file.now parent (row line.now) len reader.old) }
     ensures falls { OnOk result (size reader.new ≤ size reader.old) }
 {
     line_end(line)?;

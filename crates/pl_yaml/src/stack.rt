@@ -1,7 +1,6 @@
 //! Block collections that are being read.
-//!
-//! A collection inside another is read before the other goes on. So those that wait for a value stand
-//! on a stack, the innermost on top, each with the entries before that value.
+//!  A collection inside another is read before the other goes on. So those that wait for a value
+//! stand on a stack, the innermost on top, each with the entries before that value.
 
 ghost use Rattle.std.specs.Prelude.{◌≡◌, ℕ, List as list, IfOk, OnOk};
 ghost use Rattle.pl_line.specs.Rows.{Row};
@@ -102,7 +101,9 @@ impl Open {
         file: &Shared<FileKey>,
         item: Node,
     ) -> Result<(), Memory>
-        ensures { OnOk result ((turns : ℕ) (rows : list Row) → spec.in_open file.now turns self.new rows ≡ spec.into file.now turns self.old (item, rows)) }
+        ensures { OnOk result ((turns : ℕ) (rows : list Row) →
+            spec.in_open file.now turns self.new rows ≡ spec.into file.now turns self.old
+            (item, rows)) }
     {
         match self {
             Open::Sequence(sequence) => sequence.items.push(item),

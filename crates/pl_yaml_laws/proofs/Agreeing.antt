@@ -1,5 +1,7 @@
 -- Two readings of rows that begin alike: they agree, until one reads past these rows.
-use Rattle.std.proofs.Common.{◌≡◌, ℕ, zero, suc, ◌+◌, ◌<◌, ◌≤◌, Bool, true, false, not, ◌&&◌, ◌||◌, cond, ◌⊎◌, Option, Some, None, Result, Ok, Err, List, [], ◌∷◌, ◌++◌, length, refl, ap, sym, subst, ◌∙◌, arith, inl, inr}
+use Rattle.std.proofs.Common.{◌≡◌, ℕ, zero, suc, ◌+◌, ◌<◌, ◌≤◌, Bool, true, false, not, ◌&&◌, ◌||◌}
+use Rattle.std.proofs.Common.{cond, ◌⊎◌, Option, Some, None, Result, Ok, Err, List, [], ◌∷◌, ◌++◌}
+use Rattle.std.proofs.Common.{length, refl, ap, sym, subst, ◌∙◌, arith, inl, inr}
 use Rattle.std.specs.Prelude.{◌==◌, nat_lt, max, encode_utf8_all}
 use Rattle.std.specs.List.{list_all}
 use Rattle.std.proofs.lemmas.Bool.{cases_Bool, both_ways, and_parts, not-true}
@@ -12,7 +14,8 @@ use Rattle.pl_line.specs.declared.line_fault.Fault.{Fault}
 use Rattle.pl_line.specs.Rows.{Row, size}
 use Rattle.pl_line.specs.Reading.{fault_at}
 use Rattle.pl_reading.specs.Steps.{◌>>=◌}
-use Rattle.pl_line.specs.Left.{behind, line_end, is_bare, is_comment, is_empty, is_done, spaces_only}
+use Rattle.pl_line.specs.Left.{behind, line_end, is_bare, is_comment, is_empty, is_done}
+use Rattle.pl_line.specs.Left.{spaces_only}
 use Rattle.pl_line.specs.Trees.{node_at}
 use Rattle.pl_line.specs.Quoted.{quoted}
 use Rattle.pl_line.specs.Flow.{flow}
@@ -20,16 +23,24 @@ use Rattle.pl_yaml.specs.Reading.{Read, has_row, many, many_step}
 use Rattle.pl_yaml.specs.Heads.{head_at, head_of, is_start}
 use Rattle.pl_yaml.specs.Content.{stands, content, begins, lead, closed}
 use Rattle.pl_yaml.specs.Plain.{continued, further, word}
-use Rattle.pl_yaml.specs.BlockScalars.{header_of, first_column, within_column, found_column, content_column, reaches, inside, line_from, lines, block_text, block}
+use Rattle.pl_yaml.specs.BlockScalars.{header_of, first_column, within_column, found_column}
+use Rattle.pl_yaml.specs.BlockScalars.{content_column, reaches, inside, line_from, lines}
+use Rattle.pl_yaml.specs.BlockScalars.{block_text, block}
 use Rattle.pl_yaml.specs.Inline.{quoted_node, flow_node, inline_by, inline}
 use Rattle.pl_yaml.specs.Keys.{FoundKey, key_by, key_in, next_key}
-use Rattle.pl_yaml.specs.Nodes.{Values, is_dash, item_in, next_item, below, value, item, pair, items, pairs, sequence, mapping, in_brackets, begun_by, begun, node_in, node_with, inner, node}
+use Rattle.pl_yaml.specs.Nodes.{Values, is_dash, item_in, next_item, below, value, item, pair}
+use Rattle.pl_yaml.specs.Nodes.{items, pairs, sequence, mapping, in_brackets, holder, begun_by}
+use Rattle.pl_yaml.specs.Nodes.{begun, node_in, node_with, inner, node}
 use Rattle.pl_yaml.specs.Spells.{whole_text, nothing_left, document}
 use Rattle.pl_yaml_laws.proofs.Heads.{by_head}
 use Rattle.pl_yaml_laws.proofs.Lines.{bare_done}
 use Rattle.pl_yaml_laws.proofs.Told as T
 use Rattle.pl_yaml_laws.proofs.Told.{Told, Whatever, is_ok, is_err, weaker}
-use Rattle.pl_yaml_laws.proofs.ToldRows.{Each, Left, Less, content_told, lead_told, further_told, lines_told, column_told, Sound, InnerSound, inner_sound, KeyFound, key_in_told, ItemFound, item_in_told, next_key_told, next_item_told, step_told, item_step, items_told, pair_step, pairs_told, node_in_told, node_told}
+use Rattle.pl_yaml_laws.proofs.ToldRows.{Each, Left, Less, content_told, lead_told, further_told}
+use Rattle.pl_yaml_laws.proofs.ToldRows.{lines_told, column_told, Sound, InnerSound, inner_sound}
+use Rattle.pl_yaml_laws.proofs.ToldRows.{KeyFound, key_in_told, ItemFound, item_in_told}
+use Rattle.pl_yaml_laws.proofs.ToldRows.{next_key_told, next_item_told, step_told, item_step}
+use Rattle.pl_yaml_laws.proofs.ToldRows.{items_told, pair_step, pairs_told, node_in_told, node_told}
 
 pub size_append : (front rows : List Row) → size (front ++ rows) ≡ size front + size rows
 size_append [] rows = omega arith
@@ -498,8 +509,8 @@ module _ (P : ℕ → Type 0) (one two : List Row) where
 
         items_agree : (parent column turns others : ℕ) (before : List Node) (front : List Row)
             → Fits front → size (front ++ one) < turns → size (front ++ two) < others
-            → Agree Sync Late (items file values parent column turns before (front ++ one))
-            (items file values parent column others before (front ++ two))
+            → Agree Sync Late (items (item file values) parent column turns before (front ++ one))
+            (items (item file values) parent column others before (front ++ two))
         unfolding AllAgree ItemFound ItemLate
         items_agree parent column turns =
             many_agrees (next_item parent column) (λ _ row left. item file values row left)
@@ -571,13 +582,15 @@ module _ (P : ℕ → Type 0) (one two : List Row) where
         begun_agrees : (parent : ℕ) (row : Row) (front : List Row) → Fits (row ∷ front)
             → (whole : Bool) (text : List ℕ)
             → Agree Sync Late
-            (begun_by file depth inside parent row (head_at whole text) (row ∷ front ++ one))
-            (begun_by file depth inside parent row (head_at whole text) (row ∷ front ++ two))
+            (begun_by (holder file depth parent) inside row (head_at whole text) (row ∷ front ++
+            one))
+            (begun_by (holder file depth parent) inside row (head_at whole text) (row ∷ front ++
+            two))
         unfolding head_at
         begun_agrees parent row front fits whole text =
             by_head (λ head. Agree Sync Late
-            (begun_by file depth inside parent row head (row ∷ front ++ one))
-            (begun_by file depth inside parent row head (row ∷ front ++ two))) whole text
+            (begun_by (holder file depth parent) inside row head (row ∷ front ++ one))
+            (begun_by (holder file depth parent) inside row head (row ∷ front ++ two))) whole text
             (sequence_agrees file inside sound any alike parent row (row ∷ front) fits) (same_err _)
             (same_err _) (same_err _)
             (at (quoted row)

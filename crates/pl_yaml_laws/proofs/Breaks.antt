@@ -1,5 +1,6 @@
 -- Line feeds, with carriage returns before them or without.
-use Rattle.std.proofs.Common.{◌≡◌, ℕ, suc, ◌+◌, ◌-◌, ◌<◌, ◌≤◌, true, false, ◌&&◌, cond, Some, List, [], ◌∷◌, length, take, refl, ap, sym, ◌∙◌, arith, inl, inr}
+use Rattle.std.proofs.Common.{◌≡◌, ℕ, suc, ◌+◌, ◌-◌, ◌<◌, ◌≤◌, true, false, ◌&&◌, cond, Some, List}
+use Rattle.std.proofs.Common.{[], ◌∷◌, length, take, refl, ap, sym, ◌∙◌, arith, inl, inr}
 use Rattle.std.specs.Prelude.{◌==◌, encode_utf8_all}
 use Rattle.std.specs.Char.{encode_utf8}
 use Rattle.std.specs.Str.{all_scalars}
@@ -7,7 +8,8 @@ use Rattle.std.specs.List.{slice_split, onto_first, last_or}
 use Rattle.std.proofs.lemmas.Bool.{cases_Bool, and_parts, and_from}
 use Rattle.std.proofs.lemmas.Bool.Decides.{nat_tests}
 use Rattle.std.proofs.lemmas.List.{length-append}
-use Rattle.pl_line.specs.Rows.{Row, row_at, rows_from, rows_of, without_return, is_return, without_mark}
+use Rattle.pl_line.specs.Rows.{Row, row_at, rows_from, rows_of, without_return, is_return}
+use Rattle.pl_line.specs.Rows.{without_mark}
 use Rattle.pl_reading.specs.Bytes.{begins_with}
 use Rattle.pl_yaml_laws.specs.Texts.{IsText}
 use Rattle.pl_yaml_laws.specs.Breaks.{with_line_feeds, LineBreaksAreAlike}

@@ -1,8 +1,12 @@
 -- Line feeds at the end of a block scalar.
-use Rattle.std.proofs.Common.{◌≡◌, ℕ, zero, suc, ◌+◌, ◌-◌, Bool, true, false, not, ◌||◌, cond, ◌⊎◌, Option, Some, None, Result, Ok, Err, List, [], ◌∷◌, ◌++◌, length, replicate, codes, refl, ap, sym, subst, ◌∙◌, append_assoc, arith, inl, inr}
+use Rattle.std.proofs.Common.{◌≡◌, ℕ, zero, suc, ◌+◌, ◌-◌, Bool, true, false, not, ◌||◌, cond, ◌⊎◌}
+use Rattle.std.proofs.Common.{Option, Some, None, Result, Ok, Err, List, [], ◌∷◌, ◌++◌, length}
+use Rattle.std.proofs.Common.{replicate, codes, refl, ap, sym, subst, ◌∙◌, append_assoc, arith, inl}
+use Rattle.std.proofs.Common.{inr}
 use Rattle.std.specs.Prelude.{◌==◌, nat_lt, if◌then◌else◌, min, flat_map, encode_utf8_all}
 use Rattle.std.specs.List.{list_all, last_or}
-use Rattle.std.proofs.lemmas.Bool.{cases_Bool, both_ways, eqb-true, and_parts, and_from, and_right, or_from, or_left, or_right}
+use Rattle.std.proofs.lemmas.Bool.{cases_Bool, both_ways, eqb-true, and_parts, and_from, and_right}
+use Rattle.std.proofs.lemmas.Bool.{or_from, or_left, or_right}
 use Rattle.std.proofs.lemmas.Bool.Decides.{nat_tests}
 use Rattle.std.proofs.lemmas.List.{append-nil}
 use Rattle.pl_base.specs.declared.place.FileKey.{FileKey}
@@ -16,9 +20,15 @@ use Rattle.pl_reading.specs.Steps.{◌>>=◌}
 use Rattle.pl_line.specs.Trees.{node_at}
 use Rattle.pl_yaml.specs.Reading.{Read, has_row}
 use Rattle.pl_yaml.specs.Content.{closed}
-use Rattle.pl_yaml.specs.BlockScalars.{TextLine, is_digit, is_sign, are_indicators, indicators, digit, chomping, content_column, reaches, line_from, inside, line_before, lines, text_from, header_with, is_void, next_line, own_break, last_break, inner_break, break_before, block_text, scalar_with, block}
+use Rattle.pl_yaml.specs.BlockScalars.{TextLine, is_digit, is_sign, are_indicators, indicators}
+use Rattle.pl_yaml.specs.BlockScalars.{digit, chomping, content_column, reaches, line_from, inside}
+use Rattle.pl_yaml.specs.BlockScalars.{line_before, lines, text_from, header_with, is_void}
+use Rattle.pl_yaml.specs.BlockScalars.{next_line, own_break, last_break, inner_break, break_before}
+use Rattle.pl_yaml.specs.BlockScalars.{block_text, scalar_with, block}
 use Rattle.pl_yaml_laws.specs.Lines.{is_line, is_comment_or_blank, is_end}
-use Rattle.pl_yaml_laws.specs.Chomping.{header_row, is_indentation, is_feed, clipped, DifferAtTheEnd, ChompingChangesTheEnd, whole_line, KeepingKeepsAll}
+use Rattle.pl_yaml_laws.specs.Chomping.{header_row, is_indentation, is_feed, clipped}
+use Rattle.pl_yaml_laws.specs.Chomping.{DifferAtTheEnd, ChompingChangesTheEnd, whole_line}
+use Rattle.pl_yaml_laws.specs.Chomping.{KeepingKeepsAll}
 use Rattle.pl_yaml_laws.proofs.Lines.{is_over}
 
 -- ---- each line but the last has a break
@@ -487,7 +497,8 @@ chomping_changes_the_end file parent number column mark indentation rest rows st
     (content_column parent (digit indentation) rows) clean)
 
 pub keeping_keeps_all : KeepingKeepsAll
-keeping_keeps_all file parent number column indentation rest rows left content read is over at reads =
+keeping_keeps_all file parent number column indentation rest rows left content read is over at
+    reads =
     let fine : Fine rows (Ok (read, left)) = subst (Fine rows) reads (lines_fine content rows) in
     block_is file parent number column rows 124 (indentation ++ codes "+") rest (digit indentation)
     (codes "+") over (signed indentation rest 43 refl refl is over)

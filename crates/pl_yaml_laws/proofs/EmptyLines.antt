@@ -10,9 +10,11 @@ use Rattle.pl_yaml.specs.Reading.{many, many_step}
 use Rattle.pl_yaml.specs.Heads.{is_start}
 use Rattle.pl_yaml.specs.Content.{begins, stands, content, lead}
 use Rattle.pl_yaml.specs.Keys.{key_in, next_key}
-use Rattle.pl_yaml.specs.Nodes.{below, item, item_in, next_item, pair, inner, node_in, node}
+use Rattle.pl_yaml.specs.Nodes.{below, item_in, next_item, pair, inner, node_in, node}
 use Rattle.pl_yaml.specs.Spells.{whole_text, nothing_left, document, placed}
-use Rattle.pl_yaml_laws.specs.EmptyLines.{IsPassedOver, PassedOverInDocuments, PassedOverInTexts, PassedOverBeforeNodes, PassedOverBeforeItems, PassedOverBeforePairs}
+use Rattle.pl_yaml_laws.specs.EmptyLines.{IsPassedOver, PassedOverInDocuments, PassedOverInTexts}
+use Rattle.pl_yaml_laws.specs.EmptyLines.{PassedOverBeforeNodes, PassedOverBeforeItems}
+use Rattle.pl_yaml_laws.specs.EmptyLines.{PassedOverBeforePairs}
 use Rattle.pl_yaml_laws.proofs.Texts.{spelled_is}
 use Rattle.pl_yaml_laws.proofs.Fronts.{rows_before, rows_behind, front_rows}
 
@@ -65,11 +67,11 @@ before_nodes file depth own begun row rows is =
 
 pub before_items : PassedOverBeforeItems
 unfolding many next_item
-before_items file values parent column turns before row rows is =
+before_items entry parent column turns before row rows is =
     ap (λ read. read >>= item_in parent column
     >>= λ found. many_step
-    (many (next_item parent column) (λ _ row left. item file values row left) turns)
-    (λ _ row left. item file values row left) before found.0 found.1)
+    (many (next_item parent column) (λ _ row left. entry row left) turns)
+    (λ _ row left. entry row left) before found.0 found.1)
     (in_content row rows is)
 
 pub before_pairs : PassedOverBeforePairs

@@ -1,13 +1,17 @@
 -- Lines that end behind a scalar, and texts of one line.
-use Rattle.std.proofs.Common.{◌≡◌, ℕ, zero, suc, ◌+◌, Bool, true, false, not, ◌&&◌, ◌||◌, cond, Ok, List, [], ◌∷◌, ◌++◌, length, take, drop, codes, refl, ap, sym, ◌∙◌, arith, inl, inr}
+use Rattle.std.proofs.Common.{◌≡◌, ℕ, zero, suc, ◌+◌, Bool, true, false, not, ◌&&◌, ◌||◌, cond, Ok}
+use Rattle.std.proofs.Common.{List, [], ◌∷◌, ◌++◌, length, take, drop, codes, refl, ap, sym, ◌∙◌}
+use Rattle.std.proofs.Common.{arith, inl, inr}
 use Rattle.std.specs.Prelude.{◌==◌, nat_lt}
 use Rattle.std.specs.List.{list_all, slice_split, onto_first, position_or_len}
-use Rattle.std.proofs.lemmas.Bool.{cases_Bool, and_parts, and_from, or_parts, or_from, or_left, or_right, and_left, and_right, eq-eqb}
+use Rattle.std.proofs.lemmas.Bool.{cases_Bool, and_parts, and_from, or_parts, or_from, or_left}
+use Rattle.std.proofs.lemmas.Bool.{or_right, and_left, and_right, eq-eqb}
 use Rattle.std.proofs.lemmas.Bool.Decides.{nat_tests}
 use Rattle.std.proofs.lemmas.List.{drop-drop, drop_at, take_all}
 use Rattle.pl_base.specs.declared.place.FileKey.{FileKey}
 use Rattle.pl_base.specs.declared.node.Node.{Node}
-use Rattle.pl_line.specs.Rows.{Row, is_control, indented, row_at, rows_from, rows_of, without_mark, without_return}
+use Rattle.pl_line.specs.Rows.{Row, is_control, indented, row_at, rows_from, rows_of, without_mark}
+use Rattle.pl_line.specs.Rows.{without_return}
 use Rattle.pl_reading.specs.Bytes.{is_blank, begins_with}
 use Rattle.pl_line.specs.Left.{behind, line_end, is_bare, is_done, is_empty}
 use Rattle.pl_reading.specs.Steps.{◌>>=◌}

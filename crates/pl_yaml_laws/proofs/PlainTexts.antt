@@ -1,7 +1,10 @@
 -- Plain scalars on one line.
-use Rattle.std.proofs.Common.{◌≡◌, ℕ, suc, ◌+◌, Bool, true, false, not, ◌&&◌, ◌||◌, cond, ◌⊎◌, Ok, List, [], ◌∷◌, ◌++◌, length, take, drop, refl, ap, sym, subst, ◌∙◌, arith, inl, inr}
+use Rattle.std.proofs.Common.{◌≡◌, ℕ, suc, ◌+◌, Bool, true, false, not, ◌&&◌, ◌||◌, cond, ◌⊎◌, Ok}
+use Rattle.std.proofs.Common.{List, [], ◌∷◌, ◌++◌, length, take, drop, refl, ap, sym, subst, ◌∙◌}
+use Rattle.std.proofs.Common.{arith, inl, inr}
 use Rattle.std.specs.Prelude.{◌==◌, encode_utf8_all}
-use Rattle.std.proofs.lemmas.Bool.{cases_Bool, eqb-true, both_ways, and_parts, and_from, and_right, or_parts, or_cases, not-true}
+use Rattle.std.proofs.lemmas.Bool.{cases_Bool, eqb-true, both_ways, and_parts, and_from, and_right}
+use Rattle.std.proofs.lemmas.Bool.{or_parts, or_cases, not-true}
 use Rattle.std.proofs.lemmas.Bool.Decides.{nat_tests}
 use Rattle.std.proofs.lemmas.List.{append-nil, drop-drop, drop_at, take_at}
 use Rattle.std.proofs.lemmas.List.Folds.{list_all-append}
@@ -18,11 +21,13 @@ use Rattle.pl_line.proofs.Laws.Left.{empty_at}
 use Rattle.pl_yaml.specs.Heads.{is_marker, head_at, head_from, plain_head}
 use Rattle.pl_yaml.specs.Inline.{inline, inline_by}
 use Rattle.pl_yaml.specs.Keys.{key_by}
-use Rattle.pl_yaml.specs.Nodes.{begun, begun_by, inner}
+use Rattle.pl_yaml.specs.Nodes.{holder, begun, begun_by, inner}
 use Rattle.pl_yaml.specs.Plain.{part, further, behind_line, word}
 use Rattle.pl_yaml.specs.Spells.{document, placed}
 use Rattle.pl_yaml_laws.specs.Lines.{is_line, is_comment_or_blank, is_end}
-use Rattle.pl_yaml_laws.specs.PlainTexts.{is_visible, is_indicator, begins_visible, may_begin, may_stand, may_follow, is_plain, PlainValueIsItself, PlainKeyIsItself, PlainTextIsItself}
+use Rattle.pl_yaml_laws.specs.PlainTexts.{is_visible, is_indicator, begins_visible, may_begin}
+use Rattle.pl_yaml_laws.specs.PlainTexts.{may_stand, may_follow, is_plain, PlainValueIsItself}
+use Rattle.pl_yaml_laws.specs.PlainTexts.{PlainKeyIsItself, PlainTextIsItself}
 use Rattle.pl_yaml_laws.proofs.Lines.{blanks, no_colon, first_row, row_is, alone}
 use Rattle.pl_yaml_laws.proofs.Texts.{spelled_is}
 
@@ -424,7 +429,7 @@ row_read file c cs rest plain over no_marker =
     let made : Node = node_at file row (Scalar (encode_utf8_all (c ∷ cs))) in
     let blank = (first c cs rest plain).0 in
     let read : begun file 64 (inner file 64) 0 row (row ∷ []) ≡ Ok (made, []) =
-    ap (λ head. begun_by file 64 (inner file 64) 0 row head (row ∷ []))
+    ap (λ head. begun_by (holder file 64 0) (inner file 64) row head (row ∷ []))
     (head_is c cs rest plain over)
     ∙ rw (no_key c cs rest plain over) (word_is c cs rest plain over file 0 row [] refl refl refl)
     in

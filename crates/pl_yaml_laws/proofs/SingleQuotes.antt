@@ -1,5 +1,7 @@
 -- Scalars in single quotes.
-use Rattle.std.proofs.Common.{◌≡◌, ℕ, zero, suc, ◌+◌, ◌<◌, ◌≤◌, true, false, not, cond, Some, Ok, List, [], ◌∷◌, ◌++◌, length, drop, refl, ap, sym, subst, ◌∙◌, append_assoc, arith, inl, inr}
+use Rattle.std.proofs.Common.{◌≡◌, ℕ, zero, suc, ◌+◌, ◌<◌, ◌≤◌, true, false, not, cond, Some, Ok}
+use Rattle.std.proofs.Common.{List, [], ◌∷◌, ◌++◌, length, drop, refl, ap, sym, subst, ◌∙◌}
+use Rattle.std.proofs.Common.{append_assoc, arith, inl, inr}
 use Rattle.std.specs.Prelude.{◌==◌, flat_map, encode_utf8_all}
 use Rattle.std.specs.Char.{encode_utf8}
 use Rattle.std.proofs.lemmas.Bool.{cases_Bool, eqb-true, and_parts, and_from}
@@ -22,8 +24,11 @@ use Rattle.pl_yaml.specs.Keys.{colon_at, is_colon, quoted_key, key_by}
 use Rattle.pl_yaml.specs.Nodes.{begun, begun_quoted, inner, mapping}
 use Rattle.pl_yaml.specs.Spells.{document, placed}
 use Rattle.pl_yaml_laws.specs.Lines.{is_line, is_comment_or_blank, is_end}
-use Rattle.pl_yaml_laws.specs.SingleQuotes.{doubled, single_quoted, QuotedReadsAsItsText, QuotedValueIsItsText, QuotedKeyIsItsText, QuotedTextIsItsText}
-use Rattle.pl_yaml_laws.proofs.Lines.{blanks, behind_text, no_colon, is_over, first_row, row_is, alone}
+use Rattle.pl_yaml_laws.specs.SingleQuotes.{doubled, single_quoted, QuotedReadsAsItsText}
+use Rattle.pl_yaml_laws.specs.SingleQuotes.{QuotedValueIsItsText, QuotedKeyIsItsText}
+use Rattle.pl_yaml_laws.specs.SingleQuotes.{QuotedTextIsItsText}
+use Rattle.pl_yaml_laws.proofs.Lines.{blanks, behind_text, no_colon, is_over, first_row, row_is}
+use Rattle.pl_yaml_laws.proofs.Lines.{alone}
 use Rattle.pl_yaml_laws.proofs.Texts.{spelled_is}
 
 -- a character is one piece

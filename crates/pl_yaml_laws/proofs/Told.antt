@@ -1,5 +1,6 @@
 -- On which lines faults are told, and which rows are left.
-use Rattle.std.proofs.Common.{ℕ, zero, suc, ◌+◌, Bool, true, false, ◌&&◌, ◌||◌, cond, Option, Some, None, Result, Ok, Err, List, [], ◌∷◌, ◌++◌, length, drop, inl, inr}
+use Rattle.std.proofs.Common.{ℕ, zero, suc, ◌+◌, Bool, true, false, ◌&&◌, ◌||◌, cond, Option, Some}
+use Rattle.std.proofs.Common.{None, Result, Ok, Err, List, [], ◌∷◌, ◌++◌, length, drop, inl, inr}
 use Rattle.std.specs.Prelude.{◌==◌, nat_lt}
 use Rattle.std.proofs.lemmas.Bool.{cases_Bool}
 use Rattle.pl_base.specs.declared.place.FileKey.{FileKey}
@@ -14,8 +15,11 @@ use Rattle.pl_reading.specs.Steps.{◌>>=◌}
 use Rattle.pl_line.specs.Left.{behind, line_end}
 use Rattle.pl_line.specs.Scanning.{ends_word}
 use Rattle.pl_reading.specs.Bytes.{begins_with}
-use Rattle.pl_line.specs.Quoted.{single, double, escape, numbered, spelled, named, piece, next_piece, pieces_of, quoted}
-use Rattle.pl_line.specs.Flow.{FlowRead, head_at, head_of, scalar_by, value_by, misplaced, colon, no_key, key_by, is_stray, item, pair, separated, entries, gathered, sequence, mapping, collection, inner, node, flow}
+use Rattle.pl_line.specs.Quoted.{single, double, escape, numbered, spelled, named, piece}
+use Rattle.pl_line.specs.Quoted.{next_piece, pieces_of, quoted}
+use Rattle.pl_line.specs.Flow.{FlowRead, head_at, head_of, scalar_by, value_by, misplaced, colon}
+use Rattle.pl_line.specs.Flow.{no_key, key_by, is_stray, item, pair, separated, entries, gathered}
+use Rattle.pl_line.specs.Flow.{sequence, mapping, collection, inner, node, flow}
 use Rattle.pl_line.specs.Flow as flows
 
 -- a value of which that holds, or a fault on a line of which that holds

@@ -1,5 +1,7 @@
 -- The lines on which faults are told, where rows are read, and the rows that are left.
-use Rattle.std.proofs.Common.{◌≡◌, ℕ, zero, suc, ◌+◌, ◌<◌, ◌≤◌, Bool, true, false, ◌||◌, cond, Option, Some, None, Ok, Err, List, [], ◌∷◌, ◌++◌, length, refl, ap, sym, subst, arith}
+use Rattle.std.proofs.Common.{◌≡◌, ℕ, zero, suc, ◌+◌, ◌<◌, ◌≤◌, Bool, true, false, ◌||◌, cond}
+use Rattle.std.proofs.Common.{Option, Some, None, Ok, Err, List, [], ◌∷◌, ◌++◌, length, refl, ap}
+use Rattle.std.proofs.Common.{sym, subst, arith}
 use Rattle.std.specs.Prelude.{◌==◌}
 use Rattle.std.proofs.lemmas.Bool.{both_ways}
 use Rattle.std.proofs.lemmas.List.{length-drop}
@@ -15,13 +17,17 @@ use Rattle.pl_yaml.specs.Reading.{Read, many, many_step}
 use Rattle.pl_yaml.specs.Heads.{head_at, head_of, is_marker, is_start}
 use Rattle.pl_yaml.specs.Content.{stands, content, begins, lead, is_closed, closed}
 use Rattle.pl_yaml.specs.Plain.{continued, further, word}
-use Rattle.pl_yaml.specs.BlockScalars.{header_of, first_column, within_column, content_column, reaches, inside, lines, block}
+use Rattle.pl_yaml.specs.BlockScalars.{header_of, first_column, within_column, content_column}
+use Rattle.pl_yaml.specs.BlockScalars.{reaches, inside, lines, block}
 use Rattle.pl_yaml.specs.Inline.{quoted_node, flow_node, inline_by, inline}
 use Rattle.pl_yaml.specs.Keys.{FoundKey, is_colon, quoted_key, key_by, key_in, next_key}
-use Rattle.pl_yaml.specs.Nodes.{Values, is_dash, item_in, next_item, value, item, pair, items, pairs, sequence, mapping, fits, begun_by, begun, node_in, node_with, inner, node}
+use Rattle.pl_yaml.specs.Nodes.{Values, is_dash, item_in, next_item, value, item, pair, items}
+use Rattle.pl_yaml.specs.Nodes.{pairs, sequence, mapping, fits, holder, begun_by, begun, node_in}
+use Rattle.pl_yaml.specs.Nodes.{node_with, inner, node}
 use Rattle.pl_yaml.specs.Spells.{whole_text, nothing_left, document}
 use Rattle.pl_yaml_laws.proofs.Heads.{by_head}
-use Rattle.pl_yaml_laws.proofs.Told.{Told, Whatever, is_ok, is_err, goes, either, weaker, ended, quoted_told, flow_told, behind_on}
+use Rattle.pl_yaml_laws.proofs.Told.{Told, Whatever, is_ok, is_err, goes, either, weaker, ended}
+use Rattle.pl_yaml_laws.proofs.Told.{quoted_told, flow_told, behind_on}
 
 module _ (P : ℕ → Type 0) where
   -- of each row's number
@@ -350,7 +356,7 @@ module _ (P : ℕ → Type 0) where
         (λ read less. (less.0, omega (arith, less.1, k.0.1, same))))
 
     pub items_told : (parent column turns : ℕ) (before : List Node) (rows : List Row) → Each rows
-        → Told P (Left (size rows)) (items file values parent column turns before rows)
+        → Told P (Left (size rows)) (items (item file values) parent column turns before rows)
     unfolding ItemFound
     items_told parent column =
         many_told (next_item parent column) (λ _ row left. item file values row left) ItemFound
@@ -398,11 +404,11 @@ module _ (P : ℕ → Type 0) where
     pub begun_at : (parent : ℕ) (row : Row) (rows : List Row) → P row.number → Each rows
         → (whole : Bool) (text : List ℕ)
         → Told P (Left (size (row ∷ rows)))
-        (begun_by file depth inside parent row (head_at whole text) (row ∷ rows))
+        (begun_by (holder file depth parent) inside row (head_at whole text) (row ∷ rows))
     unfolding head_at
     begun_at parent row rows on all whole text =
         by_head (λ head. Told P (Left (size (row ∷ rows)))
-        (begun_by file depth inside parent row head (row ∷ rows))) whole text
+        (begun_by (holder file depth parent) inside row head (row ∷ rows))) whole text
         (sequence_told file inside sound parent row (row ∷ rows) on (on, all)) (is_err _ on)
         (is_err _ on) (is_err _ on)
         (goes (quoted_told row on)

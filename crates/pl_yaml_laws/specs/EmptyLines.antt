@@ -6,6 +6,7 @@ use Rattle.pl_base.specs.declared.node.Node.{Node}
 use Rattle.pl_base.specs.declared.node.NodePair.{NodePair}
 use Rattle.pl_line.specs.Rows.{Row, rows_from, rows_of}
 use Rattle.pl_line.specs.Left.{is_empty}
+use Rattle.pl_yaml.specs.Reading.{Read}
 use Rattle.pl_yaml.specs.Nodes.{Values, below, items, pairs, node}
 use Rattle.pl_yaml.specs.Spells.{document, placed}
 use Rattle.pl_yaml_laws.specs.Texts.{IsText, spelled}
@@ -39,10 +40,10 @@ PassedOverBeforeNodes =
 -- nor before the next entry of a sequence or of a mapping, behind those that were read.
 abbrev pub PassedOverBeforeItems : Type 0
 PassedOverBeforeItems =
-    (file : FileKey) (values : Values) (parent column turns : ℕ) (before : List Node) (row : Row)
+    (entry : Row → List Row → Read Node) (parent column turns : ℕ) (before : List Node) (row : Row)
     (rows : List Row) → IsPassedOver row
-    → items file values parent column (suc turns) before (row ∷ rows)
-    ≡ items file values parent column (suc turns) before rows
+    → items entry parent column (suc turns) before (row ∷ rows)
+    ≡ items entry parent column (suc turns) before rows
 
 abbrev pub PassedOverBeforePairs : Type 0
 PassedOverBeforePairs =

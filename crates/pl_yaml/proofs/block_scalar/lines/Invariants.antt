@@ -6,7 +6,8 @@ use Rattle.pl_yaml.proofs.block_scalar.lines.Given as goal
 
 abbrev pub invariant-loop-line : goal.invariant-loop-line
 invariant-loop-line l = record {
-  gives : prefixed (take l.count (text_lines l.column l.fn.reader)) (lines l.column l.reader) ≡ lines l.column l.fn.reader;
+  gives : prefixed (take l.count (text_lines l.column l.fn.reader)) (lines l.column l.reader) ≡
+      lines l.column l.fn.reader;
   at : l.reader ≡ drop l.count l.fn.reader;
   within : l.count + length l.reader ≡ length l.fn.reader;
   falls : size l.reader ≤ size l.fn.reader;

@@ -6,7 +6,8 @@ use Rattle.pl_yaml.proofs.block_text.block_text.Given as goal
 
 abbrev pub invariant-loop-next : goal.invariant-loop-next
 invariant-loop-next l = record {
-  gives : string_bytes l.text ++ encode_utf8_all (block_text l.folded l.chomping l.after) ≡ encode_utf8_all (block_text l.folded l.chomping l.fn.lines);
+  gives : string_bytes l.text ++ encode_utf8_all (block_text l.folded l.chomping l.after) ≡
+      encode_utf8_all (block_text l.folded l.chomping l.fn.lines);
   next : option_map text_line l.next ≡ next_line l.after;
 }
 

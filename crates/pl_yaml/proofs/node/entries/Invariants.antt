@@ -7,7 +7,8 @@ use Rattle.pl_yaml.proofs.node.entries.Given as goal
 abbrev pub invariant-loop-outer : goal.invariant-loop-outer
 invariant-loop-outer l =
     (turns : ℕ) × (size l.reader < turns)
-    × Resumes l.file (size l.reader) (reverse l.outer) (in_open l.file turns l.top l.reader) (in_open l.fn.file (size l.fn.reader + 1) l.fn.begun l.fn.reader)
+    × Resumes l.file (size l.reader) (reverse l.outer) (in_open l.file turns l.top l.reader)
+    (in_open l.fn.file (size l.fn.reader + 1) l.fn.begun l.fn.reader)
 
 abbrev pub decreases-loop-outer : goal.decreases-loop-outer
 decreases-loop-outer l = 2 * size l.reader + length l.outer

@@ -6,7 +6,8 @@ use Rattle.pl_yaml.proofs.scalar.further.Given as goal
 
 abbrev pub invariant-loop-line : goal.invariant-loop-line
 invariant-loop-line l = record {
-  gives : behind_bytes (string_bytes l.text) (further l.parent l.last l.reader) ≡ behind_bytes (string_bytes l.fn.text) (further l.parent l.fn.last l.fn.reader);
+  gives : behind_bytes (string_bytes l.text) (further l.parent l.last l.reader) ≡
+      behind_bytes (string_bytes l.fn.text) (further l.parent l.fn.last l.fn.reader);
   falls : size l.reader ≤ size l.fn.reader;
 }
 

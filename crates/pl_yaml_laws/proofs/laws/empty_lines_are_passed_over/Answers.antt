@@ -1,4 +1,5 @@
-use Rattle.pl_yaml_laws.proofs.EmptyLines.{in_documents, in_texts, before_nodes, before_items, before_pairs}
+use Rattle.pl_yaml_laws.proofs.EmptyLines.{in_documents, in_texts, before_nodes, before_items}
+use Rattle.pl_yaml_laws.proofs.EmptyLines.{before_pairs}
 use Rattle.pl_yaml_laws.proofs.laws.empty_lines_are_passed_over.Goals as goal
 
 pub returns-clause-rows : goal.returns-clause-rows
