@@ -1,17 +1,18 @@
--- A search that marks what it finds: one node passed over, or found more.
-use Rattle.std.proofs.Common.{◌≡◌, ℕ, zero, suc, ◌<◌, ⊎_elim, Bool, true, false, not, cond, List}
-use Rattle.std.proofs.Common.{[]}
-use Rattle.std.proofs.Common.{◌∷◌, ◌++◌, length, get_or, set, refl, sym, ap, ◌∙◌, arith}
-use Rattle.std.proofs.Common.{append_assoc}
-use Rattle.std.specs.Prelude.{replicate}
-use Rattle.std.specs.List.{Contains, count_by}
-use Rattle.std.proofs.lemmas.Bool.{cases_eq, false≢true}
-use Rattle.std.proofs.lemmas.List.{get_or-replicate, get_or-set_other, get_or-set_same, length_push}
-use Rattle.std.proofs.lemmas.List.{length-replicate, length-set}
-use Rattle.std.proofs.lemmas.List.Elements.{Contains-append_left, Contains-push}
-use Rattle.std.proofs.lemmas.List.Elements.{Contains-push_cases}
-use Rattle.std.proofs.lemmas.List.Sums.{sum_by-cons, sum_by-set}
-use Rattle.pl_graph.specs.Adjacency.{IsMarked, FindsMore}
+-- A search that puts what it finds into a set: one node passed over, or found more.
+use Rattle.std.proofs.Common.{◌≡◌, ℕ, ◌+◌, ◌<◌, ◌≤◌, inl, inr, ⊎_elim, Bool, true, false, not, cond}
+use Rattle.std.proofs.Common.{List, [], ◌∷◌, ◌++◌, append_assoc, length, sym, ap, ◌∙◌, arith}
+use Rattle.std.specs.Ordering.{nat_cmp}
+use Rattle.std.specs.List.{Contains}
+use Rattle.std.specs.BTreeSet.{BTreeSet, IsOrdered, Updates, contains, keys}
+use Rattle.std.proofs.lemmas.Bool.{false≢true}
+use Rattle.std.proofs.lemmas.Cmp.{nat_cmp_total}
+use Rattle.std.proofs.lemmas.Map.Lookups.{exact_unsigned}
+use Rattle.std.proofs.lemmas.List.{length_push}
+use Rattle.std.proofs.lemmas.List.Elements.{All-from_get_or, Contains-append_left, Contains-get_or}
+use Rattle.std.proofs.lemmas.List.Elements.{Contains-push, Contains-push_cases}
+use Rattle.std.proofs.lemmas.Map.Views.{btree_set_contains_iff, length-le_from_below}
+use Rattle.pl_graph.proofs.Keys.{more_inserted, more_push}
+use Rattle.pl_graph.specs.Adjacency.{FindsMore, IsSetOf}
 
 pub finds_skip : {old nodes new : List ℕ} (x : ℕ) → Contains new x → FindsMore old nodes new →
     FindsMore old (nodes ++ x ∷ []) new
@@ -33,44 +34,39 @@ finds_push {old = old} {nodes = nodes} {new = new} x finds = record {
       (λ e. rw (← e) (Contains-push new x)) (Contains-push_cases nodes x b h);
 }
 
-count_unmarked : (n : ℕ) → count_by not (replicate n false) ≡ n
-count_unmarked zero = refl
-count_unmarked (suc n) =
-    omega (arith, sum_by-cons (λ x. cond (not x) 1 0) false (replicate n false), count_unmarked n)
-
--- nothing is found, and nothing marked
-pub marked_none : (n : ℕ) → IsMarked [] (replicate n false)
-marked_none n =
-    let len = length-replicate n false in
+pub set_push : {found : List ℕ} {set new : BTreeSet ℕ} (x : ℕ) (added : Bool) → IsSetOf found set →
+    contains nat_cmp set x ≡ false → added ≡ not (contains nat_cmp set x) →
+    length (keys new) ≡ length (keys set) + cond added 1 0 → Updates nat_cmp set new x true →
+    IsOrdered nat_cmp new → IsSetOf (found ++ x ∷ []) new
+set_push {found = found} {set = set} {new = new} x added is absent fresh len updates ordered =
+    let one : ◌≡◌ {A = ℕ} (cond added 1 0) 1 = ap (λ t. cond t 1 0) (fresh ∙ ap not absent) in
     record {
-      is = λ b below. (
-        λ h. absurd (false≢true (sym (get_or-replicate n b false false (omega arith)) ∙ h)),
-        λ (k, within, _). absurd (omega arith),
-      );
-      within = λ b (k, within, _). absurd (omega arith);
-      size = omega (arith, count_unmarked n);
+      is = λ b.
+          let now = more_inserted set new x updates b in
+          let pushed = more_push found x b in (
+            λ h. pushed.1 (⊎_elim (λ h. inl ((is.is b).0 h)) (λ e. inr e) (now.0 h)),
+            λ h. now.1 (⊎_elim (λ h. inl ((is.is b).1 h)) (λ e. inr e) (pushed.0 h)),
+          );
+      len = omega (arith, is.len, length_push found x);
+      ordered = ordered;
     }
 
-pub marked_push : {found : List ℕ} {marks : List Bool} (x : ℕ) → x < length marks →
-    get_or marks x false ≡ false → IsMarked found marks →
-    IsMarked (found ++ x ∷ []) (set marks x true)
-marked_push {found = found} {marks = marks} x below unmarked marked =
-    let len = length-set marks x true in
-    let was : ◌≡◌ {A = ℕ} (cond (not (get_or marks x false)) 1 0) 1 =
-    ap (λ y. cond (not y) 1 0) unmarked in
-    let counted = sum_by-set (λ y. cond (not y) 1 0) marks x true false below in
-    record {
-      is = λ b within. (
-        λ h. ⊎_elim (λ e. rw e (Contains-push found x))
-            (λ ne. Contains-append_left found (x ∷ []) b
-            ((marked.is b (omega arith)).0 (sym (get_or-set_other marks x b true false ne) ∙ h)))
-            (cases_eq b x),
-        λ h. ⊎_elim (λ e. rw e (get_or-set_same marks x true false below))
-            (λ ne. get_or-set_other marks x b true false ne ∙ (marked.is b (omega arith)).1
-            (⊎_elim (λ h. h) (λ e. absurd (ne (sym e))) (Contains-push_cases found x b h)))
-            (cases_eq b x),
-      );
-      within = λ b h. ⊎_elim (λ h. let w = marked.within b h in omega arith) (λ e. omega arith)
-          (Contains-push_cases found x b h);
-      size = omega (arith, marked.size, length_push found x);
-    }
+-- no more are found than there are
+pub length_found : (n : ℕ) (found : List ℕ) (set : BTreeSet ℕ) → IsSetOf found set →
+    ((b : ℕ) → Contains found b → b < n) → length found ≤ n
+length_found n found set is below =
+    let all = All-from_get_or (λ b. b < n) (keys set) 0
+    (λ k h. below _ ((is.is _).0 (Contains-get_or (keys set) k 0 h))) in
+    let most = length-le_from_below n (keys set) is.ordered all in omega (arith, is.len)
+
+pub set_none : (set : BTreeSet ℕ) → keys set ≡ [] → IsOrdered nat_cmp set → IsSetOf [] set
+set_none set none ordered =
+    record { is = λ b. rw none (λ h. h, λ h. h); len = ap length none; ordered = ordered }
+
+module _ {found : List ℕ} {set : BTreeSet ℕ} (is : IsSetOf found set) (x : ℕ) where
+  pub present : contains nat_cmp set x ≡ true → Contains found x
+  present h = (is.is x).0 ((btree_set_contains_iff nat_cmp_total exact_unsigned set x).0 h)
+
+  pub absent : contains nat_cmp set x ≡ false → Contains found x → ⊥
+  absent none h = false≢true (sym none
+      ∙ (btree_set_contains_iff nat_cmp_total exact_unsigned set x).1 ((is.is x).1 h))

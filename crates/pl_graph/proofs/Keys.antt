@@ -1,17 +1,15 @@
 -- One member more: of a set, of an ascending list, of the numbers below a bound.
 use Rattle.std.proofs.Common.{◌≡◌, ℕ, ◌+◌, ◌<◌, ◌⊎◌, inl, inr, ⊎_elim, true, false, List, []}
-use Rattle.std.proofs.Common.{◌∷◌, ◌++◌, length, sym, ◌∙◌, arith}
+use Rattle.std.proofs.Common.{◌∷◌, ◌++◌, sym, ◌∙◌, arith}
 use Rattle.std.specs.Prelude.{◌↔◌}
 use Rattle.std.specs.List.{Contains}
-use Rattle.std.specs.List.Sorted.{IsStrictlyIncreasing}
 use Rattle.std.specs.Ordering.{nat_cmp}
 use Rattle.std.specs.BTreeSet.{BTreeSet, keys, Updates}
 use Rattle.std.specs.BTreeMap.{is_at}
 use Rattle.std.proofs.lemmas.Bool.{cases_eq, cases_lt}
 use Rattle.std.proofs.lemmas.Bool.Decides.{nat_tests}
 use Rattle.std.proofs.lemmas.Cmp.{nat_cmp_total}
-use Rattle.std.proofs.lemmas.List.{get_or_append_left, get_or_push, length_push}
-use Rattle.std.proofs.lemmas.List.Elements.{Contains-get_or, Contains-push, Contains-push_cases}
+use Rattle.std.proofs.lemmas.List.Elements.{Contains-push, Contains-push_cases}
 use Rattle.std.proofs.lemmas.List.Elements.{Contains-append_left}
 use Rattle.std.proofs.lemmas.Map.Lookups.{exact_unsigned}
 use Rattle.std.proofs.lemmas.Map.Views.{btree_set_contains_iff}
@@ -62,15 +60,3 @@ below_more P i xs more are is here x = (
   λ (below, p). (is x).1 (⊎_elim (λ less. inl ((are x).1 (less, p))) (λ last. inr (omega arith))
       (cases_lt x i)),
 )
-
-pub increasing_push : (xs : List ℕ) (y : ℕ) → IsStrictlyIncreasing xs →
-    ((x : ℕ) → Contains xs x → x < y) → IsStrictlyIncreasing (xs ++ y ∷ [])
-increasing_push xs y up above k below =
-    let l = length_push xs y in
-    let here = get_or_append_left xs (y ∷ []) 0 k (omega arith) in
-    ⊎_elim
-    (λ within. let next = get_or_append_left xs (y ∷ []) 0 (k + 1) within in
-    let less = up k within in omega arith)
-    (λ last. let next = get_or_push xs y 0 (k + 1) (omega arith) in
-    let less = above _ (Contains-get_or xs k 0 (omega arith)) in omega arith)
-    (cases_lt (k + 1) (length xs))

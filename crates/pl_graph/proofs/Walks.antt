@@ -1,14 +1,11 @@
 -- The walk along least remaining dependencies, and the cycle to which it comes.
-use Rattle.std.proofs.Common.{◌≡◌, ℕ, ◌+◌, ◌<◌, ◌≤◌, ◌⊎◌, inl, inr, ⊎_elim, min, List, [], ◌∷◌}
+use Rattle.std.proofs.Common.{◌≡◌, ℕ, ◌+◌, ◌<◌, ◌≤◌, ⊎_elim, List, [], ◌∷◌}
 use Rattle.std.proofs.Common.{◌++◌}
-use Rattle.std.proofs.Common.{length, get_or, set, take, drop, refl, sym, subst, ap, ◌∙◌, arith}
+use Rattle.std.proofs.Common.{length, get_or, take, drop, refl, sym, subst, ap, ◌∙◌, arith}
 use Rattle.std.proofs.Common.{append_assoc}
-use Rattle.std.specs.Prelude.{replicate}
 use Rattle.std.specs.List.{All, Contains, sum_by}
-use Rattle.std.proofs.lemmas.Bool.{cases_eq, cases_lt}
-use Rattle.std.proofs.lemmas.List.{drop_more, get_or_append_left, get_or-replicate}
-use Rattle.std.proofs.lemmas.List.{length-replicate}
-use Rattle.std.proofs.lemmas.List.{length-set, get_or-set_same, get_or-set_other, take-append-drop}
+use Rattle.std.proofs.lemmas.List.{drop_more, get_or_append_left, get_or_default}
+use Rattle.std.proofs.lemmas.List.{take-append-drop}
 use Rattle.std.proofs.lemmas.List.Elements.{Contains-append_left, Contains-append_right}
 use Rattle.std.proofs.lemmas.List.Elements.{All-append, All-drop, All-from_get_or, All-take}
 use Rattle.std.proofs.lemmas.List.Elements.{Contains-append_cases, Contains-push}
@@ -21,83 +18,30 @@ use Rattle.pl_graph.proofs.Turns.{once_push, one_at}
 use Rattle.pl_graph.specs.Graph.{AreEdges, Chain, ClosedChain, DependsOn, EachOnce}
 use Rattle.pl_graph.specs.Graph.{IsCanonicalCycle}
 use Rattle.pl_graph.specs.Graph.{IsCycle, IsLeast, IsLeastDependency, Leads, Remains}
-use Rattle.pl_graph.specs.Walking.{AreLeast, IsTurned, IsWalk, ShowsRemaining}
+use Rattle.pl_graph.specs.Walking.{IsTurned, IsWalk, ShowsRemaining}
+use Rattle.pl_graph.specs.Adjacency.{neighbors_of}
+use Rattle.pl_graph.proofs.Neighbors.{depends_from_neighbor, neighbor_from_depends}
 
--- no edge yet
-pub least_none : (n : ℕ) (missing : List ℕ) → AreLeast n [] missing (replicate n n)
-least_none n missing = record {
-  len = length-replicate n n;
-  is = λ a below less. let e = get_or-replicate n a n 0 below in absurd (omega arith);
-  lower = λ a b (k, below, is) some. absurd (omega arith);
-}
-
-module _ {n : ℕ} {edges : List (ℕ × ℕ)} {missing least : List ℕ} (edge : ℕ × ℕ)
-    (l : AreLeast n edges missing least) where
-  -- an edge to a node that misses nothing
-  pub least_skip : (0 < get_or missing edge.1 0 → ⊥) →
-      AreLeast n (edges ++ edge ∷ []) missing least
-  least_skip none = record {
-    len = l.len;
-    is = λ a below less. let p = l.is a below less in
-        (Contains-append_left edges (edge ∷ []) (a, get_or least a 0) p.0, p.1);
-    lower = λ a b h some. ⊎_elim (λ h. l.lower a b h some)
-        (λ e. let to : edge.1 ≡ b = ap (λ z. z.1) e in absurd (none (rw (← to) at some)))
-        (Contains-push_cases edges edge (a, b) h);
-  }
-
-  abbrev now : List ℕ
-  now = set least edge.0 (min (get_or least edge.0 0) edge.1)
-
-  -- a node keeps its least, or the edge leads from it to a lower one
-  kept_or_edge : edge.0 < n → (a : ℕ) →
-      (get_or now a 0 ≡ get_or least a 0) × (a ≡ edge.0 → get_or least a 0 ≤ edge.1)
-      ⊎ (edge.0 ≡ a) × (get_or now a 0 ≡ edge.1) × (edge.1 < get_or least a 0)
-  kept_or_edge within a =
-      let len = l.len in
-      let small = min (get_or least edge.0 0) edge.1 in
-      ⊎_elim (λ e. rw e (let set = get_or-set_same least edge.0 small 0 (omega arith) in
-      ⊎_elim (λ lower. inr (refl, omega arith, lower))
-      (λ kept. inl (omega arith, λ _. kept)) (cases_lt edge.1 (get_or least edge.0 0))))
-      (λ ne. inl (get_or-set_other least edge.0 a small 0 ne, λ e. absurd (ne e)))
-      (cases_eq a edge.0)
-
-  -- an edge to a node that misses a dependency
-  pub least_more : edge.0 < n → 0 < get_or missing edge.1 0 →
-      AreLeast n (edges ++ edge ∷ []) missing now
-  least_more within some = record {
-    len = length-set least edge.0 _ ∙ l.len;
-    is = λ a below less. ⊎_elim
-        (λ kept. let p = l.is a below (let same = kept.0 in omega arith) in
-        rw kept.0 (Contains-append_left edges (edge ∷ []) (a, get_or least a 0) p.0, p.1))
-        (λ (from, to, lower).
-        rw (to, ← from) (Contains-push edges edge, some))
-        (kept_or_edge within a);
-    lower = λ a b h some. ⊎_elim
-        (λ h. let low = l.lower a b h some in
-        ⊎_elim (λ kept. let same = kept.0 in omega arith)
-        (λ lower. let same = lower.1 in let less = lower.2 in omega arith)
-        (kept_or_edge within a))
-        (λ e. let from : edge.0 ≡ a = ap (λ z. z.0) e in
-        let to : edge.1 ≡ b = ap (λ z. z.1) e in
-        ⊎_elim (λ kept. let same = kept.0 in let low = kept.1 (sym from) in omega arith)
-        (λ lower. let same = lower.1 in omega arith) (kept_or_edge within a))
-        (Contains-push_cases edges edge (a, b) h);
-  }
-
--- of a node that remains it is the least remaining dependency
-pub least_dependency : {n : ℕ} {edges : List (ℕ × ℕ)} {missing least : List ℕ} (a : ℕ) →
-    AreEdges n edges → ShowsRemaining n edges missing → AreLeast n edges missing least →
-    Remains n edges a → IsLeastDependency n edges a (get_or least a 0)
-least_dependency {n = n} {edges = edges} {least = least} a are shows l (set, keeps, kept) =
-    let (within, (b, depends, kept_b)) = keeps a kept in
-    let low = l.lower a b depends ((shows b (edge_within n edges a b are depends).1).1
-    (set, keeps, kept_b)) in
-    let less : get_or least a 0 < n =
-    (let in_n = (edge_within n edges a b are depends).1 in omega arith) in
-    let p = l.is a within less in (
-      (p.0, (shows (get_or least a 0) less).0 p.1),
-      λ y (depends_y, remains_y). l.lower a y depends_y
-          ((shows y (edge_within n edges a y are depends_y).1).1 remains_y),
+-- the least neighbor that misses a dependency is the least remaining dependency of a node that remains
+pub least_dependency : (n : ℕ) (edges : List (ℕ × ℕ)) (missing : List ℕ) (a least : ℕ) →
+    AreEdges n edges → ShowsRemaining n edges missing → ((k : ℕ) →
+    k < length (neighbors_of edges a) → 0 < get_or missing (get_or (neighbors_of edges a) k 0) 0 →
+    least ≤ get_or (neighbors_of edges a) k 0) →
+    (least < n → Contains (neighbors_of edges a) least × (0 < get_or missing least 0)) →
+    Remains n edges a → IsLeastDependency n edges a least
+least_dependency n edges missing a least are shows lower is (within, keeps, kept) =
+    let low : (b : ℕ) → DependsOn edges a b → Remains n edges b → least ≤ b = λ b depends remains.
+    let (k, below, at) = neighbor_from_depends edges a b depends in
+    let here : get_or (neighbors_of edges a) k 0 ≡ b =
+    sym (get_or_default (neighbors_of edges a) k b 0 below) ∙ at in
+    let some = (shows b (edge_within n edges a b are depends).1).1 remains in
+    rw here at (lower k below (rw here some)) in
+    let (b, depends, kept_b) = (keeps a kept).1 in
+    let bound = low b depends (within, keeps, kept_b) in
+    let less : least < n = (let below = (edge_within n edges a b are depends).1 in omega arith) in
+    let p = is less in (
+      (depends_from_neighbor edges a least p.0, (shows least less).0 p.1),
+      λ y (depends_y, remains_y). low y depends_y remains_y,
     )
 
 pub record IsWalking (n : ℕ) (edges : List (ℕ × ℕ)) (nodes : List ℕ) (node : ℕ) : Type 0 where
@@ -105,6 +49,7 @@ pub record IsWalking (n : ℕ) (edges : List (ℕ × ℕ)) (nodes : List ℕ) (n
   pub first : IsLeast (Remains n edges) (get_or (nodes ++ node ∷ []) 0 0)
   pub along : Chain (IsLeastDependency n edges) (nodes ++ node ∷ [])
   pub remains : Remains n edges node
+  pub walked : (x : ℕ) → Contains nodes x → Remains n edges x
 
 head_same : (xs ys zs : List ℕ) (x : ℕ) →
     get_or ((xs ++ x ∷ ys) ++ zs) 0 0 ≡ get_or (xs ++ x ∷ ys) 0 0
@@ -114,7 +59,13 @@ head_same (y ∷ xs) ys zs x = refl
 module _ {n : ℕ} {edges : List (ℕ × ℕ)} where
   pub walking_none : (node : ℕ) → IsLeast (Remains n edges) node → IsWalking n edges [] node
   walking_none node first =
-      record { once = λ x. omega arith; first = first; along = tt; remains = first.0 }
+      record {
+        once = λ x. omega arith;
+        first = first;
+        along = tt;
+        remains = first.0;
+        walked = λ x (k, below, is). absurd (omega arith);
+      }
 
   pub walking_within : {nodes : List ℕ} {node : ℕ} → IsWalking n edges nodes node → node < n
   walking_within {node = node} w = let (within, keeps, kept) = w.remains in (keeps node kept).0
@@ -128,7 +79,14 @@ module _ {n : ℕ} {edges : List (ℕ × ℕ)} where
     first = rw (head_same nodes [] (after ∷ []) node) w.first;
     along = push (IsLeastDependency n edges) nodes node after w.along dependency;
     remains = dependency.0.1;
+    walked = λ x h. ⊎_elim (w.walked x) (λ e. rw (← e) w.remains) (Contains-push_cases nodes node x h);
   }
+
+  -- each node of the walk is a node
+  pub walked_within : {nodes : List ℕ} {node : ℕ} → IsWalking n edges nodes node →
+      (x : ℕ) → Contains nodes x → x < n
+  walked_within w x h =
+      let (within, keeps, kept) = w.walked x h in (keeps x kept).0
 
   -- it comes back
   pub walking_back : {nodes : List ℕ} {node : ℕ} (start : ℕ) → IsWalking n edges nodes node →

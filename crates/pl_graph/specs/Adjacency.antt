@@ -1,6 +1,8 @@
--- What the functions inside say of lists of neighbors and of marks.
-use Rattle.std.specs.Prelude.{◌≡◌, ℕ, ◌+◌, ◌<◌, ◌==◌, ◌++◌, ◌↔◌, Bool, true, false, not, List}
-use Rattle.std.specs.Prelude.{Contains, count_by, filter, map, length, slice_index_or}
+-- What the functions inside say of lists of neighbors and of what was found.
+use Rattle.std.specs.Prelude.{◌≡◌, ℕ, ◌<◌, ◌==◌, ◌++◌, ◌↔◌, List, Contains, filter, map, length}
+use Rattle.std.specs.Prelude.{slice_index_or}
+use Rattle.std.specs.Ordering.{nat_cmp}
+use Rattle.std.specs.BTreeSet.{BTreeSet, IsOrdered, keys}
 
 -- where the edges lead from a, in their order
 abbrev pub neighbors_of : List (ℕ × ℕ) → ℕ → List ℕ
@@ -11,11 +13,11 @@ pub record AreNeighbors (n : ℕ) (edges : List (ℕ × ℕ)) (lists : List (Lis
   pub len : length lists ≡ n
   pub each : (a : ℕ) (d : List ℕ) → a < n → slice_index_or lists a d ≡ neighbors_of edges a
 
--- the marked nodes are those that were found, each found once
-pub record IsMarked (found : List ℕ) (marks : List Bool) : Type 0 where
-  pub is : (b : ℕ) → b < length marks → (slice_index_or marks b false ≡ true) ↔ Contains found b
-  pub within : (b : ℕ) → Contains found b → b < length marks
-  pub size : length found + count_by not marks ≡ length marks
+-- the nodes of the set are those that were found, each found once
+pub record IsSetOf (found : List ℕ) (set : BTreeSet ℕ) : Type 0 where
+  pub is : (b : ℕ) → Contains (keys set) b ↔ Contains found b
+  pub len : length (keys set) ≡ length found
+  pub ordered : IsOrdered nat_cmp set
 
 -- some of the nodes were found, each that had not been before
 pub record FindsMore (old : List ℕ) (nodes : List ℕ) (new : List ℕ) : Type 0 where

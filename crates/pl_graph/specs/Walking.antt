@@ -1,18 +1,10 @@
 -- What the functions inside say of the walk to a cycle.
 use Rattle.std.specs.Prelude.{◌≡◌, ℕ, ◌<◌, ◌≤◌, ◌↔◌, List, [], ◌∷◌, ◌++◌, All, length, slice_index}
-use Rattle.pl_graph.specs.Graph.{Chain, DependsOn, EachOnce, IsLeast, IsLeastDependency, Remains}
+use Rattle.pl_graph.specs.Graph.{Chain, EachOnce, IsLeast, IsLeastDependency, Remains}
 
 -- exactly the remaining nodes have a missing dependency
 abbrev pub ShowsRemaining : ℕ → List (ℕ × ℕ) → List ℕ → Type 0
 ShowsRemaining n edges missing = (x : ℕ) → x < n → (0 < slice_index missing x) ↔ Remains n edges x
-
--- for each node its least dependency among those that miss one themselves, or n where there is none
-pub record AreLeast (n : ℕ) (edges : List (ℕ × ℕ)) (missing least : List ℕ) : Type 0 where
-  pub len : length least ≡ n
-  pub is : (a : ℕ) → a < n → slice_index least a < n →
-      DependsOn edges a (slice_index least a) × (0 < slice_index missing (slice_index least a))
-  pub lower : (a b : ℕ) → DependsOn edges a b → 0 < slice_index missing b →
-      slice_index least a ≤ b
 
 -- the walk from the least remaining node along least remaining dependencies, until it would come
 -- back to its place `start`

@@ -1,9 +1,10 @@
-ghost use Rattle.std.specs.Prelude.{◌≡◌, ◌<◌, [], All, IfOk, OnOk, length, replicate};
+ghost use Rattle.std.specs.Prelude.{◌≡◌, [], IfOk, OnOk, replicate};
 ghost use Rattle.pl_graph.specs.Graph.{AreEdges};
-ghost use Rattle.pl_graph.specs.Adjacency.{AreNeighbors, IsMarked, FindsMore};
+ghost use Rattle.pl_graph.specs.Adjacency.{AreNeighbors, FindsMore, IsSetOf};
 
 use pl_base::{List, Memory};
 use std::alloc::Global;
+use std::collections::BTreeSet;
 
 /// As many empty lists.
 fn empty_lists(alloc: Global, n: u32) -> Result<Vec<List<u32>>, Memory>
@@ -28,17 +29,15 @@ pub fn neighbors(alloc: Global, n: u32, edges: &[(u32, u32)]) -> Result<Vec<List
     Ok(lists)
 }
 
-/// Puts each of the nodes that is not marked yet behind those that were found, and marks it.
-pub fn find_more(found: &mut Vec<u32>, marks: &mut Vec<bool>, nodes: &[u32]) -> Result<(), Memory>
-    requires nodes { All (λ b. b < length marks.old.items) nodes.now }
-    requires marked { IsMarked found.old.items marks.old.items }
+/// Puts each of the nodes that is not in the set yet behind those that were found, and into the set.
+pub fn find_more(found: &mut Vec<u32>, set: &mut BTreeSet<u32>, nodes: &[u32]) -> Result<(), Memory>
+    requires { IsSetOf found.old.items set.old }
     ensures finds { OnOk result (FindsMore found.old.items nodes.now found.new.items) }
-    ensures marked { OnOk result (IsMarked found.new.items marks.new.items) }
-    ensures len { length marks.new.items ≡ length marks.old.items }
+    ensures set { OnOk result (IsSetOf found.new.items set.new) }
 {
     for node in nodes {
-        if !marks[*node as usize] {
-            marks[*node as usize] = true;
+        if !set.contains(node) {
+            set.insert(*node)?;
             found.push(*node)?;
         }
     }

@@ -1,9 +1,11 @@
-ghost use Rattle.std.specs.Prelude.{◌≡◌, ◌<◌, ◌≤◌, ℕ, Contains, IfOk, length, slice_index};
+ghost use Rattle.std.specs.Prelude.{◌≡◌, ◌<◌, ◌≤◌, ℕ, All, Contains, IfOk, length, slice_index};
 ghost use Rattle.pl_graph.specs.Graph.{AreEdges, IsCanonicalCycle, IsLeast, Remains};
-ghost use Rattle.pl_graph.specs.Walking.{AreLeast, IsTurned, IsWalk, ShowsRemaining};
+ghost use Rattle.pl_graph.specs.Walking.{IsTurned, IsWalk, ShowsRemaining};
 
+use crate::adjacency::neighbors;
 use pl_base::{List, Memory};
 use std::alloc::Global;
+use std::collections::BTreeSet;
 
 /// A walk that comes back to its node at the place `start`.
 #[derive(Drop)]
@@ -46,38 +48,34 @@ fn walk_from(
     requires first { IsLeast (Remains n edges.now) first }
     ensures { IfOk result (λ walk. IsWalk n edges.now walk.nodes.items walk.start) }
 {
-    let next = least_dependencies(alloc, n, edges, missing)?;
-    let mut seen = vec![in alloc; false; n as usize]?;
+    let dependencies = neighbors(alloc, n, edges)?;
+    let mut seen = BTreeSet::new(alloc);
     let mut nodes = Vec::new(alloc);
     let mut node = first;
-    while !seen[node as usize] {
-        seen[node as usize] = true;
+    while !seen.contains(&node) {
+        seen.insert(node)?;
         nodes.push(node)?;
-        node = next[node as usize];
+        node = least_waiting(n, missing, dependencies[node as usize].as_slice());
     }
     let start = place_of(&nodes, node);
     Ok(Walk { nodes, start })
 }
 
-/// For each node its least dependency that misses one itself, or `n` where there is none.
-fn least_dependencies(
-    alloc: Global,
-    n: u32,
-    edges: &[(u32, u32)],
-    missing: &[usize],
-) -> Result<Vec<u32>, Memory>
-    requires edges { AreEdges n edges.now }
+/// The least of the nodes that misses a dependency, or `n` where none does.
+fn least_waiting(n: u32, missing: &[usize], nodes: &[u32]) -> u32
     requires len { length missing.now ≡ n }
-    ensures { IfOk result (λ least. AreLeast n edges.now missing.now least.items) }
+    requires within { All (λ x. x < n) nodes.now }
+    ensures lower { (k : ℕ) → k < length nodes.now →
+        0 < slice_index missing.now (slice_index nodes.now k) → result ≤ slice_index nodes.now k }
+    ensures is { result < n → Contains nodes.now result × (0 < slice_index missing.now result) }
 {
-    let mut least = vec![in alloc; n; n as usize]?;
-    for edge in edges {
-        if missing[edge.1 as usize] > 0 {
-            let smaller = least[edge.0 as usize].min(edge.1);
-            least[edge.0 as usize] = smaller;
+    let mut least = n;
+    for node in nodes {
+        if missing[*node as usize] > 0 && *node < least {
+            least = *node;
         }
     }
-    Ok(least)
+    least
 }
 
 /// The first place of a node that is among the nodes.
