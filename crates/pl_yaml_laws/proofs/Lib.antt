@@ -1,4 +1,6 @@
 pub mod Agreeing
+pub mod Between
+pub mod BetweenRows
 pub mod Breaks
 pub mod Chomping
 pub mod EmptyLines

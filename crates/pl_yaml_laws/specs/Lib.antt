@@ -1,3 +1,4 @@
+pub mod Between
 pub mod Breaks
 pub mod Chomping
 pub mod EmptyLines

@@ -1,3 +1,4 @@
+ghost use Rattle.pl_yaml_laws.specs.Between.{PassedOverBetween, PassedOverInside};
 ghost use Rattle.pl_yaml_laws.specs.Breaks.{LineBreaksAreAlike};
 ghost use Rattle.pl_yaml_laws.specs.Chomping.{ChompingChangesTheEnd, KeepingKeepsAll};
 ghost use Rattle.pl_yaml_laws.specs.EmptyLines.{PassedOverBeforeItems, PassedOverBeforeNodes};
@@ -53,12 +54,23 @@ pub fn chomping_changes_the_end()
 /// (`text`), before the value of a key or a dash on later lines (`value`), and before the next
 /// entry of a sequence (`items`) or of a mapping (`pairs`). Rows keep their numbers, so the places
 /// of what is read are told by the rows alone.
+///
+/// In the middle of a text it changes nothing before a line with content at which no scalar of
+/// several lines goes on (`between`, and of a whole text `inside`), as the lines before the place
+/// tell (`all_ended`): each is followed, still before the place, by a line that isn't deeper; or it
+/// has no `|` and no `>`, and it ends with `:`, or the next line with content isn't deeper, has a
+/// mapping's `:` or is a comment. Where a scalar stands alone on the line behind it, the same holds
+/// of that scalar, with the first line's column. The tree is the same, with the lines behind the
+/// place numbered one further, and so is a fault, unless it is told on the line behind the place:
+/// there a line that can't go on with a plain scalar is told otherwise where a comment ended it.
 pub fn empty_lines_are_passed_over()
     ensures rows { PassedOverInDocuments }
     ensures text { PassedOverInTexts }
     ensures value { PassedOverBeforeNodes }
     ensures items { PassedOverBeforeItems }
     ensures pairs { PassedOverBeforePairs }
+    ensures between { PassedOverBetween }
+    ensures inside { PassedOverInside }
 {}
 
 /// A fault is the first one: it doesn't depend on what stands behind its line. A text that is
