@@ -22,7 +22,8 @@ use Rattle.pl_graph.specs.Walking.{IsTurned, IsWalk, ShowsRemaining}
 use Rattle.pl_graph.specs.Adjacency.{neighbors_of}
 use Rattle.pl_graph.proofs.Neighbors.{depends_from_neighbor, neighbor_from_depends}
 
--- the least neighbor that misses a dependency is the least remaining dependency of a node that remains
+-- the least neighbor that misses a dependency is the least remaining dependency of a node that
+-- remains
 pub least_dependency : (n : ℕ) (edges : List (ℕ × ℕ)) (missing : List ℕ) (a least : ℕ) →
     AreEdges n edges → ShowsRemaining n edges missing → ((k : ℕ) →
     k < length (neighbors_of edges a) → 0 < get_or missing (get_or (neighbors_of edges a) k 0) 0 →
@@ -79,7 +80,8 @@ module _ {n : ℕ} {edges : List (ℕ × ℕ)} where
     first = rw (head_same nodes [] (after ∷ []) node) w.first;
     along = push (IsLeastDependency n edges) nodes node after w.along dependency;
     remains = dependency.0.1;
-    walked = λ x h. ⊎_elim (w.walked x) (λ e. rw (← e) w.remains) (Contains-push_cases nodes node x h);
+    walked = λ x h. ⊎_elim (w.walked x) (λ e. rw (← e) w.remains)
+        (Contains-push_cases nodes node x h);
   }
 
   -- each node of the walk is a node

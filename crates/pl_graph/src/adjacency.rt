@@ -29,7 +29,8 @@ pub fn neighbors(alloc: Global, n: u32, edges: &[(u32, u32)]) -> Result<Vec<List
     Ok(lists)
 }
 
-/// Puts each of the nodes that is not in the set yet behind those that were found, and into the set.
+/// Puts each of the nodes that is not in the set yet behind those that were found, and into the
+/// set.
 pub fn find_more(found: &mut Vec<u32>, set: &mut BTreeSet<u32>, nodes: &[u32]) -> Result<(), Memory>
     requires { IsSetOf found.old.items set.old }
     ensures finds { OnOk result (FindsMore found.old.items nodes.now found.new.items) }

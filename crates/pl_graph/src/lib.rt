@@ -1,5 +1,5 @@
-//! Graphs of dependencies: an order in which each node stands after those that it depends on, or the
-//! cycle that leaves none, and all that a node depends on.
+//! Graphs of dependencies: an order in which each node stands after those that it depends on, or
+//! the cycle that leaves none, and all that a node depends on.
 #![tactic(auto)]
 
 mod adjacency;

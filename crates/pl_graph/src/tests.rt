@@ -111,7 +111,8 @@ fn numbered_edges(alloc: Global, n: u32, number: u32) -> Result<Vec<(u32, u32)>,
     Ok(edges)
 }
 
-/// The lists, each with one more node at its end that it does not hold yet, in the order of the lists.
+/// The lists, each with one more node at its end that it does not hold yet, in the order of the
+/// lists.
 fn one_longer(alloc: Global, n: u32, lists: &[Vec<u32>]) -> Result<Vec<Vec<u32>>, AllocError> {
     let mut longer = Vec::new(alloc);
     for list in lists {

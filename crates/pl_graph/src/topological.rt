@@ -11,15 +11,14 @@ use std::alloc::Global;
 
 /// All nodes, each after those that it depends on, the least possible first at each place, in
 /// O((n + e) log n).
-///
-/// Nodes are the numbers below `n`. An edge `(a, b)` says that `a` depends on `b`, and may come twice.
+///  Nodes are the numbers below `n`. An edge `(a, b)` says that `a` depends on `b`, and may come
+/// twice.
 ///
 /// # Errors
-///
-/// `Cycle` exactly where the edges have a cycle, with the canonical one: nodes without remaining
-/// dependencies are taken away while there are any; from the least remaining node the least remaining
-/// dependency is followed until a node repeats; the cycle from there is turned to begin with its least
-/// node. `Memory` where memory was refused.
+///  `Cycle` exactly where the edges have a cycle, with the canonical one: nodes without remaining
+/// dependencies are taken away while there are any; from the least remaining node the least
+/// remaining dependency is followed until a node repeats; the cycle from there is turned to begin
+/// with its least node. `Memory` where memory was refused.
 pub fn order(alloc: Global, n: u32, edges: &List<(u32, u32)>) -> Result<List<u32>, GraphFault>
     requires { AreEdges n edges.now }
     ensures order { IfOk result (λ nodes. IsLeastTopological n edges.now nodes) }

@@ -14,7 +14,8 @@ struct Walk {
     start: usize,
 }
 
-/// The cycle to which the walk from the first remaining node leads, turned to begin with its least node.
+/// The cycle to which the walk from the first remaining node leads, turned to begin with its least
+/// node.
 pub fn canonical_cycle(
     alloc: Global,
     n: u32,

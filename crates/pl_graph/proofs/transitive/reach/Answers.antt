@@ -15,7 +15,8 @@ loop-at-init c =
     let nodes = c.as_slice.ensures ∙ c.index.ensures
     ∙ c.in_ok-dependencies.ensures.each c.args.node _ c.requires.node in
     record {
-      reach = reach_first (rw (c.new-nodes.ensures.items, nodes) at c.in_ok-find_more.ensures.finds);
+      reach =
+          reach_first (rw (c.new-nodes.ensures.items, nodes) at c.in_ok-find_more.ensures.finds);
       set = c.in_ok-find_more.ensures.set;
     }
 

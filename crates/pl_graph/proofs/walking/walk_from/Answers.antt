@@ -38,8 +38,10 @@ loop-seen-preserved c =
     rw c.in_ok-push.ensures.items (record {
       walking = walking_more c.least_waiting-node.result l.invariant.walking
           (absent l.invariant.set l.node none)
-          (least_dependency c.args.n c.args.edges.now c.args.missing.now l.node _ c.requires.edges c.requires.shows
-          (rw nodes at c.least_waiting-node.ensures.lower) (rw nodes at c.least_waiting-node.ensures.is)
+          (least_dependency c.args.n c.args.edges.now c.args.missing.now l.node _ c.requires.edges
+          c.requires.shows
+          (rw nodes at c.least_waiting-node.ensures.lower)
+          (rw nodes at c.least_waiting-node.ensures.is)
           l.invariant.walking.remains);
       set = set_push l.node c.in_ok-insert.field-0 l.invariant.set none c.in_ok-insert.ensures.added
           c.in_ok-insert.ensures.len c.in_ok-insert.ensures.updates c.insert.ensures.ordered;
