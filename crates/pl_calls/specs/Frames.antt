@@ -13,6 +13,7 @@ use Rattle.pl_params.specs.declared.given.Given.{Given}
 use Rattle.pl_directives.specs.declared.fault.ExpandFault.{ExpandFault}
 use Rattle.pl_reading.specs.Steps.{◌>>=◌}
 use Rattle.pl_calls.specs.Calls.{given_across}
+use Rattle.pl_calls.specs.declared.frames.Template.{Template as Lent}
 use Rattle.pl_calls.specs.Parameters.{declared_by, bound_to}
 use Rattle.pl_calls.specs.Parts.{under}
 
@@ -34,17 +35,27 @@ parameters_for pairs crossings given =
     bound_to declared given >>= λ bound.
     Ok (parameters_of crossings declared bound)
 
-abbrev pub framed :
-    FileKey → ℕ → List NodePair → List Variable → List Given → List Crossing →
-    Result Frame ExpandFault
-framed file level pairs variables given crossings =
-    parameters_for pairs crossings given >>= λ parameters.
-    Ok (inner_frame file level parameters variables crossings)
+-- A template that is called: its file, the level at which it is, and its pairs.
+pub record Template : Type 0 where
+  pub file : FileKey
+  pub level : ℕ
+  pub pairs : List NodePair
 
--- the frame of a template of these pairs, across a border behind others
+abbrev pub template_of : FileKey → ℕ → List NodePair → Template
+template_of file level pairs = record { file = file; level = level; pairs = pairs }
+
+abbrev pub template_seen : Lent → Template
+template_seen lent = template_of lent.file.now lent.level lent.pairs.now
+
+abbrev pub framed :
+    Template → List Variable → List Given → List Crossing → Result Frame ExpandFault
+framed template variables given crossings =
+    parameters_for template.pairs crossings given >>= λ parameters.
+    Ok (inner_frame template.file template.level parameters variables crossings)
+
+-- its frame, across a border behind others
 abbrev pub framed_by :
-    FileKey → ℕ → List NodePair → List Variable → List MarkedPair → Crossing → List Crossing →
+    Template → List Variable → List MarkedPair → Crossing → List Crossing →
     Result Frame ExpandFault
-framed_by file level pairs variables arguments border crossings =
-    framed file level pairs variables (map (given_across border) arguments)
-    (crossings ++ border ∷ [])
+framed_by template variables arguments border crossings =
+    framed template variables (map (given_across border) arguments) (crossings ++ border ∷ [])

@@ -1,6 +1,7 @@
 ghost use Rattle.std.specs.Prelude.{◌≡◌, ◌++◌, ◌∷◌, [], map, IfOk};
 ghost use Rattle.pl_calls.specs.Calls.{given_across};
-ghost use Rattle.pl_calls.specs.Frames.{inner_frame, parameters_for, framed, framed_by};
+ghost use Rattle.pl_calls.specs.Frames.{inner_frame, parameters_for, template_seen, framed};
+ghost use Rattle.pl_calls.specs.Frames.{framed_by};
 ghost use Rattle.pl_calls.specs.Seeing.{pairs_of};
 ghost use Rattle.pl_directives.specs.Gives.{Gives};
 
@@ -92,42 +93,52 @@ fn with_border(
     crossings.with(alloc, border.copy(alloc)?)
 }
 
-/// The frame of a template of these pairs, behind these borders.
+/// A template that is called: its file, the level at which it is, and its pairs.
+#[derive(Drop)]
+pub struct Template<'t> {
+    pub file: &'t Shared<FileKey>,
+    pub level: u32,
+    pub pairs: &'t List<NodePair>,
+}
+
+/// The frame of a template, behind these borders.
 fn framed(
     alloc: Global,
-    file: &Shared<FileKey>,
-    level: u32,
-    pairs: &List<NodePair>,
+    template: &Template<'_>,
     variables: &Shared<List<Variable>>,
     given: &List<Given>,
     crossings: &SharedList<Crossing>,
 ) -> Result<Frame, ExpandFault>
-    ensures { Gives result (framed file.now level pairs.now variables.now given.now
+    ensures { Gives result (framed (template_seen template.now) variables.now given.now
         crossings.now) }
 {
-    let parameters = parameters_for(alloc, pairs, crossings, given)?;
+    let parameters = parameters_for(alloc, template.pairs, crossings, given)?;
     let parameters = Shared::new(alloc, parameters)?;
-    Ok(inner_frame(alloc, file, level, parameters, variables, crossings)?)
+    Ok(inner_frame(
+        alloc,
+        template.file,
+        template.level,
+        parameters,
+        variables,
+        crossings,
+    )?)
 }
 
-/// The frame of a template of these pairs, at a level, across a border behind others: its
-/// parameters are what it declares, bound to the arguments, and its variables those. X14 where a
-/// declaration is wrong, or an argument doesn't fit. Memory comes too where an argument is deeper
-/// than `DEEPEST`.
+/// The frame of a template, across a border behind others: its parameters are what it declares,
+/// bound to the arguments, and its variables those. X14 where a declaration is wrong, or an
+/// argument doesn't fit. Memory comes too where an argument is deeper than `DEEPEST`.
 pub fn framed_by(
     alloc: Global,
-    file: &Shared<FileKey>,
-    level: u32,
-    pairs: &List<NodePair>,
+    template: &Template<'_>,
     variables: &Shared<List<Variable>>,
     arguments: Option<&List<MarkedPair>>,
     border: &Crossing,
     crossings: &SharedList<Crossing>,
 ) -> Result<Frame, ExpandFault>
-    ensures { Gives result (framed_by file.now level pairs.now variables.now (pairs_of
+    ensures { Gives result (framed_by (template_seen template.now) variables.now (pairs_of
         arguments.entry) border.now crossings.now) }
 {
     let given = given_by(alloc, border, arguments)?;
     let all = with_border(alloc, crossings, border)?;
-    framed(alloc, file, level, pairs, variables, &given, &all)
+    framed(alloc, template, variables, &given, &all)
 }

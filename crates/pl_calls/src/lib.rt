@@ -12,7 +12,7 @@ mod reaching;
 
 pub use call::{Call, call_of, given_across, pairs_from, path_text};
 pub use files::{Files, Parsed};
-pub use frames::framed_by;
+pub use frames::{Template, framed_by};
 pub use judging::{body_in, form_key, node_in, template_in};
 pub use parameters::{bound_to, declared_by};
 pub use parts::{items_of, key_place, pairs_of, text_of, text_under, under};

@@ -32,7 +32,7 @@ use Rattle.pl_directives.specs.Contents.{begun}
 use Rattle.pl_directives.specs.Counting.{entered}
 use Rattle.pl_reading.specs.Steps.{◌>>=◌}
 use Rattle.pl_calls.specs.Calls.{path_text, pairs_from}
-use Rattle.pl_calls.specs.Frames.{framed_by}
+use Rattle.pl_calls.specs.Frames.{template_of, framed_by}
 use Rattle.pl_calls.specs.Judging.{unless_at, stray, held, template_in}
 use Rattle.pl_calls.specs.Meant.{◌>>>◌, alone}
 use Rattle.pl_calls.specs.Parts.{Body, body_of, under}
@@ -40,7 +40,7 @@ use Rattle.pl_calls.specs.Reaching.{Opens, node_in}
 use Rattle.pl_calls.specs.declared.reaching.Opened.{Opened}
 use Rattle.pl_expanding.specs.Expanding.{Filling, part_of, entry_of, expanded, path_by}
 use Rattle.pl_expanding.specs.Expanding.{pair_behind}
-use Rattle.pl_expanding.specs.Following.{Follow}
+use Rattle.pl_expanding.specs.Following.{Follow, Scope, scope_of}
 use Rattle.pl_expanding.specs.Levels.{followed, variable_item}
 use Rattle.pl_expanding.specs.declared.followed.SettledPairs.{SettledPairs}
 use Rattle.pl_expand.specs.declared.extending.Extension.{Extension}
@@ -62,7 +62,8 @@ mapping_from one =
 abbrev pub value_from :
     Node → Follow → Frame → ℕ → List FileKey → Result (SettledPairs × List FileKey) ExpandFault
 value_from node follow frame count used =
-    expanded node follow frame Quiet count used >>> λ one used. alone (mapping_from one) used
+    expanded node (scope_of follow frame Quiet) count used >>> λ one used.
+    alone (mapping_from one) used
 
 abbrev pub argument_behind :
     NodePair → Follow → Frame → SettledPairs → List FileKey →
@@ -94,14 +95,14 @@ extended_pairs node =
 
 -- its pairs but the declarations
 abbrev pub body_pair : NodePair → Filling
-body_pair pair follow frame region progress used =
+body_pair pair scope progress used =
     if is pair.key (codes "parameters") then Ok (progress, used)
-    else pair_behind (entry_of pair) follow frame region progress used
+    else pair_behind (entry_of pair) scope progress used
 
 abbrev pub body_pairs : List NodePair → Filling
-body_pairs [] follow frame region progress used = Ok (progress, used)
-body_pairs (pair ∷ pairs) follow frame region progress used =
-    body_pair pair follow frame region progress used >>> body_pairs pairs follow frame region
+body_pairs [] scope progress used = Ok (progress, used)
+body_pairs (pair ∷ pairs) scope progress used =
+    body_pair pair scope progress used >>> body_pairs pairs scope
 
 abbrev pub pairs_there : Content → List MarkedPair
 pairs_there (Pairs pairs) = pairs
@@ -109,13 +110,13 @@ pairs_there other = []
 
 -- ---- an extension, in the order of a call
 
--- the body, in its frame
+-- the body, in its scope
 abbrev pub body_filled :
-    FileKey → Place → List NodePair → Follow → Frame → ℕ → List FileKey →
+    FileKey → Place → List NodePair → Scope → ℕ → List FileKey →
     Result (Extension × List FileKey) ExpandFault
-body_filled file place pairs follow inner count used =
+body_filled file place pairs scope count used =
     entered place count >>= λ count.
-    body_pairs pairs follow inner Free (begun content.Pairs Closed count) used >>> λ after used.
+    body_pairs pairs scope (begun content.Pairs Closed count) used >>> λ after used.
     Ok (record { file = file; pairs = pairs_there after.content; count = after.count }, used)
 
 -- from the file on
@@ -125,9 +126,9 @@ abbrev pub opened_filled :
 opened_filled opened path arguments follow frame used =
     node_in opened.file >>= λ node.
     extended_pairs node >>= λ pairs.
-    framed_by opened.key 1 pairs frame.variables arguments.pairs (Extends opened.key)
-    path.origin.crossings >>= λ inner.
-    body_filled opened.key node.place pairs follow inner arguments.count used
+    framed_by (template_of opened.key 1 pairs) frame.variables arguments.pairs
+    (Extends opened.key) path.origin.crossings >>= λ inner.
+    body_filled opened.key node.place pairs (scope_of follow inner Free) arguments.count used
 
 -- from the path and the arguments on
 abbrev pub reached_filled :

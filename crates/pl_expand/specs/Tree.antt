@@ -55,7 +55,7 @@ use Rattle.pl_calls.specs.Meant.{◌>>>◌, alone}
 use Rattle.pl_calls.specs.Parts.{Body, body_of, under}
 use Rattle.pl_calls.specs.Reaching.{Opens, node_in, opens, same_file}
 use Rattle.pl_expanding.specs.Expanding.{expanded, entry_of, pair_behind}
-use Rattle.pl_expanding.specs.Following.{Follow}
+use Rattle.pl_expanding.specs.Following.{Follow, scope_of}
 use Rattle.pl_expanding.specs.Levels.{followed}
 use Rattle.pl_expand.specs.Extending.{extended, merged}
 use Rattle.pl_root.specs.Resources.{earliest}
@@ -80,7 +80,7 @@ abbrev pub early_by :
     Option Node → Follow → Frame → ℕ → List FileKey → Result (Early × List FileKey) ExpandFault
 early_by None follow frame count used = Ok (record { node = None; count = count }, used)
 early_by (Some node) follow frame count used =
-    expanded node follow frame (Calls InVariables) count used >>> λ one used.
+    expanded node (scope_of follow frame (Calls InVariables)) count used >>> λ one used.
     Ok (record { node = Some one.node; count = one.count }, used)
 
 -- ---- its pairs
@@ -104,7 +104,7 @@ Rooting =
 
 abbrev pub ordinary_pair : NodePair → Rooting
 ordinary_pair pair opens frame filling used =
-    pair_behind (entry_of pair) (followed 100 opens) frame Free filling.progress used >>>
+    pair_behind (entry_of pair) (scope_of (followed 100 opens) frame Free) filling.progress used >>>
     λ after used. Ok (filled_with filling.extension after, used)
 
 -- what the template gives that `extends` leads to; a chain of branches ends there
@@ -162,7 +162,8 @@ stands pair =
 abbrev pub object_pairs :
     Option Extension → List MarkedPair → Result (List MarkedPair) ExpandFault
 object_pairs extension pairs =
-    unless_at {X = Unit {0}} KeyTwice (first_double pairs) tt >>= λ none. merged extension (filter stands pairs)
+    unless_at {X = Unit {0}} KeyTwice (first_double pairs) tt >>= λ none.
+    merged extension (filter stands pairs)
 
 abbrev pub root_object :
     Option Extension → Origin → Content → Result MarkedNode ExpandFault
@@ -209,20 +210,32 @@ filled_in place pairs frame opens early used =
     (filled_with None (begun content.Pairs Closed early.count)) used >>> λ filling used.
     alone (root_from (literal_at frame place) filling) used
 
+-- A root file's mapping: the file, where the mapping stands, its pairs, and what is bound to the
+-- parameters that it declares.
+pub record RootMapping : Type 0 where
+  pub file : FileKey
+  pub place : Place
+  pub pairs : List NodePair
+  pub parameters : List Parameter
+
+abbrev pub root_mapping :
+    FileKey → Place → List NodePair → List Parameter → RootMapping
+root_mapping file place pairs parameters =
+    record { file = file; place = place; pairs = pairs; parameters = parameters }
+
 abbrev pub filled_root :
-    FileKey → Place → List NodePair → List Parameter → Opens → Early → List FileKey →
-    Result (RootNode × List FileKey) ExpandFault
-filled_root root place pairs parameters opens early used =
-    filled_in place pairs (second_frame root parameters early.node) opens early used
+    RootMapping → Opens → Early → List FileKey → Result (RootNode × List FileKey) ExpandFault
+filled_root root opens early used =
+    filled_in root.place root.pairs (second_frame root.file root.parameters early.node) opens early
+    used
 
 abbrev pub pairs_expanded :
-    FileKey → Place → List NodePair → List Parameter → Opens →
-    Result (RootNode × List FileKey) ExpandFault
-pairs_expanded root place pairs parameters opens =
-    entered place 0 >>= λ count.
-    early_by (under (codes "variables") pairs) (followed 100 opens) (first_frame root parameters)
-    count [] >>>
-    filled_root root place pairs parameters opens
+    RootMapping → Opens → Result (RootNode × List FileKey) ExpandFault
+pairs_expanded root opens =
+    entered root.place 0 >>= λ count.
+    early_by (under (codes "variables") root.pairs) (followed 100 opens)
+    (first_frame root.file root.parameters) count [] >>>
+    filled_root root opens
 
 abbrev pub Set : Type 0
 Set = finite.FinMap file_cmp Parsed
@@ -236,8 +249,8 @@ abbrev pub mapping_expanded :
 mapping_expanded files root place pairs arguments =
     unless (earliest (root_complaints pairs)) pairs >>= λ pairs.
     parameters_by (under (codes "parameters") pairs) arguments >>= λ parameters.
-    pairs_expanded root place pairs parameters (opens files (home_of root pairs)) >>>
-    λ one used. Ok (whole (home_of root pairs) one used)
+    pairs_expanded (root_mapping root place pairs parameters)
+    (opens files (home_of root pairs)) >>> λ one used. Ok (whole (home_of root pairs) one used)
 
 -- A root that is no mapping declares nothing, and its schema is judged later. 100 levels of
 -- templates may be called from the root.
@@ -246,7 +259,8 @@ bare_home root = record { root = root; repositories = [] }
 
 abbrev pub bare_expanded : Set → FileKey → Node → Frame → Result RootTree ExpandFault
 bare_expanded files root node frame =
-    expanded node (followed 100 (opens files (bare_home root))) frame Free 0 [] >>> λ one used.
+    expanded node (scope_of (followed 100 (opens files (bare_home root))) frame Free) 0 [] >>>
+    λ one used.
     Ok (whole (bare_home root) (record { node = one.node; extends = None; count = one.count }) used)
 
 abbrev pub other_expanded : Set → FileKey → Node → List Argument → Result RootTree ExpandFault

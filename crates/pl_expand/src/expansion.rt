@@ -6,7 +6,8 @@ ghost use Rattle.pl_directives.specs.Complaints.{refused};
 ghost use Rattle.pl_directives.specs.Gives.{Gives};
 ghost use Rattle.pl_directives.specs.declared.fault.ExpandProblem.TheVariants.{FileMissing};
 ghost use Rattle.pl_expanding.specs.Levels.{followed};
-ghost use Rattle.pl_expand.specs.Tree.{pairs_expanded, body_expanded, whole, used_files, home_of};
+ghost use Rattle.pl_expand.specs.Tree.{root_mapping, pairs_expanded, body_expanded, whole};
+ghost use Rattle.pl_expand.specs.Tree.{used_files, home_of};
 ghost use Rattle.pl_expand.specs.Tree.{mapping_expanded, other_expanded, tree_of, bare_home};
 ghost use Rattle.pl_expand.specs.Tree.{bare_expanded};
 ghost use Rattle.pl_expand.specs.Tree.{expansion};
@@ -70,8 +71,8 @@ fn expand_pairs<F: Files>(
     reach: &mut Reach,
 ) -> Result<RootNode, ExpandFault>
     requires { reach.old.used ≡ [] }
-    ensures expanded { GivesUsed result reach.new.used (pairs_expanded root.now place.now pairs.now
-        parameters (opens (F.files files.old) reach.old.home)) }
+    ensures expanded { GivesUsed result reach.new.used (pairs_expanded (root_mapping root.now
+        place.now pairs.now parameters) (opens (F.files files.old) reach.old.home)) }
     ensures files { F.files files.new ≡ F.files files.old }
     ensures home { reach.new.home ≡ reach.old.home }
 {

@@ -1,6 +1,6 @@
 ghost use Rattle.std.specs.Prelude.{◌≡◌, [], IfOk};
 ghost use Rattle.pl_base.specs.declared.origin.Crossing.TheVariants.{Extends};
-ghost use Rattle.pl_calls.specs.Frames.{framed_by};
+ghost use Rattle.pl_calls.specs.Frames.{template_of, framed_by};
 ghost use Rattle.std.specs.Option.{option_copied};
 ghost use Rattle.pl_calls.specs.Gives.{GivesUsed};
 ghost use Rattle.pl_calls.specs.Nodes.{GivesPairs};
@@ -11,6 +11,7 @@ ghost use Rattle.pl_directives.specs.Complaints.{refused};
 ghost use Rattle.pl_directives.specs.Gives.{Gives};
 ghost use Rattle.pl_directives.specs.declared.fault.ExpandProblem.TheVariants.{WrongKind};
 ghost use Rattle.pl_directives.specs.declared.region.Region.TheVariants.{Free};
+ghost use Rattle.pl_expanding.specs.Following.{scope_of};
 ghost use Rattle.pl_expanding.specs.Levels.{followed};
 ghost use Rattle.pl_expand.specs.Extending.{path_in, mapping_from, value_from, argument_behind};
 ghost use Rattle.pl_expand.specs.Extending.{arguments_behind, may_extend, extended_pairs};
@@ -22,7 +23,9 @@ use pl_base::{
     Crossing, DEEPEST, ExactCopy, FileKey, List, MarkedNode, MarkedPair, Memory, Node, NodeBody,
     NodePair, Place, Text, Value,
 };
-use pl_calls::{Files, Opened, Reach, framed_by, node_in, open, path_text, template_in, under};
+use pl_calls::{
+    Files, Opened, Reach, Template, framed_by, node_in, open, path_text, template_in, under,
+};
 use pl_directives::{
     Chain, Content, Counted, ExpandFault, ExpandProblem, Kind, Progress, Region, Standing, begin,
     complain, enter,
@@ -201,8 +204,8 @@ fn fill_body_pair<F: Files>(
     files: &mut F,
     reach: &mut Reach,
 ) -> Result<Progress, ExpandFault>
-    ensures filled { GivesUsed result reach.new.used (body_pair pair.now (followed 99 (opens
-        (F.files files.old) reach.old.home)) frame.now Free progress reach.old.used) }
+    ensures filled { GivesUsed result reach.new.used (body_pair pair.now (scope_of (followed 99
+        (opens (F.files files.old) reach.old.home)) frame.now Free) progress reach.old.used) }
     ensures files { F.files files.new ≡ F.files files.old }
     ensures home { reach.new.home ≡ reach.old.home }
 {
@@ -221,8 +224,8 @@ fn fill_body_pairs<F: Files>(
     files: &mut F,
     reach: &mut Reach,
 ) -> Result<Progress, ExpandFault>
-    ensures filled { GivesUsed result reach.new.used (body_pairs pairs.now (followed 99 (opens
-        (F.files files.old) reach.old.home)) frame.now Free progress reach.old.used) }
+    ensures filled { GivesUsed result reach.new.used (body_pairs pairs.now (scope_of (followed 99
+        (opens (F.files files.old) reach.old.home)) frame.now Free) progress reach.old.used) }
     ensures files { F.files files.new ≡ F.files files.old }
     ensures home { reach.new.home ≡ reach.old.home }
 {
@@ -254,7 +257,8 @@ fn fill_extension<F: Files>(
     reach: &mut Reach,
 ) -> Result<Extension, ExpandFault>
     ensures filled { GivesUsed result reach.new.used (body_filled file.now place.now pairs.now
-        (followed 99 (opens (F.files files.old) reach.old.home)) inner.now count reach.old.used) }
+        (scope_of (followed 99 (opens (F.files files.old) reach.old.home)) inner.now Free) count
+        reach.old.used) }
     ensures files { F.files files.new ≡ F.files files.old }
     ensures home { reach.new.home ≡ reach.old.home }
 {
@@ -312,17 +316,20 @@ fn frame_for(
     arguments: &SettledPairs,
     frame: &Frame,
 ) -> Result<Frame, ExpandFault>
-    ensures { Gives result (framed_by opened.now.key 1 pairs.now frame.now.variables
+    ensures { Gives result (framed_by (template_of opened.now.key 1 pairs.now) frame.now.variables
         arguments.now.pairs (Extends opened.now.key) path.now.origin.crossings) }
 {
+    let template = Template {
+        file: &opened.key,
+        level: 1,
+        pairs,
+    };
     let border = border(alloc, opened)?;
     let given = Some(&arguments.pairs);
     let crossings = &path.origin.crossings;
     framed_by(
         alloc,
-        &opened.key,
-        1,
-        pairs,
+        &template,
         &frame.variables,
         given,
         &border,

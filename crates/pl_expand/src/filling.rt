@@ -8,7 +8,8 @@ ghost use Rattle.pl_directives.specs.declared.fault.ExpandProblem.TheVariants.{K
 ghost use Rattle.pl_directives.specs.declared.region.Region.TheVariants.{Free};
 ghost use Rattle.pl_expanding.specs.Levels.{followed};
 ghost use Rattle.pl_expand.specs.Tree.{early_by, given_to, early_behind, root_pair, root_pairs};
-ghost use Rattle.pl_expand.specs.Tree.{put_variables, stands, root_object, filled_root, root_from};
+ghost use Rattle.pl_expand.specs.Tree.{put_variables, stands, root_object, root_mapping};
+ghost use Rattle.pl_expand.specs.Tree.{filled_root, root_from};
 ghost use Rattle.pl_expand.specs.Tree.{ordinary_pair, filled_in, file_of};
 ghost use Rattle.pl_expand.specs.Tree.{extends_pair, variables_pair, object_pairs, passed_over};
 ghost use Rattle.pl_frame.specs.Doubles.{first_double};
@@ -392,8 +393,8 @@ pub fn fill_root<F: Files>(
     files: &mut F,
     reach: &mut Reach,
 ) -> Result<RootNode, ExpandFault>
-    ensures filled { GivesUsed result reach.new.used (filled_root root.now place.now pairs.now
-        parameters.now (opens (F.files files.old) reach.old.home) early reach.old.used) }
+    ensures filled { GivesUsed result reach.new.used (filled_root (root_mapping root.now place.now
+        pairs.now parameters.now) (opens (F.files files.old) reach.old.home) early reach.old.used) }
     ensures files { F.files files.new ≡ F.files files.old }
     ensures home { reach.new.home ≡ reach.old.home }
 {

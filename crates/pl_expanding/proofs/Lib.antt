@@ -2,3 +2,4 @@ pub mod Alone
 pub mod Filled
 pub mod Itself
 pub mod Levels
+pub mod Spread

@@ -28,7 +28,6 @@ use Rattle.pl_directives.specs.declared.progress.Chain.{Chain}
 use Rattle.pl_directives.specs.declared.progress.Chain.TheVariants.{Closed}
 use Rattle.pl_directives.specs.declared.progress.Counted.{Counted}
 use Rattle.pl_directives.specs.declared.progress.Progress.{Progress}
-use Rattle.pl_directives.specs.declared.region.Region.{Region}
 use Rattle.pl_directives.specs.Actions.{key_asks}
 use Rattle.pl_directives.specs.Complaints.{refused}
 use Rattle.pl_directives.specs.Contents.{with_chain, with_count, begun, as_items, as_pairs}
@@ -38,23 +37,20 @@ use Rattle.pl_directives.specs.Manners.{Facet, manner_of}
 use Rattle.pl_directives.specs.Regions.{under, inside, of_item, is_path}
 use Rattle.pl_reading.specs.Steps.{◌>>=◌}
 use Rattle.pl_calls.specs.Meant.{◌>>>◌, alone}
-use Rattle.pl_expanding.specs.Following.{Follow}
+use Rattle.pl_expanding.specs.Following.{Scope, in_frame, in_region}
 use Rattle.pl_expanding.specs.Putting.{add_item, splice, spread}
 use Rattle.pl_expanding.specs.Scalars.{scalar_at, path_at}
 
 -- ---- A node as what it stands in sees it
 
--- How a collection's content is put behind what is there, in a frame and a region: as often as one
--- likes, since a loop does it once a turn.
+-- How a collection's content is put behind what is there, in a scope: as often as one likes, since
+-- a loop does it once a turn.
 abbrev pub Filling : Type 0
-Filling =
-    Follow → Frame → Region → Progress → List FileKey →
-    Result (Progress × List FileKey) ExpandFault
+Filling = Scope → Progress → List FileKey → Result (Progress × List FileKey) ExpandFault
 
 -- a node as a value
 abbrev pub Valuing : Type 0
-Valuing =
-    Follow → Frame → Region → ℕ → List FileKey → Result (Counted × List FileKey) ExpandFault
+Valuing = Scope → ℕ → List FileKey → Result (Counted × List FileKey) ExpandFault
 
 pub data Shape : Type 0 where
   scalar : List ℕ → Shape
@@ -73,46 +69,45 @@ pub record Entry : Type 0 where
 -- ---- a node as a value
 
 abbrev pub collected : Kind → Filling → Place → Valuing
-collected kind fill place follow frame region count used =
+collected kind fill place scope count used =
     entered place count >>= λ count.
-    fill follow frame region (begun kind Closed count) used >>> λ inner used.
-    alone (finished (literal_at frame place) inner) used
+    fill scope (begun kind Closed count) used >>> λ inner used.
+    alone (finished (literal_at scope.frame place) inner) used
 
 abbrev pub value_by : Shape → Place → Valuing
-value_by (scalar text) place follow frame region count used =
-    scalar_at text follow frame region place count used
-value_by (sequence fill) place follow frame region count used =
-    collected kind.Items fill place follow frame region count used
-value_by (mapping manner fill) place follow frame region count used =
-    collected kind.Pairs fill place follow frame region count used
+value_by (scalar text) place scope count used = scalar_at text scope place count used
+value_by (sequence fill) place scope count used =
+    collected kind.Items fill place scope count used
+value_by (mapping manner fill) place scope count used =
+    collected kind.Pairs fill place scope count used
 
 -- ---- a node in a directive's place: its items or its pairs, else a problem where it stands
 
 abbrev pub body_by : Shape → Place → ExpandProblem → Filling
-body_by (scalar text) place problem follow frame region progress used =
-    scalar_at text follow frame region place progress.count used >>> λ one used.
+body_by (scalar text) place problem scope progress used =
+    scalar_at text scope place progress.count used >>> λ one used.
     alone (absorbed one.node problem place (with_count one.count progress)) used
-body_by (sequence fill) place problem follow frame region progress used =
+body_by (sequence fill) place problem scope progress used =
     entered place progress.count >>= λ count.
     as_items problem place (with_count count progress) >>= λ begun.
-    fill follow frame region begun used
-body_by (mapping manner fill) place problem follow frame region progress used =
+    fill scope begun used
+body_by (mapping manner fill) place problem scope progress used =
     entered place progress.count >>= λ count.
     as_pairs problem place (with_count count progress) >>= λ begun.
-    fill follow frame region begun used
+    fill scope begun used
 
 -- branches in it are chains of their own
 abbrev pub body : Part → ExpandProblem → Filling
-body part problem follow frame region progress used =
-    body_by part.shape part.place problem follow frame region (with_chain Closed progress) used >>>
+body part problem scope progress used =
+    body_by part.shape part.place problem scope (with_chain Closed progress) used >>>
     λ after used. Ok (with_chain Closed after, used)
 
 -- once for each item that the name stands for
 abbrev pub turns : List ℕ → Part → List MarkedNode → Filling
-turns name part [] follow frame region progress used = Ok (progress, used)
-turns name part (item ∷ items) follow frame region progress used =
-    body part WrongKind follow (within frame name item) region progress used >>>
-    turns name part items follow frame region
+turns name part [] scope progress used = Ok (progress, used)
+turns name part (item ∷ items) scope progress used =
+    body part WrongKind (in_frame (within scope.frame name item) scope) progress used >>>
+    turns name part items scope
 
 -- ---- pairs of a mapping
 
@@ -122,83 +117,77 @@ path_by (scalar text) place frame count = path_at text frame place count
 path_by other place frame count = entered place count >>= λ count. refused WrongKind place
 
 abbrev pub value_under : Bool → List ℕ → Part → Valuing
-value_under true key part follow frame region count used =
-    alone (path_by part.shape part.place frame count) used
-value_under false key part follow frame region count used =
-    value_by part.shape part.place follow frame (under key region) count used
+value_under true key part scope count used =
+    alone (path_by part.shape part.place scope.frame count) used
+value_under false key part scope count used =
+    value_by part.shape part.place (in_region (under key scope.region) scope) count used
 
 abbrev pub done : Action → Part → Filling
-done (Put key origin) part follow frame region progress used =
-    value_under (is_path region progress.content key) key part follow frame region progress.count
-    used >>> λ one used.
+done (Put key origin) part scope progress used =
+    value_under (is_path scope.region progress.content key) key part scope progress.count used >>>
+    λ one used.
     alone
     (put_pair (record { key = key; key_origin = origin; item = one.node }) one.count progress) used
-done (Run chain) part follow frame region progress used =
-    body part WrongKind follow frame region progress used >>> λ after used.
-    Ok (with_chain chain after, used)
-done (Pass chain) part follow frame region progress used = Ok (with_chain chain progress, used)
-done (Repeat loop count) part follow frame region progress used =
-    turns loop.name part loop.items follow frame region
-    (with_chain Closed (with_count count progress)) used
-done Insert part follow frame region progress used =
-    body part InsertNoMapping follow frame region progress used
+done (Run chain) part scope progress used =
+    body part WrongKind scope progress used >>> λ after used. Ok (with_chain chain after, used)
+done (Pass chain) part scope progress used = Ok (with_chain chain progress, used)
+done (Repeat loop count) part scope progress used =
+    turns loop.name part loop.items scope (with_chain Closed (with_count count progress)) used
+done Insert part scope progress used = body part InsertNoMapping scope progress used
 
 abbrev pub pair_behind : Entry → Filling
-pair_behind entry follow frame region progress used =
-    key_asks entry.key frame entry.key_place progress.chain progress.count >>= λ action.
-    done action entry.part follow frame region progress used
+pair_behind entry scope progress used =
+    key_asks entry.key scope.frame entry.key_place progress.chain progress.count >>= λ action.
+    done action entry.part scope progress used
 
 abbrev pub pairs_behind : List Entry → Filling
-pairs_behind [] follow frame region progress used = Ok (progress, used)
-pairs_behind (entry ∷ entries) follow frame region progress used =
-    pair_behind entry follow frame region progress used >>> pairs_behind entries follow frame region
+pairs_behind [] scope progress used = Ok (progress, used)
+pairs_behind (entry ∷ entries) scope progress used =
+    pair_behind entry scope progress used >>> pairs_behind entries scope
 
 -- ---- items of a sequence
 
 -- A mapping that is an item: a chain of branches may go on in its first key, and go on behind its
 -- last one. A mapping without a key ends it.
-abbrev pub mapping_behind :
-    Manner → Filling → Place → Follow → Frame → Region → ℕ → Progress → List FileKey →
-    Result (Progress × List FileKey) ExpandFault
-mapping_behind Empty fill place follow frame region count progress used =
-    finished (literal_at frame place) (begun kind.Pairs Closed count) >>= λ one.
-    add_item follow frame region one.node (with_chain Closed (with_count one.count progress)) used
-mapping_behind Stays fill place follow frame region count progress used =
-    fill follow frame (of_item region) (begun kind.Pairs progress.chain count) used >>>
-    λ inner used.
-    finished (literal_at frame place) inner >>= λ one.
-    add_item follow frame region one.node (with_chain inner.chain (with_count inner.count progress))
-    used
-mapping_behind (Splices kind) fill place follow frame region count progress used =
-    fill follow frame (of_item region) (begun kind progress.chain count) used >>> λ inner used.
-    splice follow frame region (literal_at frame place) inner.content
+abbrev pub mapping_behind : Manner → Filling → Place → Filling
+mapping_behind Empty fill place scope progress used =
+    finished (literal_at scope.frame place) (begun kind.Pairs Closed progress.count) >>= λ one.
+    add_item scope one.node (with_chain Closed (with_count one.count progress)) used
+mapping_behind Stays fill place scope progress used =
+    fill (in_region (of_item scope.region) scope)
+    (begun kind.Pairs progress.chain progress.count) used >>> λ inner used.
+    finished (literal_at scope.frame place) inner >>= λ one.
+    add_item scope one.node (with_chain inner.chain (with_count inner.count progress)) used
+mapping_behind (Splices kind) fill place scope progress used =
+    fill (in_region (of_item scope.region) scope)
+    (begun kind progress.chain progress.count) used >>> λ inner used.
+    splice scope (literal_at scope.frame place) inner.content
     (with_chain inner.chain (with_count inner.count progress)) used
-mapping_behind (Mixed other) fill place follow frame region count progress used =
-    refused WrongKind other
+mapping_behind (Mixed other) fill place scope progress used = refused WrongKind other
 
 abbrev pub mapping_item_by : Manner → Filling → Place → Filling
-mapping_item_by manner fill place follow frame region progress used =
+mapping_item_by manner fill place scope progress used =
     entered place progress.count >>= λ count.
-    mapping_behind manner fill place follow frame region count progress used
+    mapping_behind manner fill place scope (with_count count progress) used
 
 abbrev pub item_by : Shape → Place → Filling
-item_by (scalar text) place follow frame region progress used =
-    scalar_at text follow frame region place progress.count used >>> λ one used.
-    spread follow frame region one.node (with_chain Closed (with_count one.count progress)) used
-item_by (sequence fill) place follow frame region progress used =
-    collected kind.Items fill place follow frame (inside region) progress.count used >>>
+item_by (scalar text) place scope progress used =
+    scalar_at text scope place progress.count used >>> λ one used.
+    spread scope one.node (with_chain Closed (with_count one.count progress)) used
+item_by (sequence fill) place scope progress used =
+    collected kind.Items fill place (in_region (inside scope.region) scope) progress.count used >>>
     λ one used.
-    add_item follow frame region one.node (with_chain Closed (with_count one.count progress)) used
-item_by (mapping manner fill) place follow frame region progress used =
-    mapping_item_by manner fill place follow frame region progress used
+    add_item scope one.node (with_chain Closed (with_count one.count progress)) used
+item_by (mapping manner fill) place scope progress used =
+    mapping_item_by manner fill place scope progress used
 
 abbrev pub item_behind : Part → Filling
 item_behind part = item_by part.shape part.place
 
 abbrev pub items_behind : List Part → Filling
-items_behind [] follow frame region progress used = Ok (progress, used)
-items_behind (part ∷ parts) follow frame region progress used =
-    item_behind part follow frame region progress used >>> items_behind parts follow frame region
+items_behind [] scope progress used = Ok (progress, used)
+items_behind (part ∷ parts) scope progress used =
+    item_behind part scope progress used >>> items_behind parts scope
 
 -- ---- the whole recursion, which goes down the tree of nodes
 
@@ -239,6 +228,6 @@ shape_of = fold-NodeBody Shape Part Entry shape_step part_step entry_step
 abbrev pub entry_of : NodePair → Entry
 entry_of = fold-NodePair Shape Part Entry shape_step part_step entry_step
 
--- a node as a value in a frame and a region
+-- a node as a value in a scope
 abbrev pub expanded : Node → Valuing
 expanded node = value_by (part_of node).shape (part_of node).place

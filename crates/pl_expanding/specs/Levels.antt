@@ -27,13 +27,13 @@ use Rattle.pl_directives.specs.Complaints.{refused}
 use Rattle.pl_directives.specs.Counting.{entered}
 use Rattle.pl_reading.specs.Steps.{◌>>=◌}
 use Rattle.pl_calls.specs.Calls.{Called, call_of}
-use Rattle.pl_calls.specs.Frames.{framed_by}
+use Rattle.pl_calls.specs.Frames.{template_of, framed_by}
 use Rattle.pl_calls.specs.Judging.{template_in, body_in}
 use Rattle.pl_calls.specs.Meant.{◌>>>◌, alone}
 use Rattle.pl_calls.specs.Reaching.{Opens, node_in}
 use Rattle.pl_calls.specs.declared.reaching.Opened.{Opened}
 use Rattle.pl_expanding.specs.Expanding.{expanded}
-use Rattle.pl_expanding.specs.Following.{Follow}
+use Rattle.pl_expanding.specs.Following.{Follow, scope_of}
 use Rattle.pl_expanding.specs.declared.followed.Followed.{Followed}
 
 -- ---- what a template's form gives in the place of the call's item
@@ -66,7 +66,8 @@ border file at = Include file at
 abbrev pub frame_for :
     FileKey → ℕ → List NodePair → Called → Frame → Result Frame ExpandFault
 frame_for file level pairs call frame =
-    framed_by file level pairs frame.variables call.arguments (border file call.at) call.crossings
+    framed_by (template_of file level pairs) frame.variables call.arguments (border file call.at)
+    call.crossings
 
 -- ---- the call, in this order: the path's text and the arguments; one level more; the file; what
 -- stands in it; its declarations and what is bound to them; its body
@@ -85,7 +86,7 @@ call_by next level opens frame form item count used =
     body_in form node.place pairs >>= λ body.
     frame_for opened.key level pairs call frame >>= λ inner.
     entered node.place count >>= λ count.
-    expanded body follow inner (InCalls form) count used >>> λ one used.
+    expanded body (scope_of follow inner (InCalls form)) count used >>> λ one used.
     alone (items_from form body.place one) used
 
 -- with so many levels left below the caller: the root may be followed by 100

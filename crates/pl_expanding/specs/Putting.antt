@@ -7,58 +7,52 @@ use Rattle.pl_base.specs.declared.value.Value.TheOpen.{Value-F}
 use Rattle.pl_base.specs.declared.value.Value.TheOpen as layer
 use Rattle.pl_base.specs.declared.value.MarkedNode.{MarkedNode}
 use Rattle.pl_base.specs.declared.value.MarkedPair.{MarkedPair}
-use Rattle.pl_frame.specs.declared.frame.Frame.{Frame}
 use Rattle.pl_directives.specs.declared.fault.ExpandFault.{ExpandFault}
 use Rattle.pl_directives.specs.declared.progress.Content.{Content}
 use Rattle.pl_directives.specs.declared.progress.Content.TheVariants.{Unknown, Items, Pairs}
 use Rattle.pl_directives.specs.declared.progress.Progress.{Progress}
 use Rattle.pl_directives.specs.declared.region.Form.{Form}
-use Rattle.pl_directives.specs.declared.region.Region.{Region}
 use Rattle.pl_directives.specs.Contents.{add_items, object_of, with_count}
 use Rattle.pl_directives.specs.Regions.{call_form}
 use Rattle.pl_reading.specs.Steps.{◌>>=◌}
 use Rattle.pl_calls.specs.Meant.{◌>>>◌, alone}
-use Rattle.pl_expanding.specs.Following.{Follow}
+use Rattle.pl_expanding.specs.Following.{Scope}
 
 abbrev pub add_by :
-    Option Form → Follow → Frame → MarkedNode → Progress → List FileKey →
+    Option Form → Scope → MarkedNode → Progress → List FileKey →
     Result (Progress × List FileKey) ExpandFault
-add_by None follow frame item progress used =
+add_by None scope item progress used =
     alone (add_items item.origin.source (item ∷ []) progress) used
-add_by (Some form) follow frame item progress used =
-    follow frame form item progress.count used >>> λ more used.
+add_by (Some form) scope item progress used =
+    scope.follow scope.frame form item progress.count used >>> λ more used.
     alone (add_items item.origin.source more.items (with_count more.count progress)) used
 
 abbrev pub add_item :
-    Follow → Frame → Region → MarkedNode → Progress → List FileKey →
-    Result (Progress × List FileKey) ExpandFault
-add_item follow frame region item progress used =
-    add_by (call_form region item) follow frame item progress used
+    Scope → MarkedNode → Progress → List FileKey → Result (Progress × List FileKey) ExpandFault
+add_item scope item progress used =
+    add_by (call_form scope.region item) scope item progress used
 
 -- ---- what directives alone put in an item's place, behind the items that are there
 
 -- where pairs came of it they are one item; where nothing came of it there is none
 abbrev pub splice :
-    Follow → Frame → Region → Origin → Content → Progress → List FileKey →
+    Scope → Origin → Content → Progress → List FileKey →
     Result (Progress × List FileKey) ExpandFault
-splice follow frame region origin Unknown progress used = Ok (progress, used)
-splice follow frame region origin (Items items) progress used =
+splice scope origin Unknown progress used = Ok (progress, used)
+splice scope origin (Items items) progress used =
     alone (add_items origin.source items progress) used
-splice follow frame region origin (Pairs []) progress used = Ok (progress, used)
-splice follow frame region origin (Pairs (pair ∷ pairs)) progress used =
-    object_of origin (pair ∷ pairs) >>= λ item. add_item follow frame region item progress used
+splice scope origin (Pairs []) progress used = Ok (progress, used)
+splice scope origin (Pairs (pair ∷ pairs)) progress used =
+    object_of origin (pair ∷ pairs) >>= λ item. add_item scope item progress used
 
 -- an expression's value as an item: an array's items stand in its place
 abbrev pub spread_of :
-    Value-F Value MarkedNode MarkedPair → Follow → Frame → Region → MarkedNode → Progress →
-    List FileKey → Result (Progress × List FileKey) ExpandFault
-spread_of (layer.Array items) follow frame region node progress used =
+    Value-F Value MarkedNode MarkedPair → Scope → MarkedNode → Progress → List FileKey →
+    Result (Progress × List FileKey) ExpandFault
+spread_of (layer.Array items) scope node progress used =
     alone (add_items node.origin.source items progress) used
-spread_of other follow frame region node progress used =
-    add_item follow frame region node progress used
+spread_of other scope node progress used = add_item scope node progress used
 
 abbrev pub spread :
-    Follow → Frame → Region → MarkedNode → Progress → List FileKey →
-    Result (Progress × List FileKey) ExpandFault
-spread follow frame region node progress used =
-    spread_of (out-Value node.value) follow frame region node progress used
+    Scope → MarkedNode → Progress → List FileKey → Result (Progress × List FileKey) ExpandFault
+spread scope node progress used = spread_of (out-Value node.value) scope node progress used

@@ -14,14 +14,13 @@ use Rattle.pl_directives.specs.declared.fault.ExpandFault.{ExpandFault}
 use Rattle.pl_directives.specs.declared.fault.ExpandProblem.TheVariants.{BadDirective}
 use Rattle.pl_directives.specs.declared.keys.MadeKey.{MadeKey}
 use Rattle.pl_directives.specs.declared.progress.Counted.{Counted}
-use Rattle.pl_directives.specs.declared.region.Region.{Region}
 use Rattle.pl_directives.specs.Complaints.{refused}
 use Rattle.pl_directives.specs.Counting.{entered}
 use Rattle.pl_directives.specs.Keys.{key_by}
 use Rattle.pl_directives.specs.Scalars.{counted_value_at, plain_scalar, joined_scalar}
 use Rattle.pl_reading.specs.Steps.{◌>>=◌}
 use Rattle.pl_calls.specs.Meant.{◌>>>◌, alone}
-use Rattle.pl_expanding.specs.Following.{Follow}
+use Rattle.pl_expanding.specs.Following.{Scope}
 use Rattle.pl_expanding.specs.Settling.{node_settling}
 
 -- ---- a scalar in a region
@@ -29,29 +28,25 @@ use Rattle.pl_expanding.specs.Settling.{node_settling}
 -- where it is one expression it is that value, of its own kind and with its own origin, in which
 -- calls are followed
 abbrev pub whole_scalar :
-    List ℕ → Follow → Frame → Region → Place → ℕ → List FileKey →
-    Result (Counted × List FileKey) ExpandFault
-whole_scalar inside follow frame region place count used =
-    counted_value_at frame place inside count >>= λ one.
-    node_settling one.node follow frame region one.count used
+    List ℕ → Scope → Place → ℕ → List FileKey → Result (Counted × List FileKey) ExpandFault
+whole_scalar inside scope place count used =
+    counted_value_at scope.frame place inside count >>= λ one.
+    node_settling one.node scope one.count used
 
 abbrev pub scalar_by :
-    ScalarForm → List ℕ → Follow → Frame → Region → Place → ℕ → List FileKey →
+    ScalarForm → List ℕ → Scope → Place → ℕ → List FileKey →
     Result (Counted × List FileKey) ExpandFault
-scalar_by Plain text follow frame region place count used =
-    Ok (plain_scalar text frame place count, used)
-scalar_by (Whole inside) text follow frame region place count used =
-    whole_scalar inside follow frame region place count used
-scalar_by (Joined pieces) text follow frame region place count used =
-    alone (joined_scalar pieces frame place count) used
-scalar_by Unclosed text follow frame region place count used = refused BadDirective place
+scalar_by Plain text scope place count used =
+    Ok (plain_scalar text scope.frame place count, used)
+scalar_by (Whole inside) text scope place count used = whole_scalar inside scope place count used
+scalar_by (Joined pieces) text scope place count used =
+    alone (joined_scalar pieces scope.frame place count) used
+scalar_by Unclosed text scope place count used = refused BadDirective place
 
 abbrev pub scalar_at :
-    List ℕ → Follow → Frame → Region → Place → ℕ → List FileKey →
-    Result (Counted × List FileKey) ExpandFault
-scalar_at text follow frame region place count used =
-    entered place count >>= λ count.
-    scalar_by (form_of text) text follow frame region place count used
+    List ℕ → Scope → Place → ℕ → List FileKey → Result (Counted × List FileKey) ExpandFault
+scalar_at text scope place count used =
+    entered place count >>= λ count. scalar_by (form_of text) text scope place count used
 
 -- ---- the path of a call: a text, and what its expressions yield isn't counted
 

@@ -11,24 +11,21 @@ use Rattle.pl_base.specs.declared.value.Value.TheOpen.{Bool as Truth, Number, Ve
 use Rattle.pl_base.specs.declared.value.Value.TheOpen.{Object}
 use Rattle.pl_base.specs.declared.value.MarkedNode.{MarkedNode, fold-MarkedNode}
 use Rattle.pl_base.specs.declared.value.MarkedPair.{MarkedPair, fold-MarkedPair}
-use Rattle.pl_frame.specs.declared.frame.Frame.{Frame}
 use Rattle.pl_directives.specs.declared.fault.ExpandFault.{ExpandFault}
 use Rattle.pl_directives.specs.declared.progress.Counted.{Counted}
 use Rattle.pl_directives.specs.declared.region.Form.{Form}
-use Rattle.pl_directives.specs.declared.region.Region.{Region}
 use Rattle.pl_directives.specs.Regions.{under, inside, call_form}
 use Rattle.pl_calls.specs.Meant.{◌>>>◌}
-use Rattle.pl_expanding.specs.Following.{Follow}
+use Rattle.pl_expanding.specs.Following.{Scope, in_region}
 use Rattle.pl_expanding.specs.declared.followed.Followed.{Followed}
 use Rattle.pl_expanding.specs.declared.followed.SettledValue.{SettledValue}
 use Rattle.pl_expanding.specs.declared.followed.SettledPairs.{SettledPairs}
 
 -- ---- A part of a tree as what it stands in sees it: itself, and what it is once it is settled in
--- a frame and a region, from a count on.
+-- a scope, from a count on.
 
 abbrev pub Settling : Type 0 → Type 0
-Settling X =
-    Follow → Frame → Region → ℕ → List FileKey → Result (X × List FileKey) ExpandFault
+Settling X = Scope → ℕ → List FileKey → Result (X × List FileKey) ExpandFault
 
 pub record ValueSeen : Type 0 where
   pub itself : Value
@@ -53,27 +50,26 @@ items_and before one =
     record { items = before.items ++ one.node ∷ []; count = one.count }
 
 abbrev pub item_settled :
-    Option Form → NodeSeen → Follow → Frame → Region → Followed → List FileKey →
+    Option Form → NodeSeen → Scope → Followed → List FileKey →
     Result (Followed × List FileKey) ExpandFault
-item_settled None node follow frame region before used =
-    node.settled follow frame (inside region) before.count used >>> λ one used.
+item_settled None node scope before used =
+    node.settled (in_region (inside scope.region) scope) before.count used >>> λ one used.
     Ok (items_and before one, used)
-item_settled (Some form) node follow frame region before used =
-    follow frame form node.itself before.count used >>> λ more used.
+item_settled (Some form) node scope before used =
+    scope.follow scope.frame form node.itself before.count used >>> λ more used.
     Ok (items_with before more, used)
 
 abbrev pub item_behind :
-    NodeSeen → Follow → Frame → Region → Followed → List FileKey →
-    Result (Followed × List FileKey) ExpandFault
-item_behind node follow frame region before used =
-    item_settled (call_form region node.itself) node follow frame region before used
+    NodeSeen → Scope → Followed → List FileKey → Result (Followed × List FileKey) ExpandFault
+item_behind node scope before used =
+    item_settled (call_form scope.region node.itself) node scope before used
 
 abbrev pub items_behind :
-    List NodeSeen → Follow → Frame → Region → Followed → List FileKey →
+    List NodeSeen → Scope → Followed → List FileKey →
     Result (Followed × List FileKey) ExpandFault
-items_behind [] follow frame region before used = Ok (before, used)
-items_behind (node ∷ nodes) follow frame region before used =
-    item_behind node follow frame region before used >>> items_behind nodes follow frame region
+items_behind [] scope before used = Ok (before, used)
+items_behind (node ∷ nodes) scope before used =
+    item_behind node scope before used >>> items_behind nodes scope
 
 -- ---- pairs: the key tells the region
 
@@ -86,33 +82,33 @@ pairs_and before pair one = record {
 }
 
 abbrev pub pair_behind :
-    PairSeen → Follow → Frame → Region → SettledPairs → List FileKey →
+    PairSeen → Scope → SettledPairs → List FileKey →
     Result (SettledPairs × List FileKey) ExpandFault
-pair_behind pair follow frame region before used =
-    pair.settled follow frame (under pair.itself.key region) before.count used >>> λ one used.
-    Ok (pairs_and before pair.itself one, used)
+pair_behind pair scope before used =
+    pair.settled (in_region (under pair.itself.key scope.region) scope) before.count used >>>
+    λ one used. Ok (pairs_and before pair.itself one, used)
 
 abbrev pub pairs_behind :
-    List PairSeen → Follow → Frame → Region → SettledPairs → List FileKey →
+    List PairSeen → Scope → SettledPairs → List FileKey →
     Result (SettledPairs × List FileKey) ExpandFault
-pairs_behind [] follow frame region before used = Ok (before, used)
-pairs_behind (pair ∷ pairs) follow frame region before used =
-    pair_behind pair follow frame region before used >>> pairs_behind pairs follow frame region
+pairs_behind [] scope before used = Ok (before, used)
+pairs_behind (pair ∷ pairs) scope before used =
+    pair_behind pair scope before used >>> pairs_behind pairs scope
 
 -- ---- values
 
 abbrev pub atom_settled : Value → Settling SettledValue
-atom_settled atom follow frame region count used =
+atom_settled atom scope count used =
     Ok (record { value = atom; count = count }, used)
 
 abbrev pub array_settled : List NodeSeen → Settling SettledValue
-array_settled items follow frame region count used =
-    items_behind items follow frame region (record { items = []; count = count }) used >>>
+array_settled items scope count used =
+    items_behind items scope (record { items = []; count = count }) used >>>
     λ all used. Ok (record { value = value.Array all.items; count = all.count }, used)
 
 abbrev pub object_settled : List PairSeen → Settling SettledValue
-object_settled pairs follow frame region count used =
-    pairs_behind pairs follow frame region (record { pairs = []; count = count }) used >>>
+object_settled pairs scope count used =
+    pairs_behind pairs scope (record { pairs = []; count = count }) used >>>
     λ all used. Ok (record { value = value.Object all.pairs; count = all.count }, used)
 
 abbrev pub atom_seen : Value → ValueSeen
@@ -134,8 +130,8 @@ value_step (Object pairs) = record {
 }
 
 abbrev pub node_settled : Origin → ValueSeen → Settling Counted
-node_settled origin seen follow frame region count used =
-    seen.settled follow frame region count used >>> λ one used.
+node_settled origin seen scope count used =
+    seen.settled scope count used >>> λ one used.
     Ok (record { node = record { origin = origin; value = one.value }; count = one.count }, used)
 
 abbrev pub node_step : MarkedNode-F ValueSeen NodeSeen PairSeen → NodeSeen

@@ -17,34 +17,45 @@ use Rattle.pl_calls.specs.Meant.{◌>>>◌, alone}
 use Rattle.pl_calls.specs.Reaching.{Opens, node_in}
 use Rattle.pl_calls.specs.declared.reaching.Opened.{Opened}
 use Rattle.pl_expanding.specs.Expanding.{expanded}
+use Rattle.pl_expanding.specs.Following.{Scope, scope_of}
 use Rattle.pl_expanding.specs.Levels.{followed, frame_for, items_from}
 use Rattle.pl_expanding.specs.declared.followed.Followed.{Followed}
 
--- the body in its frame
+-- A call that is followed: the frame of its caller, the form of the list that its item is of, the
+-- call itself, and the count before it.
+pub record Calling : Type 0 where
+  pub frame : Frame
+  pub form : Form
+  pub call : Called
+  pub count : ℕ
+
+abbrev pub call_in : Frame → Form → Called → ℕ → Calling
+call_in frame form call count =
+    record { frame = frame; form = form; call = call; count = count }
+
+-- the body in its scope
 abbrev pub filled_in :
-    Place → Node → Frame → ℕ → Opens → Form → ℕ → List FileKey →
-    Result (Followed × List FileKey) ExpandFault
-filled_in place body inner left opens form count used =
+    Place → Node → Form → Scope → ℕ → List FileKey → Result (Followed × List FileKey) ExpandFault
+filled_in place body form scope count used =
     entered place count >>= λ count.
-    expanded body (followed left opens) inner (InCalls form) count used >>> λ one used.
+    expanded body scope count used >>> λ one used.
     alone (items_from form body.place one) used
 
 -- from the file on
 abbrev pub found_in :
-    Opened → ℕ → Opens → Frame → Form → Called → ℕ → List FileKey →
-    Result (Followed × List FileKey) ExpandFault
-found_in opened left opens frame form call count used =
+    Opened → ℕ → Opens → Calling → List FileKey → Result (Followed × List FileKey) ExpandFault
+found_in opened left opens calling used =
     node_in opened.file >>= λ node.
     template_in node >>= λ pairs.
-    body_in form node.place pairs >>= λ body.
-    frame_for opened.key (100 - left) pairs call frame >>= λ inner.
-    filled_in node.place body inner left opens form count used
+    body_in calling.form node.place pairs >>= λ body.
+    frame_for opened.key (100 - left) pairs calling.call calling.frame >>= λ inner.
+    filled_in node.place body calling.form
+    (scope_of (followed left opens) inner (InCalls calling.form)) calling.count used
 
 -- from the level on
 abbrev pub reached :
-    ℕ → Opens → Frame → Form → Called → ℕ → List FileKey →
-    Result (Followed × List FileKey) ExpandFault
-reached zero opens frame form call count used = refused NestedTooDeep call.at
-reached (suc left) opens frame form call count used =
-    opens call.at call.path used >>> λ opened used.
-    found_in opened left opens frame form call count used
+    ℕ → Opens → Calling → List FileKey → Result (Followed × List FileKey) ExpandFault
+reached zero opens calling used = refused NestedTooDeep calling.call.at
+reached (suc left) opens calling used =
+    opens calling.call.at calling.call.path used >>> λ opened used.
+    found_in opened left opens calling used

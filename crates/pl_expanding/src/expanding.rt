@@ -6,6 +6,7 @@ ghost use Rattle.pl_directives.specs.Misfits.{problem_of};
 ghost use Rattle.pl_expanding.specs.Expanding.{part_of, entry_of, expanded, body, turns, done};
 ghost use Rattle.pl_expanding.specs.Expanding.{pair_behind, pairs_behind, item_behind};
 ghost use Rattle.pl_expanding.specs.Expanding.{items_behind, mapping_item, path_by, value_under};
+ghost use Rattle.pl_expanding.specs.Following.{scope_of};
 ghost use Rattle.pl_expanding.specs.Levels.{followed};
 
 use crate::facets::manner_of;
@@ -34,8 +35,8 @@ pub fn expand_node<F: Files>(
     files: &mut F,
     reach: &mut Reach,
 ) -> Result<Counted, ExpandFault>
-    ensures gives { GivesUsed result reach.new.used (expanded node.now (followed at.calls (opens
-        (F.files files.old) reach.old.home)) frame.now at.region count reach.old.used) }
+    ensures gives { GivesUsed result reach.new.used (expanded node.now (scope_of (followed at.calls
+        (opens (F.files files.old) reach.old.home)) frame.now at.region) count reach.old.used) }
     ensures files { F.files files.new ≡ F.files files.old }
     ensures home { reach.new.home ≡ reach.old.home }
 {
@@ -71,8 +72,8 @@ fn fill_body<F: Files>(
     reach: &mut Reach,
 ) -> Result<Progress, ExpandFault>
     ensures gives { GivesUsed result reach.new.used (body (part_of node.now) (problem_of misfit)
-        (followed at.calls (opens (F.files files.old) reach.old.home)) frame.now at.region
-        progress reach.old.used) }
+        (scope_of (followed at.calls (opens (F.files files.old) reach.old.home)) frame.now
+        at.region) progress reach.old.used) }
     ensures files { F.files files.new ≡ F.files files.old }
     ensures home { reach.new.home ≡ reach.old.home }
 {
@@ -116,8 +117,8 @@ fn fill_turns<F: Files>(
     reach: &mut Reach,
 ) -> Result<Progress, ExpandFault>
     ensures gives { GivesUsed result reach.new.used (turns steps.now.name (part_of node.now)
-        steps.now.items (followed at.calls (opens (F.files files.old) reach.old.home)) frame.now
-        at.region progress reach.old.used) }
+        steps.now.items (scope_of (followed at.calls (opens (F.files files.old) reach.old.home))
+        frame.now at.region) progress reach.old.used) }
     ensures files { F.files files.new ≡ F.files files.old }
     ensures home { reach.new.home ≡ reach.old.home }
 {
@@ -149,8 +150,8 @@ pub fn fill_pair<F: Files>(
     files: &mut F,
     reach: &mut Reach,
 ) -> Result<Progress, ExpandFault>
-    ensures gives { GivesUsed result reach.new.used (pair_behind (entry_of pair.now) (followed
-        at.calls (opens (F.files files.old) reach.old.home)) frame.now at.region progress
+    ensures gives { GivesUsed result reach.new.used (pair_behind (entry_of pair.now) (scope_of
+        (followed at.calls (opens (F.files files.old) reach.old.home)) frame.now at.region) progress
         reach.old.used) }
     ensures files { F.files files.new ≡ F.files files.old }
     ensures home { reach.new.home ≡ reach.old.home }
@@ -174,8 +175,8 @@ fn fill_asked<F: Files>(
     files: &mut F,
     reach: &mut Reach,
 ) -> Result<Progress, ExpandFault>
-    ensures gives { GivesUsed result reach.new.used (done action (part_of node.now) (followed
-        at.calls (opens (F.files files.old) reach.old.home)) frame.now at.region progress
+    ensures gives { GivesUsed result reach.new.used (done action (part_of node.now) (scope_of
+        (followed at.calls (opens (F.files files.old) reach.old.home)) frame.now at.region) progress
         reach.old.used) }
     ensures files { F.files files.new ≡ F.files files.old }
     ensures home { reach.new.home ≡ reach.old.home }
@@ -238,9 +239,9 @@ fn expand_under<F: Files>(
     files: &mut F,
     reach: &mut Reach,
 ) -> Result<Counted, ExpandFault>
-    ensures gives { GivesUsed result reach.new.used (value_under is_path key.now (part_of
-        node.now) (followed at.calls (opens (F.files files.old) reach.old.home)) frame.now
-        at.region count reach.old.used) }
+    ensures gives { GivesUsed result reach.new.used (value_under is_path key.now (part_of node.now)
+        (scope_of (followed at.calls (opens (F.files files.old) reach.old.home)) frame.now
+        at.region) count reach.old.used) }
     ensures files { F.files files.new ≡ F.files files.old }
     ensures home { reach.new.home ≡ reach.old.home }
 {
@@ -281,9 +282,9 @@ fn fill_pairs<F: Files>(
     files: &mut F,
     reach: &mut Reach,
 ) -> Result<Progress, ExpandFault>
-    ensures gives { GivesUsed result reach.new.used (pairs_behind (map entry_of pairs.now)
-        (followed at.calls (opens (F.files files.old) reach.old.home)) frame.now at.region
-        progress reach.old.used) }
+    ensures gives { GivesUsed result reach.new.used (pairs_behind (map entry_of pairs.now) (scope_of
+        (followed at.calls (opens (F.files files.old) reach.old.home)) frame.now at.region) progress
+        reach.old.used) }
     ensures files { F.files files.new ≡ F.files files.old }
     ensures home { reach.new.home ≡ reach.old.home }
 {
@@ -305,9 +306,9 @@ fn fill_items<F: Files>(
     files: &mut F,
     reach: &mut Reach,
 ) -> Result<Progress, ExpandFault>
-    ensures gives { GivesUsed result reach.new.used (items_behind (map part_of items.now)
-        (followed at.calls (opens (F.files files.old) reach.old.home)) frame.now at.region
-        progress reach.old.used) }
+    ensures gives { GivesUsed result reach.new.used (items_behind (map part_of items.now) (scope_of
+        (followed at.calls (opens (F.files files.old) reach.old.home)) frame.now at.region) progress
+        reach.old.used) }
     ensures files { F.files files.new ≡ F.files files.old }
     ensures home { reach.new.home ≡ reach.old.home }
 {
@@ -329,8 +330,8 @@ fn fill_item<F: Files>(
     files: &mut F,
     reach: &mut Reach,
 ) -> Result<Progress, ExpandFault>
-    ensures gives { GivesUsed result reach.new.used (item_behind (part_of node.now) (followed
-        at.calls (opens (F.files files.old) reach.old.home)) frame.now at.region progress
+    ensures gives { GivesUsed result reach.new.used (item_behind (part_of node.now) (scope_of
+        (followed at.calls (opens (F.files files.old) reach.old.home)) frame.now at.region) progress
         reach.old.used) }
     ensures files { F.files files.new ≡ F.files files.old }
     ensures home { reach.new.home ≡ reach.old.home }
@@ -376,9 +377,9 @@ fn fill_mapping<F: Files>(
     files: &mut F,
     reach: &mut Reach,
 ) -> Result<Progress, ExpandFault>
-    ensures gives { GivesUsed result reach.new.used (mapping_item place.now (map entry_of
-        pairs.now) (followed at.calls (opens (F.files files.old) reach.old.home)) frame.now
-        at.region progress reach.old.used) }
+    ensures gives { GivesUsed result reach.new.used (mapping_item place.now (map entry_of pairs.now)
+        (scope_of (followed at.calls (opens (F.files files.old) reach.old.home)) frame.now
+        at.region) progress reach.old.used) }
     ensures files { F.files files.new ≡ F.files files.old }
     ensures home { reach.new.home ≡ reach.old.home }
 {

@@ -3,15 +3,17 @@ ghost use Rattle.pl_calls.specs.Calls.{seen};
 ghost use Rattle.pl_calls.specs.Gives.{GivesUsed};
 ghost use Rattle.pl_calls.specs.Reaching.{opens};
 ghost use Rattle.pl_directives.specs.Gives.{Gives};
+ghost use Rattle.pl_directives.specs.declared.region.Region.TheVariants.{Calls as InCalls};
+ghost use Rattle.pl_expanding.specs.Following.{scope_of};
 ghost use Rattle.pl_expanding.specs.Levels.{followed, frame_for, border};
-ghost use Rattle.pl_expanding.specs.Steps.{reached, found_in, filled_in};
+ghost use Rattle.pl_expanding.specs.Steps.{call_in, reached, found_in, filled_in};
 
 use crate::expanding::expand_node;
 use crate::followed::Followed;
 use crate::items::items_from;
 use pl_base::{Crossing, DEEPEST, ExactCopy, List, MarkedNode, Memory, Node, NodePair, Place};
 use pl_calls::{
-    Call, Files, Opened, Reach, body_in, call_of, framed_by, node_in, open, template_in,
+    Call, Files, Opened, Reach, Template, body_in, call_of, framed_by, node_in, open, template_in,
 };
 use pl_directives::{ExpandFault, ExpandProblem, Form, Region, Standing, complain, enter};
 use pl_frame::Frame;
@@ -57,7 +59,7 @@ fn descend<F: Files>(
     reach: &mut Reach,
 ) -> Result<Followed, ExpandFault>
     ensures reached { GivesUsed result reach.new.used (reached levels (opens (F.files files.old)
-        reach.old.home) frame.now form (seen call.now) count reach.old.used) }
+        reach.old.home) (call_in frame.now form (seen call.now) count) reach.old.used) }
     ensures files { F.files files.new ≡ F.files files.old }
     ensures home { reach.new.home ≡ reach.old.home }
 {
@@ -83,7 +85,7 @@ fn enter_file<F: Files>(
     reach: &mut Reach,
 ) -> Result<Followed, ExpandFault>
     ensures found { GivesUsed result reach.new.used (found_in opened.now left (opens (F.files
-        files.old) reach.old.home) frame.now form (seen call.now) count reach.old.used) }
+        files.old) reach.old.home) (call_in frame.now form (seen call.now) count) reach.old.used) }
     ensures files { F.files files.new ≡ F.files files.old }
     ensures home { reach.new.home ≡ reach.old.home }
 {
@@ -117,12 +119,15 @@ fn frame_for(
         frame.now) }
 {
     let level = MOST_LEVELS.saturating_sub(left);
+    let template = Template {
+        file: &opened.key,
+        level,
+        pairs,
+    };
     let border = border(alloc, opened, call.at)?;
     framed_by(
         alloc,
-        &opened.key,
-        level,
-        pairs,
+        &template,
         &frame.variables,
         call.arguments,
         &border,
@@ -153,8 +158,9 @@ fn fill<F: Files>(
     files: &mut F,
     reach: &mut Reach,
 ) -> Result<Followed, ExpandFault>
-    ensures filled { GivesUsed result reach.new.used (filled_in place.now body.now inner.now
-        left (opens (F.files files.old) reach.old.home) form count reach.old.used) }
+    ensures filled { GivesUsed result reach.new.used (filled_in place.now body.now form (scope_of
+        (followed left (opens (F.files files.old) reach.old.home)) inner.now (InCalls form)) count
+        reach.old.used) }
     ensures files { F.files files.new ≡ F.files files.old }
     ensures home { reach.new.home ≡ reach.old.home }
 {

@@ -6,6 +6,7 @@ ghost use Rattle.pl_directives.specs.Contents.{with_chain, with_count, add_items
 ghost use Rattle.pl_directives.specs.Gives.{Gives};
 ghost use Rattle.pl_directives.specs.declared.progress.Chain.TheVariants.{Closed};
 ghost use Rattle.pl_directives.specs.declared.progress.Content.TheVariants.{Pairs};
+ghost use Rattle.pl_expanding.specs.Following.{scope_of};
 ghost use Rattle.pl_expanding.specs.Levels.{followed};
 ghost use Rattle.pl_expanding.specs.Putting.{add_item, splice, spread};
 
@@ -30,8 +31,8 @@ pub fn add_item<F: Files>(
     files: &mut F,
     reach: &mut Reach,
 ) -> Result<Progress, ExpandFault>
-    ensures added { GivesUsed result reach.new.used (add_item (followed at.calls (opens (F.files
-        files.old) reach.old.home)) frame.now at.region item progress reach.old.used) }
+    ensures added { GivesUsed result reach.new.used (add_item (scope_of (followed at.calls (opens
+        (F.files files.old) reach.old.home)) frame.now at.region) item progress reach.old.used) }
     ensures files { F.files files.new ≡ F.files files.old }
     ensures home { reach.new.home ≡ reach.old.home }
 {
@@ -75,9 +76,9 @@ pub fn put_alone<F: Files>(
     files: &mut F,
     reach: &mut Reach,
 ) -> Result<Progress, ExpandFault>
-    ensures added { GivesUsed result reach.new.used (add_item (followed at.calls (opens (F.files
-        files.old) reach.old.home)) frame.now at.region one.node (with_chain Closed (with_count
-        one.count progress)) reach.old.used) }
+    ensures added { GivesUsed result reach.new.used (add_item (scope_of (followed at.calls (opens
+        (F.files files.old) reach.old.home)) frame.now at.region) one.node (with_chain Closed
+        (with_count one.count progress)) reach.old.used) }
     ensures files { F.files files.new ≡ F.files files.old }
     ensures home { reach.new.home ≡ reach.old.home }
 {
@@ -100,9 +101,9 @@ pub fn splice<F: Files>(
     files: &mut F,
     reach: &mut Reach,
 ) -> Result<Progress, ExpandFault>
-    ensures added { GivesUsed result reach.new.used (splice (followed at.calls (opens (F.files
-        files.old) reach.old.home)) frame.now at.region (literal_at frame.now place.now) content
-        progress reach.old.used) }
+    ensures added { GivesUsed result reach.new.used (splice (scope_of (followed at.calls (opens
+        (F.files files.old) reach.old.home)) frame.now at.region) (literal_at frame.now place.now)
+        content progress reach.old.used) }
     ensures files { F.files files.new ≡ F.files files.old }
     ensures home { reach.new.home ≡ reach.old.home }
 {
@@ -126,9 +127,9 @@ fn splice_pairs<F: Files>(
     files: &mut F,
     reach: &mut Reach,
 ) -> Result<Progress, ExpandFault>
-    ensures added { GivesUsed result reach.new.used (splice (followed at.calls (opens (F.files
-        files.old) reach.old.home)) frame.now at.region (literal_at frame.now place.now) (Pairs
-        pairs) progress reach.old.used) }
+    ensures added { GivesUsed result reach.new.used (splice (scope_of (followed at.calls (opens
+        (F.files files.old) reach.old.home)) frame.now at.region) (literal_at frame.now place.now)
+        (Pairs pairs) progress reach.old.used) }
     ensures files { F.files files.new ≡ F.files files.old }
     ensures home { reach.new.home ≡ reach.old.home }
 {
@@ -152,8 +153,8 @@ pub fn spread<F: Files>(
     files: &mut F,
     reach: &mut Reach,
 ) -> Result<Progress, ExpandFault>
-    ensures added { GivesUsed result reach.new.used (spread (followed at.calls (opens (F.files
-        files.old) reach.old.home)) frame.now at.region node progress reach.old.used) }
+    ensures added { GivesUsed result reach.new.used (spread (scope_of (followed at.calls (opens
+        (F.files files.old) reach.old.home)) frame.now at.region) node progress reach.old.used) }
     ensures files { F.files files.new ≡ F.files files.old }
     ensures home { reach.new.home ≡ reach.old.home }
 {

@@ -4,6 +4,7 @@ ghost use Rattle.pl_calls.specs.Reaching.{opens};
 ghost use Rattle.pl_directives.specs.Gives.{Gives};
 ghost use Rattle.pl_frame.specs.Origins.{literal_at};
 ghost use Rattle.pl_template.specs.Forms.{form_of};
+ghost use Rattle.pl_expanding.specs.Following.{scope_of};
 ghost use Rattle.pl_expanding.specs.Levels.{followed};
 ghost use Rattle.pl_expanding.specs.Scalars.{whole_scalar, scalar_at, path_by, path_at};
 
@@ -30,8 +31,8 @@ fn whole_scalar<F: Files>(
     files: &mut F,
     reach: &mut Reach,
 ) -> Result<Counted, ExpandFault>
-    ensures whole { GivesUsed result reach.new.used (whole_scalar inside.now (followed at.calls
-        (opens (F.files files.old) reach.old.home)) frame.now at.region place.now count
+    ensures whole { GivesUsed result reach.new.used (whole_scalar inside.now (scope_of (followed
+        at.calls (opens (F.files files.old) reach.old.home)) frame.now at.region) place.now count
         reach.old.used) }
     ensures files { F.files files.new ≡ F.files files.old }
     ensures home { reach.new.home ≡ reach.old.home }
@@ -54,8 +55,8 @@ pub fn expand_scalar<F: Files>(
     files: &mut F,
     reach: &mut Reach,
 ) -> Result<Counted, ExpandFault>
-    ensures scalar { GivesUsed result reach.new.used (scalar_at text.now (followed at.calls
-        (opens (F.files files.old) reach.old.home)) frame.now at.region place.now count
+    ensures scalar { GivesUsed result reach.new.used (scalar_at text.now (scope_of (followed
+        at.calls (opens (F.files files.old) reach.old.home)) frame.now at.region) place.now count
         reach.old.used) }
     ensures files { F.files files.new ≡ F.files files.old }
     ensures home { reach.new.home ≡ reach.old.home }

@@ -1,6 +1,7 @@
 ghost use Rattle.std.specs.Prelude.{◌≡◌, [], map};
 ghost use Rattle.pl_calls.specs.Gives.{GivesUsed};
 ghost use Rattle.pl_calls.specs.Reaching.{opens};
+ghost use Rattle.pl_expanding.specs.Following.{scope_of};
 ghost use Rattle.pl_expanding.specs.Levels.{followed};
 ghost use Rattle.pl_expanding.specs.Settling.{node_settling, value_seen, node_seen, pair_seen};
 ghost use Rattle.pl_expanding.specs.Settling.{item_behind, items_behind, pair_behind};
@@ -26,8 +27,9 @@ pub fn settle<F: Files>(
     files: &mut F,
     reach: &mut Reach,
 ) -> Result<Counted, ExpandFault>
-    ensures settled { GivesUsed result reach.new.used (node_settling node.now (followed at.calls
-        (opens (F.files files.old) reach.old.home)) frame.now at.region count reach.old.used) }
+    ensures settled { GivesUsed result reach.new.used (node_settling node.now (scope_of (followed
+        at.calls (opens (F.files files.old) reach.old.home)) frame.now at.region) count
+        reach.old.used) }
     ensures files { F.files files.new ≡ F.files files.old }
     ensures home { reach.new.home ≡ reach.old.home }
 {
@@ -53,8 +55,8 @@ fn settle_value<F: Files>(
     files: &mut F,
     reach: &mut Reach,
 ) -> Result<SettledValue, ExpandFault>
-    ensures settled { GivesUsed result reach.new.used ((value_seen value.now).settled (followed
-        at.calls (opens (F.files files.old) reach.old.home)) frame.now at.region count
+    ensures settled { GivesUsed result reach.new.used ((value_seen value.now).settled (scope_of
+        (followed at.calls (opens (F.files files.old) reach.old.home)) frame.now at.region) count
         reach.old.used) }
     ensures files { F.files files.new ≡ F.files files.old }
     ensures home { reach.new.home ≡ reach.old.home }
@@ -92,8 +94,8 @@ fn settle_items<F: Files>(
     reach: &mut Reach,
 ) -> Result<Followed, ExpandFault>
     ensures settled { GivesUsed result reach.new.used (items_behind (map node_seen items.now)
-        (followed at.calls (opens (F.files files.old) reach.old.home)) frame.now at.region
-        (record { items = []; count = count }) reach.old.used) }
+        (scope_of (followed at.calls (opens (F.files files.old) reach.old.home)) frame.now
+        at.region) (record { items = []; count = count }) reach.old.used) }
     ensures files { F.files files.new ≡ F.files files.old }
     ensures home { reach.new.home ≡ reach.old.home }
 {
@@ -119,9 +121,9 @@ fn settle_item<F: Files>(
     files: &mut F,
     reach: &mut Reach,
 ) -> Result<Followed, ExpandFault>
-    ensures settled { GivesUsed result reach.new.used (item_behind (node_seen item.now)
-        (followed at.calls (opens (F.files files.old) reach.old.home)) frame.now at.region
-        before reach.old.used) }
+    ensures settled { GivesUsed result reach.new.used (item_behind (node_seen item.now) (scope_of
+        (followed at.calls (opens (F.files files.old) reach.old.home)) frame.now at.region) before
+        reach.old.used) }
     ensures files { F.files files.new ≡ F.files files.old }
     ensures home { reach.new.home ≡ reach.old.home }
 {
@@ -157,8 +159,8 @@ fn settle_pairs<F: Files>(
     reach: &mut Reach,
 ) -> Result<SettledPairs, ExpandFault>
     ensures settled { GivesUsed result reach.new.used (pairs_behind (map pair_seen pairs.now)
-        (followed at.calls (opens (F.files files.old) reach.old.home)) frame.now at.region
-        (record { pairs = []; count = count }) reach.old.used) }
+        (scope_of (followed at.calls (opens (F.files files.old) reach.old.home)) frame.now
+        at.region) (record { pairs = []; count = count }) reach.old.used) }
     ensures files { F.files files.new ≡ F.files files.old }
     ensures home { reach.new.home ≡ reach.old.home }
 {
@@ -183,9 +185,9 @@ fn settle_pair<F: Files>(
     files: &mut F,
     reach: &mut Reach,
 ) -> Result<SettledPairs, ExpandFault>
-    ensures settled { GivesUsed result reach.new.used (pair_behind (pair_seen pair.now)
-        (followed at.calls (opens (F.files files.old) reach.old.home)) frame.now at.region
-        before reach.old.used) }
+    ensures settled { GivesUsed result reach.new.used (pair_behind (pair_seen pair.now) (scope_of
+        (followed at.calls (opens (F.files files.old) reach.old.home)) frame.now at.region) before
+        reach.old.used) }
     ensures files { F.files files.new ≡ F.files files.old }
     ensures home { reach.new.home ≡ reach.old.home }
 {

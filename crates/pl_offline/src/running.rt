@@ -8,7 +8,8 @@ use pl_streams::{Unread, read_to_end, write_all};
 use std::alloc::Global;
 
 /// Compiles the bundle that a source holds, as a run with these arguments, onto a sink.
-///  The source is read to its end. Where its bytes are a bundle (files behind lines `%%% REPO REF
+///
+/// The source is read to its end. Where its bytes are a bundle (files behind lines `%%% REPO REF
 /// PATH`, the root file first), the sink gets the text of the pipeline's plan, or the line `refused
 /// CODE REPO REF PATH:LINE:COL` of the first refusal; where they are none, nothing. At most
 /// 67,108,864 bytes are taken. The text is made before the first byte is written, so where memory

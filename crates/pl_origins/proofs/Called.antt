@@ -29,7 +29,7 @@ use Rattle.pl_directives.specs.declared.region.Region.TheVariants.{Calls as InCa
 use Rattle.pl_directives.specs.Counting.{entered}
 use Rattle.pl_calls.specs.Calls.{Called, path_text, pairs_from, arguments_at, arguments_behind}
 use Rattle.pl_calls.specs.Calls.{call_from, call_of, given_across}
-use Rattle.pl_calls.specs.Frames.{parameters_for, framed_by}
+use Rattle.pl_calls.specs.Frames.{parameters_for, template_of, framed_by}
 use Rattle.pl_calls.specs.Judging.{unless_at, mapping_in, template_in, held, body_in, form_key}
 use Rattle.pl_calls.specs.Judging.{stray, may_stand}
 use Rattle.pl_calls.specs.Parameters.{declared_by, bound_to}
@@ -37,7 +37,7 @@ use Rattle.pl_calls.specs.Parts.{Body, body_of, under, key_place_of}
 use Rattle.pl_calls.specs.Reaching.{Opens, node_in as file_node}
 use Rattle.pl_calls.specs.declared.reaching.Opened.{Opened as OpenedFile}
 use Rattle.pl_expanding.specs.Expanding.{expanded}
-use Rattle.pl_expanding.specs.Following.{Follow}
+use Rattle.pl_expanding.specs.Following.{Follow, scope_of}
 use Rattle.pl_expanding.specs.Levels.{variable_item, items_of, items_from, frame_for, deeper}
 use Rattle.pl_expanding.specs.Levels.{call_by, followed}
 use Rattle.pl_eval_laws.proofs.Leads.{Opened, head_by}
@@ -85,7 +85,8 @@ module _ (P Q : Origin → Type 0) (R : Place → Type 0) (crossing : Crossing)
   pub framed_from :
       (file : FileKey) (level : ℕ) (pairs : List NodePair) (variables : List Variable)
       (arguments : List MarkedPair) → Each (PairIn R) pairs → Each (PairFrom P P) arguments →
-      IfOk (framed_by file level pairs variables arguments crossing crossings) (FrameFrom Q R)
+      IfOk (framed_by (template_of file level pairs) variables arguments crossing crossings)
+      (FrameFrom Q R)
   framed_from file level pairs variables arguments within all =
       let given = map (given_across crossing) arguments in
       let behind = crossings ++ crossing ∷ [] in
@@ -233,7 +234,8 @@ module _ (P : Origin → Type 0) where
       (R : Place → Type 0) (form : Form) (place : Place) (one : Counted) → OneFrom P R one →
       IfOk (items_from form place one) (FollowedFrom P)
   items_from_inside R form place one all =
-      ok_then (Each (NodeFrom P P)) (FollowedFrom P) (items_of form (out-Value one.node.value) place)
+      ok_then (Each (NodeFrom P P)) (FollowedFrom P)
+      (items_of form (out-Value one.node.value) place)
       _ (items_inside form (out-Value one.node.value) place
       (value_parts P P one.node.value (node_parts P P one.node all.0).1))
       (λ items are. are)
@@ -323,7 +325,7 @@ module _ (P : Origin → Type 0) (R : FileKey → Place → Type 0) (K : FileKey
       (entered node.place count) _
       (λ count. used_then U (OneFrom P (R opened.key)) S
       (((H × CallFrom P call) × K opened.key) × FrameFrom P (R opened.key) inner) later
-      (expanded body follow inner (InCalls form) count later) _
+      (expanded body (scope_of follow inner (InCalls form)) count later) _
       (expanded_gives P (R opened.key) U body stands
       (((H × CallFrom P call) × K opened.key) × FrameFrom P (R opened.key) inner) follow inner
       (InCalls form) count later goes (λ h. h.1))

@@ -40,7 +40,7 @@ use Rattle.pl_expanding.specs.Expanding.{collected, value_by, body_by, body, tur
 use Rattle.pl_expanding.specs.Expanding.{value_under, pair_behind, pairs_behind, mapping_behind}
 use Rattle.pl_expanding.specs.Expanding.{item_by, item_behind, items_behind}
 use Rattle.pl_expanding.specs.Expanding.{facet_of, part_of, shape_of, entry_of, expanded}
-use Rattle.pl_expanding.specs.Following.{Follow}
+use Rattle.pl_expanding.specs.Following.{Follow, scope_of}
 use Rattle.pl_expanding.specs.Scalars.{scalar_by, scalar_at, path_at}
 use Rattle.pl_expanding.specs.Scalars.{path_by as path_text_by}
 use Rattle.pl_expanding.specs.Settling.{node_settling}
@@ -110,7 +110,7 @@ module _ (P : Origin → Type 0) (R : Place → Type 0) (U : List FileKey → Ty
       (follow : Follow) (frame : Frame) (region : Region) (progress : Progress)
       (used : List FileKey) → FollowFrom P U follow →
       Gives U (FrameFrom P R frame × ProgressFrom P R progress) used
-      (fill follow frame region progress used) (ProgressFrom P R)
+      (fill (scope_of follow frame region) progress used) (ProgressFrom P R)
 
   abbrev pub ShapeFrom : Shape → Type 0
   ShapeFrom (scalar text) = Unit {0}
@@ -128,10 +128,10 @@ module _ (P : Origin → Type 0) (R : Place → Type 0) (U : List FileKey → Ty
         (fill : Filling) → FillingFrom fill → (H : Type 0) (frame : Frame) (region : Region)
         (progress : Progress) (used : List FileKey) → (H → FrameFrom P R frame) →
         (H → ProgressFrom P R progress) →
-        Gives U H used (fill follow frame region progress used) (ProgressFrom P R)
+        Gives U H used (fill (scope_of follow frame region) progress used) (ProgressFrom P R)
     filled fill fills H frame region progress used from all =
         given U (ProgressFrom P R) (FrameFrom P R frame × ProgressFrom P R progress) H used
-        (fill follow frame region progress used) (λ h. (from h, all h))
+        (fill (scope_of follow frame region) progress used) (λ h. (from h, all h))
         (fills follow frame region progress used follows)
 
     -- ---- scalars
@@ -139,15 +139,16 @@ module _ (P : Origin → Type 0) (R : Place → Type 0) (U : List FileKey → Ty
     scalar_by_gives :
         (form : ScalarForm) (text : List ℕ) (H : Type 0) (frame : Frame) (region : Region)
         (place : Place) (count : ℕ) (used : List FileKey) → R place → (H → FrameFrom P R frame) →
-        Gives U H used (scalar_by form text follow frame region place count used) (OneFrom P R)
+        Gives U H used (scalar_by form text (scope_of follow frame region) place count used)
+        (OneFrom P R)
     scalar_by_gives Plain text H frame region place count used stands from =
         done_gives U (OneFrom P R) H used (plain_scalar text frame place count)
         (λ h. plain_from P R frame (from h) place stands text count)
     scalar_by_gives (Whole inside) text H frame region place count used stands from =
-        first_then U (SeenOne P R) (OneFrom P R) H used (counted_value_at frame place inside count) _
-        (λ h. counted_value_from P R frame (from h) place stands inside count)
+        first_then U (SeenOne P R) (OneFrom P R) H used (counted_value_at frame place inside count)
+        _ (λ h. counted_value_from P R frame (from h) place stands inside count)
         (λ one. implied U (KeptFrom P one.node) (OneFrom P R) (H × SeenOne P R one) used
-        (node_settling one.node follow frame region one.count used)
+        (node_settling one.node (scope_of follow frame region) one.count used)
         (λ after h kept. kept_held P R one.node after h.1 kept)
         (settling_gives P U (H × SeenOne P R one) one.node follow frame region one.count used
         follows (λ h. seen_tree P R one.node h.1)))
@@ -159,7 +160,8 @@ module _ (P : Origin → Type 0) (R : Place → Type 0) (U : List FileKey → Ty
     scalar_gives :
         (text : List ℕ) (H : Type 0) (frame : Frame) (region : Region) (place : Place) (count : ℕ)
         (used : List FileKey) → R place → (H → FrameFrom P R frame) →
-        Gives U H used (scalar_at text follow frame region place count used) (OneFrom P R)
+        Gives U H used (scalar_at text (scope_of follow frame region) place count used)
+        (OneFrom P R)
     scalar_gives text H frame region place count used stands from =
         plain_then U (OneFrom P R) H used (entered place count) _
         (λ count. scalar_by_gives (form_of text) text H frame region place count used stands from)
@@ -170,11 +172,12 @@ module _ (P : Origin → Type 0) (R : Place → Type 0) (U : List FileKey → Ty
         (of : Kind) (fill : Filling) → FillingFrom fill → (H : Type 0) (place : Place)
         (frame : Frame) (region : Region) (count : ℕ) (used : List FileKey) → R place →
         (H → FrameFrom P R frame) →
-        Gives U H used (collected of fill place follow frame region count used) (OneFrom P R)
+        Gives U H used (collected of fill place (scope_of follow frame region) count used)
+        (OneFrom P R)
     collected_gives of fill fills H place frame region count used stands from =
         plain_then U (OneFrom P R) H used (entered place count) _
         (λ count. used_then U (ProgressFrom P R) (OneFrom P R) H used
-        (fill follow frame region (begun of Closed count) used) _
+        (fill (scope_of follow frame region) (begun of Closed count) used) _
         (filled fill fills H frame region (begun of Closed count) used from
         (λ h. nothing_from P R of))
         (λ inner later. alone_gives U (OneFrom P R) (H × ProgressFrom P R inner) later
@@ -185,7 +188,8 @@ module _ (P : Origin → Type 0) (R : Place → Type 0) (U : List FileKey → Ty
     pub value_gives :
         (shape : Shape) → ShapeFrom shape → (H : Type 0) (place : Place) (frame : Frame)
         (region : Region) (count : ℕ) (used : List FileKey) → R place → (H → FrameFrom P R frame) →
-        Gives U H used (value_by shape place follow frame region count used) (OneFrom P R)
+        Gives U H used (value_by shape place (scope_of follow frame region) count used)
+        (OneFrom P R)
     value_gives (scalar text) fills H place frame region count used stands from =
         scalar_gives text H frame region place count used stands from
     value_gives (sequence fill) fills H place frame region count used stands from =
@@ -199,11 +203,11 @@ module _ (P : Origin → Type 0) (R : Place → Type 0) (U : List FileKey → Ty
         (shape : Shape) → ShapeFrom shape → (H : Type 0) (place : Place) (problem : ExpandProblem)
         (frame : Frame) (region : Region) (progress : Progress) (used : List FileKey) → R place →
         (H → FrameFrom P R frame) → (H → ProgressFrom P R progress) →
-        Gives U H used (body_by shape place problem follow frame region progress used)
+        Gives U H used (body_by shape place problem (scope_of follow frame region) progress used)
         (ProgressFrom P R)
     body_by_gives (scalar text) fills H place problem frame region progress used stands from all =
         used_then U (OneFrom P R) (ProgressFrom P R) H used
-        (scalar_at text follow frame region place progress.count used) _
+        (scalar_at text (scope_of follow frame region) place progress.count used) _
         (scalar_gives text H frame region place progress.count used stands from)
         (λ one later. alone_gives U (ProgressFrom P R) (H × OneFrom P R one) later
         (absorbed one.node problem place (with_count one.count progress))
@@ -230,10 +234,12 @@ module _ (P : Origin → Type 0) (R : Place → Type 0) (U : List FileKey → Ty
         (part : Part) → PartFrom part → (H : Type 0) (problem : ExpandProblem) (frame : Frame)
         (region : Region) (progress : Progress) (used : List FileKey) →
         (H → FrameFrom P R frame) → (H → ProgressFrom P R progress) →
-        Gives U H used (body part problem follow frame region progress used) (ProgressFrom P R)
+        Gives U H used (body part problem (scope_of follow frame region) progress used)
+        (ProgressFrom P R)
     body_gives part fills H problem frame region progress used from all =
         used_then U (ProgressFrom P R) (ProgressFrom P R) H used
-        (body_by part.shape part.place problem follow frame region (with_chain Closed progress)
+        (body_by part.shape part.place problem (scope_of follow frame region)
+        (with_chain Closed progress)
         used) _
         (body_by_gives part.shape fills.1 H part.place problem frame region
         (with_chain Closed progress) used fills.0 from all)
@@ -245,13 +251,14 @@ module _ (P : Origin → Type 0) (R : Place → Type 0) (U : List FileKey → Ty
         (frame : Frame) (region : Region) (progress : Progress) (used : List FileKey) →
         (H → Each (SeenFrom P R) items) → (H → FrameFrom P R frame) →
         (H → ProgressFrom P R progress) →
-        Gives U H used (turns name part items follow frame region progress used) (ProgressFrom P R)
+        Gives U H used (turns name part items (scope_of follow frame region) progress used)
+        (ProgressFrom P R)
     turns_give name part fills [] H frame region progress used each from all =
         done_gives U (ProgressFrom P R) H used progress all
     turns_give name part fills (item ∷ items) H frame region progress used each from all =
         used_then U (ProgressFrom P R) (ProgressFrom P R) H used
-        (body part WrongKind follow (within frame name item) region progress used)
-        (turns name part items follow frame region)
+        (body part WrongKind (scope_of follow (within frame name item) region) progress used)
+        (turns name part items (scope_of follow frame region))
         (body_gives part fills H WrongKind (within frame name item) region progress used
         (λ h. turn_from P R frame (from h) name item (each h).0) all)
         (λ after later. turns_give name part fills items (H × ProgressFrom P R after) frame region
@@ -262,7 +269,8 @@ module _ (P : Origin → Type 0) (R : Place → Type 0) (U : List FileKey → Ty
     value_under_gives :
         (path : Bool) (key : List ℕ) (part : Part) → PartFrom part → (H : Type 0) (frame : Frame)
         (region : Region) (count : ℕ) (used : List FileKey) → (H → FrameFrom P R frame) →
-        Gives U H used (value_under path key part follow frame region count used) (OneFrom P R)
+        Gives U H used (value_under path key part (scope_of follow frame region) count used)
+        (OneFrom P R)
     value_under_gives true key part fills H frame region count used from =
         alone_gives U (OneFrom P R) H used (path_by part.shape part.place frame count)
         (λ h. path_from P R frame (from h) part.place fills.0 part.shape count)
@@ -273,10 +281,11 @@ module _ (P : Origin → Type 0) (R : Place → Type 0) (U : List FileKey → Ty
         (asked : Action) (part : Part) → PartFrom part → (H : Type 0) (frame : Frame)
         (region : Region) (progress : Progress) (used : List FileKey) →
         (H → ActionFrom P R asked) → (H → FrameFrom P R frame) → (H → ProgressFrom P R progress) →
-        Gives U H used (done asked part follow frame region progress used) (ProgressFrom P R)
+        Gives U H used (done asked part (scope_of follow frame region) progress used)
+        (ProgressFrom P R)
     done_gives_all (action.Put key origin) part fills H frame region progress used own from all =
         used_then U (OneFrom P R) (ProgressFrom P R) H used
-        (value_under (is_path region progress.content key) key part follow frame region
+        (value_under (is_path region progress.content key) key part (scope_of follow frame region)
         progress.count used) _
         (value_under_gives (is_path region progress.content key) key part fills H frame region
         progress.count used from)
@@ -286,7 +295,7 @@ module _ (P : Origin → Type 0) (R : Place → Type 0) (U : List FileKey → Ty
         (all h.0)))
     done_gives_all (action.Run chain) part fills H frame region progress used own from all =
         used_then U (ProgressFrom P R) (ProgressFrom P R) H used
-        (body part WrongKind follow frame region progress used) _
+        (body part WrongKind (scope_of follow frame region) progress used) _
         (body_gives part fills H WrongKind frame region progress used from all)
         (λ after later. done_gives U (ProgressFrom P R) (H × ProgressFrom P R after) later
         (with_chain chain after) (λ h. h.1))
@@ -303,7 +312,8 @@ module _ (P : Origin → Type 0) (R : Place → Type 0) (U : List FileKey → Ty
         (entry : Entry) → EntryFrom entry → (H : Type 0) (frame : Frame) (region : Region)
         (progress : Progress) (used : List FileKey) → (H → FrameFrom P R frame) →
         (H → ProgressFrom P R progress) →
-        Gives U H used (pair_behind entry follow frame region progress used) (ProgressFrom P R)
+        Gives U H used (pair_behind entry (scope_of follow frame region) progress used)
+        (ProgressFrom P R)
     pair_gives entry fills H frame region progress used from all =
         first_then U (ActionFrom P R) (ProgressFrom P R) H used
         (key_asks entry.key frame entry.key_place progress.chain progress.count) _
@@ -316,13 +326,14 @@ module _ (P : Origin → Type 0) (R : Place → Type 0) (U : List FileKey → Ty
         (entries : List Entry) → Each EntryFrom entries → (H : Type 0) (frame : Frame)
         (region : Region) (progress : Progress) (used : List FileKey) →
         (H → FrameFrom P R frame) → (H → ProgressFrom P R progress) →
-        Gives U H used (pairs_behind entries follow frame region progress used) (ProgressFrom P R)
+        Gives U H used (pairs_behind entries (scope_of follow frame region) progress used)
+        (ProgressFrom P R)
     pairs_give [] fills H frame region progress used from all =
         done_gives U (ProgressFrom P R) H used progress all
     pairs_give (entry ∷ entries) fills H frame region progress used from all =
         used_then U (ProgressFrom P R) (ProgressFrom P R) H used
-        (pair_behind entry follow frame region progress used)
-        (pairs_behind entries follow frame region)
+        (pair_behind entry (scope_of follow frame region) progress used)
+        (pairs_behind entries (scope_of follow frame region))
         (pair_gives entry fills.0 H frame region progress used from all)
         (λ after later. pairs_give entries fills.1 (H × ProgressFrom P R after) frame region after
         later (λ h. from h.0) (λ h. h.1))
@@ -335,7 +346,8 @@ module _ (P : Origin → Type 0) (R : Place → Type 0) (U : List FileKey → Ty
         (used : List FileKey) → R place → (H → FrameFrom P R frame) →
         (H → ProgressFrom P R progress) →
         Gives U H used
-        (mapping_behind manner fill place follow frame region count progress used)
+        (mapping_behind manner fill place (scope_of follow frame region) (with_count count progress)
+        used)
         (ProgressFrom P R)
     mapping_gives Empty fill fills H place frame region count progress used stands from all =
         first_then U (OneFrom P R) (ProgressFrom P R) H used
@@ -347,11 +359,11 @@ module _ (P : Origin → Type 0) (R : Place → Type 0) (U : List FileKey → Ty
         (with_chain Closed (with_count one.count progress)) used (λ h. h.1.0) (λ h. all h.0))
     mapping_gives Stays fill fills H place frame region count progress used stands from all =
         used_then U (ProgressFrom P R) (ProgressFrom P R) H used
-        (fill follow frame (of_item region) (begun kind.Pairs progress.chain count) used) _
-        (filled fill fills H frame (of_item region) (begun kind.Pairs progress.chain count) used
+        (fill (scope_of follow frame (of_item region)) (begun kind.Pairs progress.chain count) used)
+        _ (filled fill fills H frame (of_item region) (begun kind.Pairs progress.chain count) used
         from (λ h. (tt, tt)))
-        (λ inner later. first_then U (OneFrom P R) (ProgressFrom P R) (H × ProgressFrom P R inner) later
-        (finished (literal_at frame place) inner) _
+        (λ inner later. first_then U (OneFrom P R) (ProgressFrom P R) (H × ProgressFrom P R inner)
+        later (finished (literal_at frame place) inner) _
         (λ h. finished_from P R (literal_at frame place)
         (literal_seen P R frame (from h.0) place stands) stands inner h.1)
         (λ one. add_item_gives P R U follow follows frame region
@@ -361,7 +373,7 @@ module _ (P : Origin → Type 0) (R : Place → Type 0) (U : List FileKey → Ty
     mapping_gives (Splices of) fill fills H place frame region count progress used stands from
         all =
         used_then U (ProgressFrom P R) (ProgressFrom P R) H used
-        (fill follow frame (of_item region) (begun of progress.chain count) used) _
+        (fill (scope_of follow frame (of_item region)) (begun of progress.chain count) used) _
         (filled fill fills H frame (of_item region) (begun of progress.chain count) used from
         (λ h. nothing_from P R of))
         (λ inner later. splice_gives P R U follow follows frame region (H × ProgressFrom P R inner)
@@ -375,19 +387,22 @@ module _ (P : Origin → Type 0) (R : Place → Type 0) (U : List FileKey → Ty
         (shape : Shape) → ShapeFrom shape → (H : Type 0) (place : Place) (frame : Frame)
         (region : Region) (progress : Progress) (used : List FileKey) → R place →
         (H → FrameFrom P R frame) → (H → ProgressFrom P R progress) →
-        Gives U H used (item_by shape place follow frame region progress used) (ProgressFrom P R)
+        Gives U H used (item_by shape place (scope_of follow frame region) progress used)
+        (ProgressFrom P R)
     item_by_gives (scalar text) fills H place frame region progress used stands from all =
         used_then U (OneFrom P R) (ProgressFrom P R) H used
-        (scalar_at text follow frame region place progress.count used) _
+        (scalar_at text (scope_of follow frame region) place progress.count used) _
         (scalar_gives text H frame region place progress.count used stands from)
         (λ one later. spread_gives P R U follow follows frame region (H × OneFrom P R one) one.node
         (with_chain Closed (with_count one.count progress)) later (λ h. h.1.0) (λ h. all h.0))
     item_by_gives (sequence fill) fills H place frame region progress used stands from all =
         used_then U (OneFrom P R) (ProgressFrom P R) H used
-        (collected kind.Items fill place follow frame (inside region) progress.count used) _
+        (collected kind.Items fill place (scope_of follow frame (inside region)) progress.count
+        used) _
         (collected_gives kind.Items fill fills H place frame (inside region) progress.count used
         stands from)
-        (λ one later. add_item_gives P R U follow follows frame region (H × OneFrom P R one) one.node
+        (λ one later. add_item_gives P R U follow follows frame region (H × OneFrom P R one)
+        one.node
         (with_chain Closed (with_count one.count progress)) later (λ h. h.1.0) (λ h. all h.0))
     item_by_gives (mapping manner fill) fills H place frame region progress used stands from all =
         plain_then U (ProgressFrom P R) H used (entered place progress.count) _
@@ -398,13 +413,14 @@ module _ (P : Origin → Type 0) (R : Place → Type 0) (U : List FileKey → Ty
         (parts : List Part) → Each PartFrom parts → (H : Type 0) (frame : Frame)
         (region : Region) (progress : Progress) (used : List FileKey) →
         (H → FrameFrom P R frame) → (H → ProgressFrom P R progress) →
-        Gives U H used (items_behind parts follow frame region progress used) (ProgressFrom P R)
+        Gives U H used (items_behind parts (scope_of follow frame region) progress used)
+        (ProgressFrom P R)
     items_give [] fills H frame region progress used from all =
         done_gives U (ProgressFrom P R) H used progress all
     items_give (part ∷ parts) fills H frame region progress used from all =
         used_then U (ProgressFrom P R) (ProgressFrom P R) H used
-        (item_behind part follow frame region progress used)
-        (items_behind parts follow frame region)
+        (item_behind part (scope_of follow frame region) progress used)
+        (items_behind parts (scope_of follow frame region))
         (item_by_gives part.shape fills.0.1 H part.place frame region progress used fills.0.0 from
         all)
         (λ after later. items_give parts fills.1 (H × ProgressFrom P R after) frame region after
@@ -496,7 +512,7 @@ module _ (P : Origin → Type 0) (R : Place → Type 0) (U : List FileKey → Ty
       (node : Node) → NodeIn R node → (H : Type 0) (follow : Follow) (frame : Frame)
       (region : Region) (count : ℕ) (used : List FileKey) → FollowFrom P U follow →
       (H → FrameFrom P R frame) →
-      Gives U H used (expanded node follow frame region count used) (OneFrom P R)
+      Gives U H used (expanded node (scope_of follow frame region) count used) (OneFrom P R)
   expanded_gives node within H follow frame region count used follows from =
       let part = part_from node within in
       value_gives follow follows (part_of node).shape part.1 H (part_of node).place frame region

@@ -24,7 +24,7 @@ use Rattle.pl_expanding.specs.declared.followed.Followed.{Followed}
 use Rattle.pl_expanding.specs.declared.followed.SettledPairs.{SettledPairs}
 use Rattle.pl_expanding.specs.declared.followed.SettledValue.{SettledValue}
 use Rattle.pl_directives.specs.declared.progress.Counted.{Counted}
-use Rattle.pl_expanding.specs.Following.{Follow}
+use Rattle.pl_expanding.specs.Following.{Follow, scope_of}
 use Rattle.pl_expanding.specs.Putting.{add_by, add_item, splice, spread_of, spread}
 use Rattle.pl_expanding.specs.Settling.{Settling, ValueSeen, NodeSeen, PairSeen, items_and}
 use Rattle.pl_expanding.specs.Settling.{items_with, item_settled, item_behind, items_behind}
@@ -43,7 +43,8 @@ use Rattle.pl_origins.proofs.Contents.{ContentFrom, ProgressFrom, add_items_from
 use Rattle.pl_origins.proofs.Frames.{Seen}
 use Rattle.pl_origins.proofs.Induction.{Parts, node_induction}
 use Rattle.pl_origins.proofs.Scalars.{HeldFrom}
-use Rattle.pl_origins.proofs.Steps.{Used, Gives, given, done_gives, alone_gives, used_then, first_then}
+use Rattle.pl_origins.proofs.Steps.{Used, Gives, given, done_gives, alone_gives, used_then}
+use Rattle.pl_origins.proofs.Steps.{first_then}
 
 abbrev pub FollowedFrom : (Origin → Type 0) → Followed → Type 0
 FollowedFrom P more = Each (NodeFrom P P) more.items
@@ -61,7 +62,8 @@ module _ (P : Origin → Type 0) (R : Place → Type 0) (U : List FileKey → Ty
   add_by_gives :
       (form : Option Form) (H : Type 0) (item : MarkedNode) (progress : Progress)
       (used : List FileKey) → (H → NodeFrom P P item) → (H → ProgressFrom P R progress) →
-      Gives U H used (add_by form follow frame item progress used) (ProgressFrom P R)
+      Gives U H used (add_by form (scope_of follow frame region) item progress used)
+      (ProgressFrom P R)
   add_by_gives None H item progress used own all =
       alone_gives U (ProgressFrom P R) H used _
       (λ h. add_items_from P R item.origin.source (item ∷ []) progress (own h, tt) (all h))
@@ -78,15 +80,17 @@ module _ (P : Origin → Type 0) (R : Place → Type 0) (U : List FileKey → Ty
   pub add_item_gives :
       (H : Type 0) (item : MarkedNode) (progress : Progress) (used : List FileKey) →
       (H → NodeFrom P P item) → (H → ProgressFrom P R progress) →
-      Gives U H used (add_item follow frame region item progress used) (ProgressFrom P R)
+      Gives U H used (add_item (scope_of follow frame region) item progress used) (ProgressFrom P R)
   add_item_gives H item progress used own all =
       add_by_gives (call_form region item) H item progress used own all
 
   pub splice_gives :
       (H : Type 0) (origin : Origin) (content : Content) (progress : Progress)
-      (used : List FileKey) → R origin.source → (H → Seen P R origin) → (H → ContentFrom P R content) →
+      (used : List FileKey) → R origin.source → (H → Seen P R origin) →
+      (H → ContentFrom P R content) →
       (H → ProgressFrom P R progress) →
-      Gives U H used (splice follow frame region origin content progress used) (ProgressFrom P R)
+      Gives U H used (splice (scope_of follow frame region) origin content progress used)
+      (ProgressFrom P R)
   splice_gives H origin Unknown progress used here own below all =
       done_gives U (ProgressFrom P R) H used progress all
   splice_gives H origin (Items items) progress used here own below all =
@@ -104,7 +108,8 @@ module _ (P : Origin → Type 0) (R : Place → Type 0) (U : List FileKey → Ty
       (opened : Opened) (H : Type 0) (node : MarkedNode) (progress : Progress)
       (used : List FileKey) → (H → OpenedFrom P P opened) → (H → NodeFrom P P node) →
       (H → ProgressFrom P R progress) →
-      Gives U H used (spread_of opened follow frame region node progress used) (ProgressFrom P R)
+      Gives U H used (spread_of opened (scope_of follow frame region) node progress used)
+      (ProgressFrom P R)
   spread_by (Array items) H node progress used below own all =
       alone_gives U (ProgressFrom P R) H used _
       (λ h. add_items_from P R node.origin.source items progress (below h) (all h))
@@ -124,7 +129,7 @@ module _ (P : Origin → Type 0) (R : Place → Type 0) (U : List FileKey → Ty
   pub spread_gives :
       (H : Type 0) (node : MarkedNode) (progress : Progress) (used : List FileKey) →
       (H → NodeFrom P P node) → (H → ProgressFrom P R progress) →
-      Gives U H used (spread follow frame region node progress used) (ProgressFrom P R)
+      Gives U H used (spread (scope_of follow frame region) node progress used) (ProgressFrom P R)
   spread_gives H node progress used own all =
       spread_by (out-Value node.value) H node progress used
       (λ h. value_parts P P node.value (node_parts P P node (own h)).1) own all
@@ -141,7 +146,7 @@ module _ (P : Origin → Type 0) (U : List FileKey → Type 0) where
   abbrev Settles : {X : Type 0} → Type 0 → Settling X → (X → Type 0) → Type 0
   Settles H settling Q =
       (follow : Follow) (frame : Frame) (region : Region) (count : ℕ) (used : List FileKey) →
-      FollowFrom P U follow → Gives U H used (settling follow frame region count used) Q
+      FollowFrom P U follow → Gives U H used (settling (scope_of follow frame region) count used) Q
 
   abbrev SettledFrom : Value → SettledValue → Type 0
   SettledFrom before one = ValueFrom P P one.value × (head_of one.value ≡ head_of before)
@@ -189,13 +194,14 @@ module _ (P : Origin → Type 0) (U : List FileKey → Type 0) where
           (form : Option Form) (H : Type 0) (item : MarkedNode) (before : Followed)
           (used : List FileKey) → NodeClaim item → (H → NodeFrom P P item) →
           (H → FollowedFrom P before) →
-          Gives U H used (item_settled form (node_seen item) follow frame region before used)
+          Gives U H used (item_settled form (node_seen item) (scope_of follow frame region) before
+          used)
           (FollowedFrom P)
       item_settles None H item before used claim own all =
           used_then U (KeptFrom P item) (FollowedFrom P) H used
-          ((node_seen item).settled follow frame (inside region) before.count used) _
+          ((node_seen item).settled (scope_of follow frame (inside region)) before.count used) _
           (given U (KeptFrom P item) (NodeFrom P P item) H used
-          ((node_seen item).settled follow frame (inside region) before.count used) own
+          ((node_seen item).settled (scope_of follow frame (inside region)) before.count used) own
           (claim follow frame (inside region) before.count used follows))
           (λ one later. done_gives U (FollowedFrom P) (H × KeptFrom P item one) later
           (items_and before one)
@@ -214,14 +220,15 @@ module _ (P : Origin → Type 0) (U : List FileKey → Type 0) where
       items_settle :
           (H : Type 0) (items : List MarkedNode) (before : Followed) (used : List FileKey) →
           Each NodeClaim items → (H → Each (NodeFrom P P) items) → (H → FollowedFrom P before) →
-          Gives U H used (items_behind (map node_seen items) follow frame region before used)
+          Gives U H used (items_behind (map node_seen items) (scope_of follow frame region) before
+          used)
           (FollowedFrom P)
       items_settle H [] before used claims own all =
           done_gives U (FollowedFrom P) H used before all
       items_settle H (item ∷ items) before used claims own all =
           used_then U (FollowedFrom P) (FollowedFrom P) H used
-          (item_behind (node_seen item) follow frame region before used)
-          (items_behind (map node_seen items) follow frame region)
+          (item_behind (node_seen item) (scope_of follow frame region) before used)
+          (items_behind (map node_seen items) (scope_of follow frame region))
           (item_settles (call_form region (node_seen item).itself) H item before used claims.0
           (λ h. (own h).0) all)
           (λ after later. items_settle (H × FollowedFrom P after) items after later claims.1
@@ -230,15 +237,15 @@ module _ (P : Origin → Type 0) (U : List FileKey → Type 0) where
       pair_settles :
           (H : Type 0) (pair : MarkedPair) (before : SettledPairs) (used : List FileKey) →
           PairClaim pair → (H → PairFrom P P pair) → (H → Each (PairFrom P P) before.pairs) →
-          Gives U H used (pair_behind (pair_seen pair) follow frame region before used)
+          Gives U H used (pair_behind (pair_seen pair) (scope_of follow frame region) before used)
           (PairsSettled before (Some pair.item.origin))
       pair_settles H pair before used claim own all =
           let seen = pair_seen pair in
           let inner = under seen.itself.key region in
           used_then U (KeptFrom P pair.item) (PairsSettled before (Some pair.item.origin)) H used
-          (seen.settled follow frame inner before.count used) _
+          (seen.settled (scope_of follow frame inner) before.count used) _
           (given U (KeptFrom P pair.item) (NodeFrom P P pair.item) H used
-          (seen.settled follow frame inner before.count used)
+          (seen.settled (scope_of follow frame inner) before.count used)
           (λ h. (pair_parts P P pair (own h)).1)
           (claim follow frame inner before.count used follows))
           (λ one later. done_gives U (PairsSettled before (Some pair.item.origin))
@@ -256,7 +263,8 @@ module _ (P : Origin → Type 0) (U : List FileKey → Type 0) where
           (H : Type 0) (pairs : List MarkedPair) (before : SettledPairs) (used : List FileKey) →
           Each PairClaim pairs → (H → Each (PairFrom P P) pairs) →
           (H → Each (PairFrom P P) before.pairs) →
-          Gives U H used (pairs_behind (map pair_seen pairs) follow frame region before used)
+          Gives U H used (pairs_behind (map pair_seen pairs) (scope_of follow frame region) before
+          used)
           (PairsSettled before (head_in pairs))
       pairs_settle H [] before used claims own all =
           done_gives U (PairsSettled before None) H used before
@@ -264,11 +272,11 @@ module _ (P : Origin → Type 0) (U : List FileKey → Type 0) where
       pairs_settle H (pair ∷ pairs) before used claims own all =
           used_then U (PairsSettled before (Some pair.item.origin))
           (PairsSettled before (Some pair.item.origin)) H used
-          (pair_behind (pair_seen pair) follow frame region before used)
-          (pairs_behind (map pair_seen pairs) follow frame region)
+          (pair_behind (pair_seen pair) (scope_of follow frame region) before used)
+          (pairs_behind (map pair_seen pairs) (scope_of follow frame region))
           (pair_settles H pair before used claims.0 (λ h. (own h).0) all)
           (λ after later. first_kept H pair pairs before after
-          (pairs_behind (map pair_seen pairs) follow frame region after later) later
+          (pairs_behind (map pair_seen pairs) (scope_of follow frame region) after later) later
           (pairs_settle (H × PairsSettled before (Some pair.item.origin) after) pairs after later
           claims.1 (λ h. (own h.0).1) (λ h. h.1.0)))
         where
@@ -304,7 +312,7 @@ module _ (P : Origin → Type 0) (U : List FileKey → Type 0) where
       Settles H (array_settled (map node_seen items)) (SettledFrom (value.Array items))
   array_claim H items claims own follow frame region count used follows =
       used_then U (FollowedFrom P) (SettledFrom (value.Array items)) H used
-      (items_behind (map node_seen items) follow frame region
+      (items_behind (map node_seen items) (scope_of follow frame region)
       (record { items = []; count = count }) used) _
       (items_settle follow follows frame region H items (record { items = []; count = count }) used
       claims own (λ h. tt))
@@ -319,7 +327,7 @@ module _ (P : Origin → Type 0) (U : List FileKey → Type 0) where
   object_claim H pairs claims own follow frame region count used follows =
       let start : SettledPairs = record { pairs = []; count = count } in
       used_then U (PairsSettled start (head_in pairs)) (SettledFrom (value.Object pairs)) H used
-      (pairs_behind (map pair_seen pairs) follow frame region start used) _
+      (pairs_behind (map pair_seen pairs) (scope_of follow frame region) start used) _
       (pairs_settle follow follows frame region H pairs start used claims own (λ h. tt))
       (λ all later. done_gives U (SettledFrom (value.Object pairs))
       (H × PairsSettled start (head_in pairs) all) later
@@ -392,9 +400,9 @@ module _ (P : Origin → Type 0) (U : List FileKey → Type 0) where
       subst (λ (settling : Settling Counted). Settles H settling (KeptFrom P node)) is
       (λ follow frame region count used follows.
       used_then U (SettledFrom one) (KeptFrom P node) H used
-      ((value_seen one).settled follow frame region count used) _
+      ((value_seen one).settled (scope_of follow frame region) count used) _
       (given U (SettledFrom one) (ValueFrom P P one) H used
-      ((value_seen one).settled follow frame region count used)
+      ((value_seen one).settled (scope_of follow frame region) count used)
       (λ h. (node_parts P P node h).1) (claim follow frame region count used follows))
       (λ settled later. done_gives U (KeptFrom P node) (H × SettledFrom one settled) later
       (record {
@@ -413,7 +421,8 @@ module _ (P : Origin → Type 0) (U : List FileKey → Type 0) where
   of_pair key key_origin item claim =
       let pair : MarkedPair = record { key = key; key_origin = key_origin; item = item } in
       let is : (node_seen item).settled ≡ (pair_seen pair).settled = search (rules, the_lemmas) in
-      subst (λ (settling : Settling Counted). Settles (NodeFrom P P item) settling (KeptFrom P item))
+      subst (λ (settling : Settling Counted). Settles (NodeFrom P P item) settling
+      (KeptFrom P item))
       is claim
 
   settles : (node : MarkedNode) → NodeClaim node
@@ -422,8 +431,9 @@ module _ (P : Origin → Type 0) (U : List FileKey → Type 0) where
   pub settling_gives :
       (H : Type 0) (node : MarkedNode) (follow : Follow) (frame : Frame) (region : Region)
       (count : ℕ) (used : List FileKey) → FollowFrom P U follow → (H → NodeFrom P P node) →
-      Gives U H used (node_settling node follow frame region count used) (KeptFrom P node)
+      Gives U H used (node_settling node (scope_of follow frame region) count used)
+      (KeptFrom P node)
   settling_gives H node follow frame region count used follows own =
       given U (KeptFrom P node) (NodeFrom P P node) H used
-      (node_settling node follow frame region count used) own
+      (node_settling node (scope_of follow frame region) count used) own
       (settles node follow frame region count used follows)

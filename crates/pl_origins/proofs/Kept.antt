@@ -16,6 +16,7 @@ use Rattle.pl_frame.specs.Names.{taken}
 use Rattle.pl_frame.specs.Origins.{across}
 use Rattle.pl_calls.specs.Reaching.{Opens, node_in as file_node}
 use Rattle.pl_expanding.specs.Expanding.{expanded}
+use Rattle.pl_expanding.specs.Following.{scope_of}
 use Rattle.pl_expanding.specs.Levels.{followed}
 use Rattle.pl_eval_laws.proofs.Lists.{each_implies}
 use Rattle.pl_eval_laws.specs.Trees.{origins_of}
@@ -178,7 +179,7 @@ module _ (files : List FileKey) where
 pub keeps : KeepsWhatWasExtended
 unfolding NodeFrom
 keeps file levels opens frame node region count used behind =
-    let step = expanded node (followed levels opens) frame region count used in
+    let step = expanded node (scope_of (followed levels opens) frame region) count used in
     plainly (λ one. IsTreeThrough file one.node) (Unit {0}) used step tt
     (implied NoFiles (OneFrom (IsThrough file) (NoPlace file))
     (λ one. IsTreeThrough file one.node) (Unit {0}) used step (λ one h held. held.0.0)

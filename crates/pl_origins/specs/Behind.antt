@@ -11,6 +11,7 @@ use Rattle.pl_frame.specs.declared.frame.Parameter.{Parameter}
 use Rattle.pl_directives.specs.declared.region.Region.{Region}
 use Rattle.pl_calls.specs.Reaching.{Opens}
 use Rattle.pl_expanding.specs.Expanding.{expanded}
+use Rattle.pl_expanding.specs.Following.{scope_of}
 use Rattle.pl_expanding.specs.Levels.{followed}
 use Rattle.pl_origins.specs.Through.{extended_in, IsThrough}
 
@@ -32,5 +33,5 @@ KeepsWhatWasExtended =
     (file : FileKey) (levels : ℕ) (opens : Opens) (frame : Frame) (node : Node) (region : Region)
     (count : ℕ) (used : List FileKey) →
     IsBehind file frame →
-    IfOk (expanded node (followed levels opens) frame region count used)
+    IfOk (expanded node (scope_of (followed levels opens) frame region) count used)
     (λ both. IsTreeThrough file both.0.node)

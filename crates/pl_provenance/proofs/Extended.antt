@@ -28,13 +28,13 @@ use Rattle.pl_directives.specs.Contents.{begun}
 use Rattle.pl_directives.specs.Complaints.{refused}
 use Rattle.pl_directives.specs.Counting.{entered}
 use Rattle.pl_calls.specs.Calls.{path_text, pairs_from}
-use Rattle.pl_calls.specs.Frames.{framed_by}
+use Rattle.pl_calls.specs.Frames.{template_of, framed_by}
 use Rattle.pl_calls.specs.Judging.{unless_at, stray, held, template_in}
 use Rattle.pl_calls.specs.Parts.{Body, body_of, under}
 use Rattle.pl_calls.specs.Reaching.{Opens, node_in as file_node}
 use Rattle.pl_calls.specs.declared.reaching.Opened.{Opened as OpenedFile}
 use Rattle.pl_expanding.specs.Expanding.{part_of, entry_of, expanded, pair_behind}
-use Rattle.pl_expanding.specs.Following.{Follow}
+use Rattle.pl_expanding.specs.Following.{Follow, scope_of}
 use Rattle.pl_expanding.specs.Levels.{followed}
 use Rattle.pl_expanding.specs.declared.followed.SettledPairs.{SettledPairs}
 use Rattle.pl_eval_laws.proofs.Lists.{Has}
@@ -111,7 +111,8 @@ module _ (P : Origin → Type 0) (R : Place → Type 0) (U : List FileKey → Ty
         (H → FrameFrom P R frame) →
         Gives U H used (value_from node follow frame count used) (PairsFrom P)
     value_gives H node count used within from =
-        used_then U (OneFrom P R) (PairsFrom P) H used (expanded node follow frame Quiet count used) _
+        used_then U (OneFrom P R) (PairsFrom P) H used
+        (expanded node (scope_of follow frame Quiet) count used) _
         (expanded_gives P R U node within H follow frame Quiet count used follows from)
         (λ one later. alone_gives U (PairsFrom P) (H × OneFrom P R one) later (mapping_from one)
         (λ h. mapping_inside one h.1))
@@ -156,12 +157,14 @@ module _ (P : Origin → Type 0) (R : Place → Type 0) (U : List FileKey → Ty
   pair_put :
       (H : Type 0) (pair : NodePair) (progress : Progress) (used : List FileKey) →
       PairIn R pair → (H → FrameFrom P R frame) → (H → ProgressFrom P R progress) →
-      Gives U H used (body_pair pair follow frame region progress used) (ProgressFrom P R)
+      Gives U H used (body_pair pair (scope_of follow frame region) progress used)
+      (ProgressFrom P R)
   pair_put H pair progress used within from all = by (is pair.key (codes "parameters"))
     where
       by : (b : Bool) → Gives U H used
           (cond b (Ok (progress, used))
-          (pair_behind (entry_of pair) follow frame region progress used)) (ProgressFrom P R)
+          (pair_behind (entry_of pair) (scope_of follow frame region) progress used))
+          (ProgressFrom P R)
       by true = done_gives U (ProgressFrom P R) H used progress all
       by false =
           pair_gives P R U follow follows (entry_of pair) (entry_from P R U pair within) H frame
@@ -170,12 +173,14 @@ module _ (P : Origin → Type 0) (R : Place → Type 0) (U : List FileKey → Ty
   pairs_put :
       (H : Type 0) (pairs : List NodePair) (progress : Progress) (used : List FileKey) →
       Each (PairIn R) pairs → (H → FrameFrom P R frame) → (H → ProgressFrom P R progress) →
-      Gives U H used (body_pairs pairs follow frame region progress used) (ProgressFrom P R)
+      Gives U H used (body_pairs pairs (scope_of follow frame region) progress used)
+      (ProgressFrom P R)
   pairs_put H [] progress used within from all =
       done_gives U (ProgressFrom P R) H used progress all
   pairs_put H (pair ∷ pairs) progress used within from all =
       used_then U (ProgressFrom P R) (ProgressFrom P R) H used
-      (body_pair pair follow frame region progress used) (body_pairs pairs follow frame region)
+      (body_pair pair (scope_of follow frame region) progress used)
+      (body_pairs pairs (scope_of follow frame region))
       (pair_put H pair progress used within.0 from all)
       (λ after later. pairs_put (H × ProgressFrom P R after) pairs after later within.1
       (λ h. from h.0) (λ h. h.1))
@@ -214,17 +219,19 @@ module _ (P : Origin → Type 0) (T : FileKey → Origin → Type 0) (R : FileKe
       (file : FileKey) (place : Place) (pairs : List NodePair) (levels : ℕ) (H : Type 0)
       (inner : Frame) (count : ℕ) (used : List FileKey) → Each (PairIn (R file)) pairs →
       (H → FrameFrom (T file) (R file) inner) →
-      Gives U H used (body_filled file place pairs (followed levels opens) inner count used)
+      Gives U H used (body_filled file place pairs (scope_of (followed levels opens) inner Free)
+      count used)
       (ExtensionFrom T)
   body_gives file place pairs levels H inner count used within from =
       plain_then U (ExtensionFrom T) H used (entered place count) _
       (λ count. used_then U (ProgressFrom (T file) (R file)) (ExtensionFrom T) H used
-      (body_pairs pairs (followed levels opens) inner Free (begun content.Pairs Closed count) used)
+      (body_pairs pairs (scope_of (followed levels opens) inner Free)
+      (begun content.Pairs Closed count) used)
       _ (pairs_put (T file) (R file) U (followed levels opens)
       (followed_gives (T file) R K U (inside file) opens opening levels) inner Free H pairs
       (begun content.Pairs Closed count) used within from (λ h. (tt, tt)))
-      (λ after later. done_gives U (ExtensionFrom T) (H × ProgressFrom (T file) (R file) after) later
-      (record { file = file; pairs = pairs_there after.content; count = after.count })
+      (λ after later. done_gives U (ExtensionFrom T) (H × ProgressFrom (T file) (R file) after)
+      later (record { file = file; pairs = pairs_there after.content; count = after.count })
       (λ h. there_from (T file) (R file) after.content h.1)))
 
   opened_gives :
@@ -240,7 +247,8 @@ module _ (P : Origin → Type 0) (T : FileKey → Origin → Type 0) (R : FileKe
       (λ node within. static_then U (Each (PairIn (R key))) S H used (extended_pairs node) _
       (pairs_inside_template (R key) node within)
       (λ pairs stands. first_then U (FrameFrom (T key) (R key)) S H used
-      (framed_by key 1 pairs frame.variables arguments.pairs (Extends key) path.origin.crossings) _
+      (framed_by (template_of key 1 pairs) frame.variables arguments.pairs (Extends key)
+      path.origin.crossings) _
       (λ h. framed_from P (T key) (R key) (Extends key) path.origin.crossings
       (λ place here. border.literal key path.origin place (known h) (own h) here)
       (λ place here. border.made key path.origin place (known h) (own h) here)

@@ -36,6 +36,7 @@ use Rattle.pl_calls.specs.declared.files.Parsed.{Parsed}
 use Rattle.pl_calls.specs.declared.reaching.Home.{Home}
 use Rattle.pl_calls.specs.declared.reaching.Opened.{Opened as OpenedFile}
 use Rattle.pl_expanding.specs.Expanding.{expanded}
+use Rattle.pl_expanding.specs.Following.{scope_of}
 use Rattle.pl_expanding.specs.Levels.{followed}
 use Rattle.pl_eval_laws.proofs.Lists.{Has, each_append, each_front, each_back, each_implies}
 use Rattle.pl_eval_laws.proofs.Lists.{each_contained}
@@ -58,7 +59,7 @@ use Rattle.pl_expand.specs.Tree.{Set, unless}
 use Rattle.pl_root.specs.Arguments.{argument_file, parameters_by}
 use Rattle.pl_root.specs.Keys.{root_complaints}
 use Rattle.pl_root.specs.Frames.{first_frame}
-use Rattle.pl_expand.specs.Tree.{root_from, root_object, pairs_expanded, home_of}
+use Rattle.pl_expand.specs.Tree.{root_from, root_object, root_mapping, pairs_expanded, home_of}
 use Rattle.pl_expand.specs.Tree.{bare_home, used_files, mapping_expanded, bare_expanded}
 use Rattle.pl_expand.specs.Tree.{other_expanded, body_expanded_by, root_node, tree_of}
 use Rattle.pl_provenance.specs.Known.{IsUsed, IsGiven, IsBorder}
@@ -377,7 +378,8 @@ module _ (files : Set) (root : FileKey) (arguments : List RunArgument) where
       (under (codes "parameters") pairs) arguments (arguments_known arguments)
       (under_in R (codes "parameters") pairs within)))
       (λ parameters are. ends_then (λ ends one. NodeFrom (In ends) Any one.node)
-      (pairs_expanded root place pairs parameters (opens_of files (home_of root pairs))) _
+      (pairs_expanded (root_mapping root place pairs parameters)
+      (opens_of files (home_of root pairs))) _
       (λ ends. pairs_expanded_give (In ends) (λ file. In ends) (IsIn files)
       (Contains (used_files root ends)) (U ends)
       (known_crossing files (used_files root ends) arguments)
@@ -397,8 +399,9 @@ module _ (files : Set) (root : FileKey) (arguments : List RunArgument) where
       IfOk (bare_expanded files root node (first_frame root parameters)) TreeKnown
   bare_known node parameters within are =
       ends_then (λ ends. OneFrom (In ends) R)
-      (expanded node (followed 100 (opens_of files (bare_home root))) (first_frame root parameters)
-      Free 0 []) _
+      (expanded node
+      (scope_of (followed 100 (opens_of files (bare_home root))) (first_frame root parameters)
+      Free) 0 []) _
       (λ ends. expanded_gives (In ends) R (U ends) node within (Unit {0})
       (followed 100 (opens_of files (bare_home root))) (first_frame root parameters) Free 0 []
       (followed_gives (In ends) (IsIn files) (Contains (used_files root ends)) (U ends)

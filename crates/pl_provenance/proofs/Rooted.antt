@@ -34,6 +34,7 @@ use Rattle.pl_calls.specs.Parameters.{declared_by}
 use Rattle.pl_calls.specs.Parts.{under}
 use Rattle.pl_calls.specs.Reaching.{Opens}
 use Rattle.pl_expanding.specs.Expanding.{expanded, entry_of, pair_behind}
+use Rattle.pl_expanding.specs.Following.{scope_of}
 use Rattle.pl_expanding.specs.Levels.{followed}
 use Rattle.pl_eval_laws.proofs.Lists.{Has, each_append}
 use Rattle.pl_eval_laws.proofs.Trees.{NodeFrom, PairFrom, pair_from, text_node, node_implies}
@@ -66,7 +67,7 @@ use Rattle.pl_expand.specs.Tree.{put_variables, filled_with, ordinary_pair, exte
 use Rattle.pl_expand.specs.Tree.{passed_over, variables_pair, root_pair, given_to, early_behind}
 use Rattle.pl_expand.specs.Tree.{root_pairs, root_object, root_from}
 use Rattle.pl_root.specs.Frames.{second_frame}
-use Rattle.pl_expand.specs.Tree.{filled_root, pairs_expanded}
+use Rattle.pl_expand.specs.Tree.{root_mapping, filled_root, pairs_expanded}
 use Rattle.pl_provenance.specs.Roots.{jobs_of}
 use Rattle.pl_provenance.proofs.Extended.{ExtendsBorder, ExtensionFrom, extended_gives}
 use Rattle.pl_provenance.proofs.Extended.{levels_follow}
@@ -208,8 +209,8 @@ module _ (P : Origin → Type 0) (T : FileKey → Origin → Type 0) (R : FileKe
       Gives U H used (ordinary_pair pair opens frame filling used) FillingFrom
   ordinary_gives pair H frame filling used within from all =
       used_then U (ProgressFrom P (R root)) FillingFrom H used
-      (pair_behind (entry_of pair) (followed 100 opens) frame Free filling.progress used) _
-      (pair_gives P (R root) U (followed 100 opens) (follows 100) (entry_of pair)
+      (pair_behind (entry_of pair) (scope_of (followed 100 opens) frame Free) filling.progress used)
+      _ (pair_gives P (R root) U (followed 100 opens) (follows 100) (entry_of pair)
       (entry_from P (R root) U pair within) H frame Free filling.progress used from
       (λ h. (all h).0))
       (λ after later. done_gives U FillingFrom (H × ProgressFrom P (R root) after) later
@@ -236,8 +237,8 @@ module _ (P : Origin → Type 0) (T : FileKey → Origin → Type 0) (R : FileKe
       FillingFrom filling →
       IfOk (variables_pair node pair frame filling) FillingFrom
   variables_give node pair frame filling within from own all =
-      ok_then (ProgressFrom P (R root)) FillingFrom (put_variables node pair frame filling.progress) _
-      (put_pair_from P (R root) _ filling.progress.count filling.progress
+      ok_then (ProgressFrom P (R root)) FillingFrom (put_variables node pair frame filling.progress)
+      _ (put_pair_from P (R root) _ filling.progress.count filling.progress
       (pair_from P P pair.key (literal_at frame pair.key_place) node
       (from.literal pair.key_place (pair_in (R root) pair within).0) own.0) own.1.0 all.0)
       (λ after is. (is, all.1))
@@ -300,11 +301,13 @@ module _ (P : Origin → Type 0) (T : FileKey → Origin → Type 0) (R : FileKe
 
   abbrev pub RootNodeFrom : RootNode → Type 0
   RootNodeFrom one =
-      (file : FileKey) → one.extends ≡ Some file → Each (PairFrom (T file) (T file)) (jobs_of one.node)
+      (file : FileKey) → one.extends ≡ Some file → Each (PairFrom (T file) (T file))
+      (jobs_of one.node)
 
   same_file :
       (tree : MarkedNode) (extended file : FileKey) → Some extended ≡ Some file →
-      Each (PairFrom (T extended) (T extended)) (jobs_of tree) → Each (PairFrom (T file) (T file)) (jobs_of tree)
+      Each (PairFrom (T extended) (T extended)) (jobs_of tree) → Each (PairFrom (T file) (T file))
+      (jobs_of tree)
   same_file tree extended file same all =
       let is : extended ≡ file = cc in
       subst (λ (one : FileKey). Each (PairFrom (T one) (T one)) (jobs_of tree)) is all
@@ -321,7 +324,8 @@ module _ (P : Origin → Type 0) (T : FileKey → Origin → Type 0) (R : FileKe
       any_then RootNodeFrom (root_object None origin progress.content) _
       (λ tree file is. no_file tree file is)
   root_by origin progress (Some extension) all =
-      ok_then (λ tree. Each (PairFrom (T extension.file) (T extension.file)) (jobs_of tree)) RootNodeFrom
+      ok_then (λ tree. Each (PairFrom (T extension.file) (T extension.file)) (jobs_of tree))
+      RootNodeFrom
       (root_object (Some extension) origin progress.content) _
       (tree_from (T extension.file) extension origin progress.content all)
       (λ tree are file is. same_file tree extension.file file is are)
@@ -337,7 +341,7 @@ module _ (P : Origin → Type 0) (T : FileKey → Origin → Type 0) (R : FileKe
       done_gives U EarlyFrom H used (record { node = None; count = count }) (λ h. tt)
   early_gives (Some node) H frame count used within from =
       used_then U (OneFrom P (R root)) EarlyFrom H used
-      (expanded node (followed 100 opens) frame (Calls InVariables) count used) _
+      (expanded node (scope_of (followed 100 opens) frame (Calls InVariables)) count used) _
       (expanded_gives P (R root) U node within H (followed 100 opens) frame (Calls InVariables)
       count used (follows 100) from)
       (λ one later. done_gives U EarlyFrom (H × OneFrom P (R root) one) later
@@ -351,7 +355,7 @@ module _ (P : Origin → Type 0) (T : FileKey → Origin → Type 0) (R : FileKe
         (place : Place) (pairs : List NodePair) (parameters : List Parameter) (H : Type 0)
         (early : Early) (used : List FileKey) → R root place → Each (PairIn (R root)) pairs →
         Each (ParameterFrom P (R root)) parameters → (H → EarlyFrom early) →
-        Gives U H used (filled_root root place pairs parameters opens early used) N
+        Gives U H used (filled_root (root_mapping root place pairs parameters) opens early used) N
     filled_gives place pairs parameters H early used here within are known =
         let frame = second_frame root parameters early.node in
         let start = filled_with None (begun content.Pairs Closed early.count) in
@@ -366,13 +370,13 @@ module _ (P : Origin → Type 0) (T : FileKey → Origin → Type 0) (R : FileKe
     pub pairs_expanded_give :
         (place : Place) (pairs : List NodePair) (parameters : List Parameter) → R root place →
         Each (PairIn (R root)) pairs → Each (ParameterFrom P (R root)) parameters →
-        Gives U (Unit {0}) [] (pairs_expanded root place pairs parameters opens) N
+        Gives U (Unit {0}) [] (pairs_expanded (root_mapping root place pairs parameters) opens) N
     pairs_expanded_give place pairs parameters here within are =
         plain_then U N (Unit {0}) [] (entered place 0) _
         (λ count. used_then U EarlyFrom N (Unit {0}) []
         (early_by (under (codes "variables") pairs) (followed 100 opens)
         (first_frame root parameters) count [])
-        (filled_root root place pairs parameters opens)
+        (filled_root (root_mapping root place pairs parameters) opens)
         (early_gives (under (codes "variables") pairs) (Unit {0}) (first_frame root parameters)
         count [] (under_in (R root) (codes "variables") pairs within)
         (λ h. root_frame_from P (R root) A own root parameters _ are))

@@ -19,6 +19,7 @@ use Rattle.pl_calls.specs.Parts.{Body, body_of, under}
 use Rattle.pl_calls.specs.Reaching.{Opens, opens as opens_of}
 use Rattle.pl_calls.specs.declared.reaching.Home.{Home}
 use Rattle.pl_expanding.specs.Expanding.{expanded}
+use Rattle.pl_expanding.specs.Following.{scope_of}
 use Rattle.pl_expanding.specs.Levels.{followed}
 use Rattle.pl_eval_laws.proofs.Lists.{Has}
 use Rattle.pl_eval_laws.proofs.Trees.{PairFrom}
@@ -37,7 +38,7 @@ use Rattle.pl_root.specs.Keys.{root_complaints}
 use Rattle.pl_root.specs.Arguments.{parameters_by}
 use Rattle.pl_root.specs.Frames.{first_frame}
 use Rattle.pl_expand.specs.Tree.{root_from}
-use Rattle.pl_expand.specs.Tree.{pairs_expanded, home_of, bare_home, mapping_expanded}
+use Rattle.pl_expand.specs.Tree.{root_mapping, pairs_expanded, home_of, bare_home, mapping_expanded}
 use Rattle.pl_expand.specs.Tree.{bare_expanded, other_expanded, body_expanded_by, root_node}
 use Rattle.pl_expand.specs.Tree.{tree_of}
 use Rattle.pl_provenance.specs.Roots.{jobs_of}
@@ -65,7 +66,8 @@ module _ (P : Origin → Type 0) (T : FileKey → Origin → Type 0) (R : FileKe
     (A : RunArgument → Place → Type 0) (own : RootBorder P (R root) A) where
   abbrev NodeFrom : RootNode → Type 0
   NodeFrom one =
-      (file : FileKey) → one.extends ≡ Some file → Each (PairFrom (T file) (T file)) (jobs_of one.node)
+      (file : FileKey) → one.extends ≡ Some file → Each (PairFrom (T file) (T file))
+      (jobs_of one.node)
 
   abbrev pub TreeFrom : RootTree → Type 0
   TreeFrom one =
@@ -74,7 +76,8 @@ module _ (P : Origin → Type 0) (T : FileKey → Origin → Type 0) (R : FileKe
 
   finishes :
       (opens : Opens) → OpensFrom R K NoFiles opens → (origin : Origin) (filling : RootFilling) →
-      P origin → ProgressFrom P (R root) filling.progress × Has (ExtensionFrom T) filling.extension →
+      P origin → ProgressFrom P (R root) filling.progress × Has (ExtensionFrom T) filling.extension
+      →
       IfOk (root_from origin filling) NodeFrom
   finishes opens opening origin filling is all =
       root_by P T R K NoFiles border inside outside opens opening root origin filling.progress
@@ -93,9 +96,11 @@ module _ (P : Origin → Type 0) (T : FileKey → Origin → Type 0) (R : FileKe
       (parameters_are P (R root) A own (under (codes "parameters") pairs) arguments given_in
       (under_in (R root) (codes "parameters") pairs within))
       (λ parameters are. then_used NodeFrom TreeFrom
-      (pairs_expanded root place pairs parameters (opens_of files (home_of root pairs))) _
+      (pairs_expanded (root_mapping root place pairs parameters)
+      (opens_of files (home_of root pairs))) _
       (plainly NodeFrom (Unit {0}) []
-      (pairs_expanded root place pairs parameters (opens_of files (home_of root pairs))) tt
+      (pairs_expanded (root_mapping root place pairs parameters)
+      (opens_of files (home_of root pairs))) tt
       (pairs_expanded_give P T R K NoFiles border inside outside
       (opens_of files (home_of root pairs)) (opening (home_of root pairs)) root A own
       NodeFrom (finishes (opens_of files (home_of root pairs)) (opening (home_of root pairs)))
@@ -108,9 +113,9 @@ module _ (P : Origin → Type 0) (T : FileKey → Origin → Type 0) (R : FileKe
   bare_from : (node : Node) (frame : Frame) → IfOk (bare_expanded files root node frame) TreeFrom
   bare_from node frame =
       then_used (λ one. Unit {0}) TreeFrom
-      (expanded node (followed 100 (opens_of files (bare_home root))) frame Free 0 []) _
+      (expanded node (scope_of (followed 100 (opens_of files (bare_home root))) frame Free) 0 []) _
       (any_ok (λ both. Unit {0}) (λ both. tt)
-      (expanded node (followed 100 (opens_of files (bare_home root))) frame Free 0 []))
+      (expanded node (scope_of (followed 100 (opens_of files (bare_home root))) frame Free) 0 []))
       (λ one used is file extends. no_file file extends)
 
   other_from : (node : Node) (arguments : List RunArgument) →

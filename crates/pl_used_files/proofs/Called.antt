@@ -21,13 +21,13 @@ use Rattle.pl_directives.specs.Complaints.{refused}
 use Rattle.pl_directives.specs.Contents.{begun}
 use Rattle.pl_directives.specs.Counting.{entered}
 use Rattle.pl_calls.specs.Calls.{path_text, call_of}
-use Rattle.pl_calls.specs.Frames.{framed_by}
+use Rattle.pl_calls.specs.Frames.{template_of, framed_by}
 use Rattle.pl_calls.specs.Judging.{template_in, body_in}
 use Rattle.pl_calls.specs.Parts.{Body, body_of}
 use Rattle.pl_calls.specs.Reaching.{Opens, node_in as file_node}
 use Rattle.pl_calls.specs.declared.reaching.Opened.{Opened as OpenedFile}
 use Rattle.pl_expanding.specs.Expanding.{entry_of, expanded, pair_behind}
-use Rattle.pl_expanding.specs.Following.{Follow}
+use Rattle.pl_expanding.specs.Following.{Follow, scope_of}
 use Rattle.pl_expanding.specs.Levels.{items_from, frame_for, call_by, followed}
 use Rattle.pl_expanding.specs.declared.followed.SettledPairs.{SettledPairs}
 use Rattle.pl_expand.specs.Extending.{path_in, mapping_from, value_from, argument_behind}
@@ -64,8 +64,8 @@ module _ (U : List FileKey → Type 0) (one other : Opens) (opens : OpensAgree U
       (λ pairs. same_then U later (body_in form node.place pairs) _ _
       (λ body. same_then U later (frame_for opened.key level pairs call frame) _ _
       (λ inner. same_then U later (entered node.place count) _ _
-      (λ count. both_then U later (expanded body next inner (InCalls form) count later)
-      (expanded body more inner (InCalls form) count later) _ _
+      (λ count. both_then U later (expanded body (scope_of next inner (InCalls form)) count later)
+      (expanded body (scope_of more inner (InCalls form)) count later) _ _
       (expanded_agree U body next more inner (InCalls form) count later goes)
       (λ x last. both_alone U last (items_from form body.place x)))))))))
 
@@ -87,8 +87,8 @@ module _ (U : List FileKey → Type 0) (one other : Opens) (opens : OpensAgree U
           (value_from pair.item (followed 100 other) frame before.count used)
       value =
           both_then U used
-          (expanded pair.item (followed 100 one) frame Quiet before.count used)
-          (expanded pair.item (followed 100 other) frame Quiet before.count used) _ _
+          (expanded pair.item (scope_of (followed 100 one) frame Quiet) before.count used)
+          (expanded pair.item (scope_of (followed 100 other) frame Quiet) before.count used) _ _
           (expanded_agree U pair.item (followed 100 one) (followed 100 other) frame Quiet
           before.count used (followed_agree 100))
           (λ x later. both_alone U later (mapping_from x))
@@ -129,15 +129,15 @@ module _ (U : List FileKey → Type 0) (one other : Opens) (opens : OpensAgree U
   body_pair_agree :
       (pair : NodePair) (frame : Frame) (region : Region) (progress : Progress)
       (used : List FileKey) →
-      Agree U used (body_pair pair (followed 99 one) frame region progress used)
-      (body_pair pair (followed 99 other) frame region progress used)
+      Agree U used (body_pair pair (scope_of (followed 99 one) frame region) progress used)
+      (body_pair pair (scope_of (followed 99 other) frame region) progress used)
   body_pair_agree pair frame region progress used = by (is pair.key (codes "parameters"))
     where
       by : (b : Bool) → Agree U used
           (cond b (Ok (progress, used))
-          (pair_behind (entry_of pair) (followed 99 one) frame region progress used))
+          (pair_behind (entry_of pair) (scope_of (followed 99 one) frame region) progress used))
           (cond b (Ok (progress, used))
-          (pair_behind (entry_of pair) (followed 99 other) frame region progress used))
+          (pair_behind (entry_of pair) (scope_of (followed 99 other) frame region) progress used))
       by true = done U used progress
       by false =
           pair_agree U (followed 99 one) (followed 99 other) (followed_agree 99) (entry_of pair)
@@ -146,14 +146,14 @@ module _ (U : List FileKey → Type 0) (one other : Opens) (opens : OpensAgree U
   body_pairs_agree :
       (pairs : List NodePair) (frame : Frame) (region : Region) (progress : Progress)
       (used : List FileKey) →
-      Agree U used (body_pairs pairs (followed 99 one) frame region progress used)
-      (body_pairs pairs (followed 99 other) frame region progress used)
+      Agree U used (body_pairs pairs (scope_of (followed 99 one) frame region) progress used)
+      (body_pairs pairs (scope_of (followed 99 other) frame region) progress used)
   body_pairs_agree [] frame region progress used = done U used progress
   body_pairs_agree (pair ∷ pairs) frame region progress used =
-      both_then U used (body_pair pair (followed 99 one) frame region progress used)
-      (body_pair pair (followed 99 other) frame region progress used)
-      (body_pairs pairs (followed 99 one) frame region)
-      (body_pairs pairs (followed 99 other) frame region)
+      both_then U used (body_pair pair (scope_of (followed 99 one) frame region) progress used)
+      (body_pair pair (scope_of (followed 99 other) frame region) progress used)
+      (body_pairs pairs (scope_of (followed 99 one) frame region))
+      (body_pairs pairs (scope_of (followed 99 other) frame region))
       (body_pair_agree pair frame region progress used)
       (λ after later. body_pairs_agree pairs frame region after later)
 
@@ -166,12 +166,15 @@ module _ (U : List FileKey → Type 0) (one other : Opens) (opens : OpensAgree U
       same_then U used (file_node opened.file) _ _
       (λ node. same_then U used (extended_pairs node) _ _
       (λ pairs. same_then U used
-      (framed_by opened.key 1 pairs frame.variables arguments.pairs (Extends opened.key)
+      (framed_by (template_of opened.key 1 pairs) frame.variables arguments.pairs
+      (Extends opened.key)
       path.origin.crossings) _ _
       (λ inner. same_then U used (entered node.place arguments.count) _ _
       (λ count. both_then U used
-      (body_pairs pairs (followed 99 one) inner Free (begun content.Pairs Closed count) used)
-      (body_pairs pairs (followed 99 other) inner Free (begun content.Pairs Closed count) used)
+      (body_pairs pairs (scope_of (followed 99 one) inner Free) (begun content.Pairs Closed count)
+      used)
+      (body_pairs pairs (scope_of (followed 99 other) inner Free) (begun content.Pairs Closed count)
+      used)
       _ _ (body_pairs_agree pairs inner Free (begun content.Pairs Closed count) used)
       (λ after later. done U later (record {
         file = opened.key;

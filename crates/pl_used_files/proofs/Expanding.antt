@@ -38,7 +38,7 @@ use Rattle.pl_expanding.specs.Expanding.{collected, value_by, body_by, body, tur
 use Rattle.pl_expanding.specs.Expanding.{done as done_for, value_under, pair_behind, pairs_behind}
 use Rattle.pl_expanding.specs.Expanding.{mapping_behind, item_by, item_behind, items_behind}
 use Rattle.pl_expanding.specs.Expanding.{facet_of, part_of, shape_of, entry_of, expanded}
-use Rattle.pl_expanding.specs.Following.{Follow}
+use Rattle.pl_expanding.specs.Following.{Follow, scope_of}
 use Rattle.pl_expanding.specs.Scalars.{scalar_by, scalar_at}
 use Rattle.pl_origins.proofs.Induction.{BodyParts, written_induction}
 use Rattle.pl_used_files.proofs.Agreeing.{Agree, done, both_alone, same_then, both_then}
@@ -50,7 +50,8 @@ module _ (U : List FileKey → Type 0) where
   FillingAgree fill =
       (one other : Follow) (frame : Frame) (region : Region) (progress : Progress)
       (used : List FileKey) → FollowAgree U one other →
-      Agree U used (fill one frame region progress used) (fill other frame region progress used)
+      Agree U used (fill (scope_of one frame region) progress used)
+      (fill (scope_of other frame region) progress used)
 
   abbrev pub ShapeAgree : Shape → Type 0
   ShapeAgree (scalar text) = Unit {0}
@@ -69,8 +70,8 @@ module _ (U : List FileKey → Type 0) where
     scalar_by_agree :
         (form : ScalarForm) (text : List ℕ) (frame : Frame) (region : Region) (place : Place)
         (count : ℕ) (used : List FileKey) →
-        Agree U used (scalar_by form text one frame region place count used)
-        (scalar_by form text other frame region place count used)
+        Agree U used (scalar_by form text (scope_of one frame region) place count used)
+        (scalar_by form text (scope_of other frame region) place count used)
     scalar_by_agree Plain text frame region place count used =
         done U used (plain_scalar text frame place count)
     scalar_by_agree (Whole inside) text frame region place count used =
@@ -83,8 +84,8 @@ module _ (U : List FileKey → Type 0) where
     scalar_agree :
         (text : List ℕ) (frame : Frame) (region : Region) (place : Place) (count : ℕ)
         (used : List FileKey) →
-        Agree U used (scalar_at text one frame region place count used)
-        (scalar_at text other frame region place count used)
+        Agree U used (scalar_at text (scope_of one frame region) place count used)
+        (scalar_at text (scope_of other frame region) place count used)
     scalar_agree text frame region place count used =
         same_then U used (entered place count) _ _
         (λ count. scalar_by_agree (form_of text) text frame region place count used)
@@ -94,20 +95,20 @@ module _ (U : List FileKey → Type 0) where
     collected_agree :
         (of : Kind) (fill : Filling) → FillingAgree fill → (place : Place) (frame : Frame)
         (region : Region) (count : ℕ) (used : List FileKey) →
-        Agree U used (collected of fill place one frame region count used)
-        (collected of fill place other frame region count used)
+        Agree U used (collected of fill place (scope_of one frame region) count used)
+        (collected of fill place (scope_of other frame region) count used)
     collected_agree of fill fills place frame region count used =
         same_then U used (entered place count) _ _
-        (λ count. both_then U used (fill one frame region (begun of Closed count) used)
-        (fill other frame region (begun of Closed count) used) _ _
+        (λ count. both_then U used (fill (scope_of one frame region) (begun of Closed count) used)
+        (fill (scope_of other frame region) (begun of Closed count) used) _ _
         (fills one other frame region (begun of Closed count) used follows)
         (λ inner later. both_alone U later (finished (literal_at frame place) inner)))
 
     pub value_agree :
         (shape : Shape) → ShapeAgree shape → (place : Place) (frame : Frame) (region : Region)
         (count : ℕ) (used : List FileKey) →
-        Agree U used (value_by shape place one frame region count used)
-        (value_by shape place other frame region count used)
+        Agree U used (value_by shape place (scope_of one frame region) count used)
+        (value_by shape place (scope_of other frame region) count used)
     value_agree (scalar text) fills place frame region count used =
         scalar_agree text frame region place count used
     value_agree (sequence fill) fills place frame region count used =
@@ -120,11 +121,11 @@ module _ (U : List FileKey → Type 0) where
     body_by_agree :
         (shape : Shape) → ShapeAgree shape → (place : Place) (problem : ExpandProblem)
         (frame : Frame) (region : Region) (progress : Progress) (used : List FileKey) →
-        Agree U used (body_by shape place problem one frame region progress used)
-        (body_by shape place problem other frame region progress used)
+        Agree U used (body_by shape place problem (scope_of one frame region) progress used)
+        (body_by shape place problem (scope_of other frame region) progress used)
     body_by_agree (scalar text) fills place problem frame region progress used =
-        both_then U used (scalar_at text one frame region place progress.count used)
-        (scalar_at text other frame region place progress.count used) _ _
+        both_then U used (scalar_at text (scope_of one frame region) place progress.count used)
+        (scalar_at text (scope_of other frame region) place progress.count used) _ _
         (scalar_agree text frame region place progress.count used)
         (λ x later. both_alone U later
         (absorbed x.node problem place (with_count x.count progress)))
@@ -140,12 +141,14 @@ module _ (U : List FileKey → Type 0) where
     body_agree :
         (part : Part) → PartAgree part → (problem : ExpandProblem) (frame : Frame)
         (region : Region) (progress : Progress) (used : List FileKey) →
-        Agree U used (body part problem one frame region progress used)
-        (body part problem other frame region progress used)
+        Agree U used (body part problem (scope_of one frame region) progress used)
+        (body part problem (scope_of other frame region) progress used)
     body_agree part fills problem frame region progress used =
         both_then U used
-        (body_by part.shape part.place problem one frame region (with_chain Closed progress) used)
-        (body_by part.shape part.place problem other frame region (with_chain Closed progress)
+        (body_by part.shape part.place problem (scope_of one frame region)
+        (with_chain Closed progress) used)
+        (body_by part.shape part.place problem (scope_of other frame region)
+        (with_chain Closed progress)
         used) _ _
         (body_by_agree part.shape fills part.place problem frame region
         (with_chain Closed progress) used)
@@ -154,14 +157,15 @@ module _ (U : List FileKey → Type 0) where
     turns_agree :
         (name : List ℕ) (part : Part) → PartAgree part → (items : List MarkedNode) (frame : Frame)
         (region : Region) (progress : Progress) (used : List FileKey) →
-        Agree U used (turns name part items one frame region progress used)
-        (turns name part items other frame region progress used)
+        Agree U used (turns name part items (scope_of one frame region) progress used)
+        (turns name part items (scope_of other frame region) progress used)
     turns_agree name part fills [] frame region progress used = done U used progress
     turns_agree name part fills (item ∷ items) frame region progress used =
         both_then U used
-        (body part WrongKind one (within frame name item) region progress used)
-        (body part WrongKind other (within frame name item) region progress used)
-        (turns name part items one frame region) (turns name part items other frame region)
+        (body part WrongKind (scope_of one (within frame name item) region) progress used)
+        (body part WrongKind (scope_of other (within frame name item) region) progress used)
+        (turns name part items (scope_of one frame region))
+        (turns name part items (scope_of other frame region))
         (body_agree part fills WrongKind (within frame name item) region progress used)
         (λ after later. turns_agree name part fills items frame region after later)
 
@@ -170,8 +174,8 @@ module _ (U : List FileKey → Type 0) where
     value_under_agree :
         (path : Bool) (key : List ℕ) (part : Part) → PartAgree part → (frame : Frame)
         (region : Region) (count : ℕ) (used : List FileKey) →
-        Agree U used (value_under path key part one frame region count used)
-        (value_under path key part other frame region count used)
+        Agree U used (value_under path key part (scope_of one frame region) count used)
+        (value_under path key part (scope_of other frame region) count used)
     value_under_agree true key part fills frame region count used =
         both_alone U used (path_by part.shape part.place frame count)
     value_under_agree false key part fills frame region count used =
@@ -180,21 +184,21 @@ module _ (U : List FileKey → Type 0) where
     done_agree :
         (asked : Action) (part : Part) → PartAgree part → (frame : Frame) (region : Region)
         (progress : Progress) (used : List FileKey) →
-        Agree U used (done_for asked part one frame region progress used)
-        (done_for asked part other frame region progress used)
+        Agree U used (done_for asked part (scope_of one frame region) progress used)
+        (done_for asked part (scope_of other frame region) progress used)
     done_agree (action.Put key origin) part fills frame region progress used =
         both_then U used
-        (value_under (is_path region progress.content key) key part one frame region
+        (value_under (is_path region progress.content key) key part (scope_of one frame region)
         progress.count used)
-        (value_under (is_path region progress.content key) key part other frame region
+        (value_under (is_path region progress.content key) key part (scope_of other frame region)
         progress.count used) _ _
         (value_under_agree (is_path region progress.content key) key part fills frame region
         progress.count used)
         (λ x later. both_alone U later
         (put_pair (record { key = key; key_origin = origin; item = x.node }) x.count progress))
     done_agree (action.Run chain) part fills frame region progress used =
-        both_then U used (body part WrongKind one frame region progress used)
-        (body part WrongKind other frame region progress used) _ _
+        both_then U used (body part WrongKind (scope_of one frame region) progress used)
+        (body part WrongKind (scope_of other frame region) progress used) _ _
         (body_agree part fills WrongKind frame region progress used)
         (λ after later. done U later (with_chain chain after))
     done_agree (action.Pass chain) part fills frame region progress used =
@@ -208,8 +212,8 @@ module _ (U : List FileKey → Type 0) where
     pub pair_agree :
         (entry : Entry) → EntryAgree entry → (frame : Frame) (region : Region)
         (progress : Progress) (used : List FileKey) →
-        Agree U used (pair_behind entry one frame region progress used)
-        (pair_behind entry other frame region progress used)
+        Agree U used (pair_behind entry (scope_of one frame region) progress used)
+        (pair_behind entry (scope_of other frame region) progress used)
     pair_agree entry fills frame region progress used =
         same_then U used (key_asks entry.key frame entry.key_place progress.chain progress.count)
         _ _ (λ asked. done_agree asked entry.part fills frame region progress used)
@@ -217,13 +221,14 @@ module _ (U : List FileKey → Type 0) where
     pairs_agree :
         (entries : List Entry) → Each EntryAgree entries → (frame : Frame) (region : Region)
         (progress : Progress) (used : List FileKey) →
-        Agree U used (pairs_behind entries one frame region progress used)
-        (pairs_behind entries other frame region progress used)
+        Agree U used (pairs_behind entries (scope_of one frame region) progress used)
+        (pairs_behind entries (scope_of other frame region) progress used)
     pairs_agree [] fills frame region progress used = done U used progress
     pairs_agree (entry ∷ entries) fills frame region progress used =
-        both_then U used (pair_behind entry one frame region progress used)
-        (pair_behind entry other frame region progress used)
-        (pairs_behind entries one frame region) (pairs_behind entries other frame region)
+        both_then U used (pair_behind entry (scope_of one frame region) progress used)
+        (pair_behind entry (scope_of other frame region) progress used)
+        (pairs_behind entries (scope_of one frame region))
+        (pairs_behind entries (scope_of other frame region))
         (pair_agree entry fills.0 frame region progress used)
         (λ after later. pairs_agree entries fills.1 frame region after later)
 
@@ -232,24 +237,27 @@ module _ (U : List FileKey → Type 0) where
     mapping_agree :
         (manner : Manner) (fill : Filling) → FillingAgree fill → (place : Place) (frame : Frame)
         (region : Region) (count : ℕ) (progress : Progress) (used : List FileKey) →
-        Agree U used (mapping_behind manner fill place one frame region count progress used)
-        (mapping_behind manner fill place other frame region count progress used)
+        Agree U used (mapping_behind manner fill place (scope_of one frame region)
+        (with_count count progress) used)
+        (mapping_behind manner fill place (scope_of other frame region)
+        (with_count count progress) used)
     mapping_agree Empty fill fills place frame region count progress used =
         same_then U used (finished (literal_at frame place) (begun kind.Pairs Closed count)) _ _
         (λ x. add_item_agree U one other follows frame region x.node
         (with_chain Closed (with_count x.count progress)) used)
     mapping_agree Stays fill fills place frame region count progress used =
         both_then U used
-        (fill one frame (of_item region) (begun kind.Pairs progress.chain count) used)
-        (fill other frame (of_item region) (begun kind.Pairs progress.chain count) used) _ _
-        (fills one other frame (of_item region) (begun kind.Pairs progress.chain count) used
+        (fill (scope_of one frame (of_item region)) (begun kind.Pairs progress.chain count) used)
+        (fill (scope_of other frame (of_item region)) (begun kind.Pairs progress.chain count) used)
+        _ _ (fills one other frame (of_item region) (begun kind.Pairs progress.chain count) used
         follows)
         (λ inner later. same_then U later (finished (literal_at frame place) inner) _ _
         (λ x. add_item_agree U one other follows frame region x.node
         (with_chain inner.chain (with_count inner.count progress)) later))
     mapping_agree (Splices of) fill fills place frame region count progress used =
-        both_then U used (fill one frame (of_item region) (begun of progress.chain count) used)
-        (fill other frame (of_item region) (begun of progress.chain count) used) _ _
+        both_then U used (fill (scope_of one frame (of_item region)) (begun of progress.chain count)
+        used)
+        (fill (scope_of other frame (of_item region)) (begun of progress.chain count) used) _ _
         (fills one other frame (of_item region) (begun of progress.chain count) used follows)
         (λ inner later. splice_agree U one other follows frame region (literal_at frame place)
         inner.content (with_chain inner.chain (with_count inner.count progress)) later)
@@ -258,19 +266,19 @@ module _ (U : List FileKey → Type 0) where
     item_by_agree :
         (shape : Shape) → ShapeAgree shape → (place : Place) (frame : Frame) (region : Region)
         (progress : Progress) (used : List FileKey) →
-        Agree U used (item_by shape place one frame region progress used)
-        (item_by shape place other frame region progress used)
+        Agree U used (item_by shape place (scope_of one frame region) progress used)
+        (item_by shape place (scope_of other frame region) progress used)
     item_by_agree (scalar text) fills place frame region progress used =
-        both_then U used (scalar_at text one frame region place progress.count used)
-        (scalar_at text other frame region place progress.count used) _ _
+        both_then U used (scalar_at text (scope_of one frame region) place progress.count used)
+        (scalar_at text (scope_of other frame region) place progress.count used) _ _
         (scalar_agree text frame region place progress.count used)
         (λ x later. spread_agree U one other follows frame region x.node
         (with_chain Closed (with_count x.count progress)) later)
     item_by_agree (sequence fill) fills place frame region progress used =
         both_then U used
-        (collected kind.Items fill place one frame (inside region) progress.count used)
-        (collected kind.Items fill place other frame (inside region) progress.count used) _ _
-        (collected_agree kind.Items fill fills place frame (inside region) progress.count used)
+        (collected kind.Items fill place (scope_of one frame (inside region)) progress.count used)
+        (collected kind.Items fill place (scope_of other frame (inside region)) progress.count used)
+        _ _ (collected_agree kind.Items fill fills place frame (inside region) progress.count used)
         (λ x later. add_item_agree U one other follows frame region x.node
         (with_chain Closed (with_count x.count progress)) later)
     item_by_agree (mapping manner fill) fills place frame region progress used =
@@ -280,13 +288,14 @@ module _ (U : List FileKey → Type 0) where
     items_agree :
         (parts : List Part) → Each PartAgree parts → (frame : Frame) (region : Region)
         (progress : Progress) (used : List FileKey) →
-        Agree U used (items_behind parts one frame region progress used)
-        (items_behind parts other frame region progress used)
+        Agree U used (items_behind parts (scope_of one frame region) progress used)
+        (items_behind parts (scope_of other frame region) progress used)
     items_agree [] fills frame region progress used = done U used progress
     items_agree (part ∷ parts) fills frame region progress used =
-        both_then U used (item_behind part one frame region progress used)
-        (item_behind part other frame region progress used)
-        (items_behind parts one frame region) (items_behind parts other frame region)
+        both_then U used (item_behind part (scope_of one frame region) progress used)
+        (item_behind part (scope_of other frame region) progress used)
+        (items_behind parts (scope_of one frame region))
+        (items_behind parts (scope_of other frame region))
         (item_by_agree part.shape fills.0 part.place frame region progress used)
         (λ after later. items_agree parts fills.1 frame region after later)
 
@@ -357,8 +366,8 @@ module _ (U : List FileKey → Type 0) where
   pub expanded_agree :
       (node : Node) (one other : Follow) (frame : Frame) (region : Region) (count : ℕ)
       (used : List FileKey) → FollowAgree U one other →
-      Agree U used (expanded node one frame region count used)
-      (expanded node other frame region count used)
+      Agree U used (expanded node (scope_of one frame region) count used)
+      (expanded node (scope_of other frame region) count used)
   expanded_agree node one other frame region count used follows =
       value_agree one other follows (part_of node).shape (part_agrees node) (part_of node).place
       frame region count used

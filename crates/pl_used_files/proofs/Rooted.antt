@@ -30,6 +30,7 @@ use Rattle.pl_calls.specs.declared.files.Parsed.{Parsed}
 use Rattle.pl_calls.specs.declared.reaching.Home.{Home}
 use Rattle.pl_calls.specs.declared.reaching.Opened.{Opened as OpenedFile}
 use Rattle.pl_expanding.specs.Expanding.{expanded, entry_of, pair_behind}
+use Rattle.pl_expanding.specs.Following.{scope_of}
 use Rattle.pl_expanding.specs.Levels.{followed}
 use Rattle.pl_origins.proofs.Steps.{Used, Gives}
 use Rattle.pl_expand.specs.declared.filling.Early.{Early}
@@ -46,7 +47,7 @@ use Rattle.pl_root.specs.Frames.{first_frame}
 use Rattle.pl_root.specs.Keys.{root_key}
 use Rattle.pl_expand.specs.Tree.{filled_with, ordinary_pair, extends_pair, passed_over}
 use Rattle.pl_expand.specs.Tree.{variables_pair, root_pair, given_to, early_behind, root_pairs}
-use Rattle.pl_expand.specs.Tree.{root_from, filled_root, pairs_expanded, home_of}
+use Rattle.pl_expand.specs.Tree.{root_from, root_mapping, filled_root, pairs_expanded, home_of}
 use Rattle.pl_root.specs.Frames.{second_frame}
 use Rattle.pl_expand.specs.Tree.{bare_home, used_files, whole, mapping_expanded, bare_expanded}
 use Rattle.pl_expand.specs.Tree.{other_expanded, body_expanded_by, body_expanded, root_node}
@@ -106,8 +107,9 @@ module _ (U : List FileKey → Type 0) (one other : Opens) (opens : OpensAgree U
       (ordinary_pair pair other frame filling used)
   ordinary_agree pair filling used =
       both_then U used
-      (pair_behind (entry_of pair) (followed 100 one) frame Free filling.progress used)
-      (pair_behind (entry_of pair) (followed 100 other) frame Free filling.progress used) _ _
+      (pair_behind (entry_of pair) (scope_of (followed 100 one) frame Free) filling.progress used)
+      (pair_behind (entry_of pair) (scope_of (followed 100 other) frame Free) filling.progress used)
+      _ _
       (pair_agree U (followed 100 one) (followed 100 other) (followed_agree U one other opens 100)
       (entry_of pair) (entry_agrees U pair) frame Free filling.progress used)
       (λ after later. done U later (filled_with filling.extension after))
@@ -158,8 +160,9 @@ module _ (U : List FileKey → Type 0) (one other : Opens) (opens : OpensAgree U
       (early_by node (followed 100 other) frame count used)
   early_agree None count used = done U used (record { node = None; count = count })
   early_agree (Some node) count used =
-      both_then U used (expanded node (followed 100 one) frame (Calls InVariables) count used)
-      (expanded node (followed 100 other) frame (Calls InVariables) count used) _ _
+      both_then U used (expanded node (scope_of (followed 100 one) frame (Calls InVariables)) count
+      used)
+      (expanded node (scope_of (followed 100 other) frame (Calls InVariables)) count used) _ _
       (expanded_agree U node (followed 100 one) (followed 100 other) frame (Calls InVariables)
       count used (followed_agree U one other opens 100))
       (λ x later. done U later (record { node = Some x.node; count = x.count }))
@@ -168,8 +171,8 @@ module _ (U : List FileKey → Type 0) (one other : Opens) (opens : OpensAgree U
   filled_agree :
       (root : FileKey) (place : Place) (pairs : List NodePair) (parameters : List Parameter)
       (early : Early) (used : List FileKey) →
-      Agree U used (filled_root root place pairs parameters one early used)
-      (filled_root root place pairs parameters other early used)
+      Agree U used (filled_root (root_mapping root place pairs parameters) one early used)
+      (filled_root (root_mapping root place pairs parameters) other early used)
   filled_agree root place pairs parameters early used =
       let frame = second_frame root parameters early.node in
       let start = filled_with None (begun content.Pairs Closed early.count) in
@@ -180,8 +183,8 @@ module _ (U : List FileKey → Type 0) (one other : Opens) (opens : OpensAgree U
 
   pub pairs_expanded_agree :
       (root : FileKey) (place : Place) (pairs : List NodePair) (parameters : List Parameter) →
-      Agree U [] (pairs_expanded root place pairs parameters one)
-      (pairs_expanded root place pairs parameters other)
+      Agree U [] (pairs_expanded (root_mapping root place pairs parameters) one)
+      (pairs_expanded (root_mapping root place pairs parameters) other)
   pairs_expanded_agree root place pairs parameters =
       same_then U [] (entered place 0) _ _
       (λ count. both_then U []
@@ -189,8 +192,8 @@ module _ (U : List FileKey → Type 0) (one other : Opens) (opens : OpensAgree U
       (first_frame root parameters) count [])
       (early_by (under (codes "variables") pairs) (followed 100 other)
       (first_frame root parameters) count [])
-      (filled_root root place pairs parameters one)
-      (filled_root root place pairs parameters other)
+      (filled_root (root_mapping root place pairs parameters) one)
+      (filled_root (root_mapping root place pairs parameters) other)
       (early_agree U one other opens (first_frame root parameters)
       (under (codes "variables") pairs) count [])
       (λ early later. filled_agree root place pairs parameters early later))
@@ -240,8 +243,10 @@ module _ (files others : Set) (root : FileKey) (arguments : List RunArgument) wh
       same_ends (unless (earliest (root_complaints pairs)) pairs) _ _
       (λ pairs. same_ends (parameters_by (under (codes "parameters") pairs) arguments) _ _
       (λ parameters. both_ends
-      (pairs_expanded root place pairs parameters (opens_of files (home_of root pairs)))
-      (pairs_expanded root place pairs parameters (opens_of others (home_of root pairs)))
+      (pairs_expanded (root_mapping root place pairs parameters)
+      (opens_of files (home_of root pairs)))
+      (pairs_expanded (root_mapping root place pairs parameters)
+      (opens_of others (home_of root pairs)))
       (whole (home_of root pairs)) (λ x used. refl)
       (λ final agree. pairs_expanded_agree (AreUsed final)
       (opens_of files (home_of root pairs)) (opens_of others (home_of root pairs))
@@ -252,8 +257,8 @@ module _ (files others : Set) (root : FileKey) (arguments : List RunArgument) wh
       Ends (bare_expanded files root node frame) (bare_expanded others root node frame)
   bare_ends node frame =
       both_ends
-      (expanded node (followed 100 (opens_of files (bare_home root))) frame Free 0 [])
-      (expanded node (followed 100 (opens_of others (bare_home root))) frame Free 0 [])
+      (expanded node (scope_of (followed 100 (opens_of files (bare_home root))) frame Free) 0 [])
+      (expanded node (scope_of (followed 100 (opens_of others (bare_home root))) frame Free) 0 [])
       (λ x used. whole (bare_home root)
       (record { node = x.node; extends = None; count = x.count }) used)
       (λ x used. refl)

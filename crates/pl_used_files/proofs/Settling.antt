@@ -21,7 +21,7 @@ use Rattle.pl_directives.specs.Contents.{add_items, with_count, object_of}
 use Rattle.pl_directives.specs.Regions.{call_form, inside, under}
 use Rattle.pl_expanding.specs.declared.followed.Followed.{Followed}
 use Rattle.pl_expanding.specs.declared.followed.SettledPairs.{SettledPairs}
-use Rattle.pl_expanding.specs.Following.{Follow}
+use Rattle.pl_expanding.specs.Following.{Follow, scope_of}
 use Rattle.pl_expanding.specs.Putting.{add_by, add_item, splice, spread_of, spread}
 use Rattle.pl_expanding.specs.Settling.{Settling, ValueSeen, NodeSeen, PairSeen, items_and}
 use Rattle.pl_expanding.specs.Settling.{items_with, item_settled, item_behind, items_behind}
@@ -43,8 +43,8 @@ module _ (U : List FileKey → Type 0) (one other : Follow) (follows : FollowAgr
 
   add_by_agree :
       (form : Option Form) (item : MarkedNode) (progress : Progress) (used : List FileKey) →
-      Agree U used (add_by form one frame item progress used)
-      (add_by form other frame item progress used)
+      Agree U used (add_by form (scope_of one frame region) item progress used)
+      (add_by form (scope_of other frame region) item progress used)
   add_by_agree None item progress used =
       both_alone U used (add_items item.origin.source (item ∷ []) progress)
   add_by_agree (Some form) item progress used =
@@ -56,14 +56,14 @@ module _ (U : List FileKey → Type 0) (one other : Follow) (follows : FollowAgr
 
   pub add_item_agree :
       (item : MarkedNode) (progress : Progress) (used : List FileKey) →
-      Agree U used (add_item one frame region item progress used)
-      (add_item other frame region item progress used)
+      Agree U used (add_item (scope_of one frame region) item progress used)
+      (add_item (scope_of other frame region) item progress used)
   add_item_agree item progress used = add_by_agree (call_form region item) item progress used
 
   pub splice_agree :
       (origin : Origin) (content : Content) (progress : Progress) (used : List FileKey) →
-      Agree U used (splice one frame region origin content progress used)
-      (splice other frame region origin content progress used)
+      Agree U used (splice (scope_of one frame region) origin content progress used)
+      (splice (scope_of other frame region) origin content progress used)
   splice_agree origin Unknown progress used = done U used progress
   splice_agree origin (Items items) progress used =
       both_alone U used (add_items origin.source items progress)
@@ -74,8 +74,8 @@ module _ (U : List FileKey → Type 0) (one other : Follow) (follows : FollowAgr
 
   spread_by :
       (opened : Opened) (node : MarkedNode) (progress : Progress) (used : List FileKey) →
-      Agree U used (spread_of opened one frame region node progress used)
-      (spread_of opened other frame region node progress used)
+      Agree U used (spread_of opened (scope_of one frame region) node progress used)
+      (spread_of opened (scope_of other frame region) node progress used)
   spread_by (Array items) node progress used =
       both_alone U used (add_items node.origin.source items progress)
   spread_by Null node progress used = add_item_agree node progress used
@@ -87,8 +87,8 @@ module _ (U : List FileKey → Type 0) (one other : Follow) (follows : FollowAgr
 
   pub spread_agree :
       (node : MarkedNode) (progress : Progress) (used : List FileKey) →
-      Agree U used (spread one frame region node progress used)
-      (spread other frame region node progress used)
+      Agree U used (spread (scope_of one frame region) node progress used)
+      (spread (scope_of other frame region) node progress used)
   spread_agree node progress used = spread_by (out-Value node.value) node progress used
 
 -- ---- a value that an expression gave, once it stands in its place
@@ -98,7 +98,8 @@ module _ (U : List FileKey → Type 0) where
   Settles settling =
       (one other : Follow) (frame : Frame) (region : Region) (count : ℕ) (used : List FileKey) →
       FollowAgree U one other →
-      Agree U used (settling one frame region count used) (settling other frame region count used)
+      Agree U used (settling (scope_of one frame region) count used)
+      (settling (scope_of other frame region) count used)
 
   abbrev NodeSettles : NodeSeen → Type 0
   NodeSettles seen = Settles seen.settled
@@ -111,11 +112,11 @@ module _ (U : List FileKey → Type 0) where
     item_agree :
         (form : Option Form) (seen : NodeSeen) (before : Followed) (used : List FileKey) →
         NodeSettles seen →
-        Agree U used (item_settled form seen one frame region before used)
-        (item_settled form seen other frame region before used)
+        Agree U used (item_settled form seen (scope_of one frame region) before used)
+        (item_settled form seen (scope_of other frame region) before used)
     item_agree None seen before used holds =
-        both_then U used (seen.settled one frame (inside region) before.count used)
-        (seen.settled other frame (inside region) before.count used) _ _
+        both_then U used (seen.settled (scope_of one frame (inside region)) before.count used)
+        (seen.settled (scope_of other frame (inside region)) before.count used) _ _
         (holds one other frame (inside region) before.count used follows)
         (λ x later. done U later (items_and before x))
     item_agree (Some form) seen before used holds =
@@ -126,37 +127,39 @@ module _ (U : List FileKey → Type 0) where
 
     items_agree :
         (seen : List NodeSeen) (before : Followed) (used : List FileKey) → Each NodeSettles seen →
-        Agree U used (items_behind seen one frame region before used)
-        (items_behind seen other frame region before used)
+        Agree U used (items_behind seen (scope_of one frame region) before used)
+        (items_behind seen (scope_of other frame region) before used)
     items_agree [] before used holds = done U used before
     items_agree (first ∷ seen) before used holds =
-        both_then U used (item_behind first one frame region before used)
-        (item_behind first other frame region before used)
-        (items_behind seen one frame region) (items_behind seen other frame region)
+        both_then U used (item_behind first (scope_of one frame region) before used)
+        (item_behind first (scope_of other frame region) before used)
+        (items_behind seen (scope_of one frame region))
+        (items_behind seen (scope_of other frame region))
         (item_agree (call_form region first.itself) first before used holds.0)
         (λ after later. items_agree seen after later holds.1)
 
     pair_agree :
         (seen : PairSeen) (before : SettledPairs) (used : List FileKey) → PairSettles seen →
-        Agree U used (pair_behind seen one frame region before used)
-        (pair_behind seen other frame region before used)
+        Agree U used (pair_behind seen (scope_of one frame region) before used)
+        (pair_behind seen (scope_of other frame region) before used)
     pair_agree seen before used holds =
         both_then U used
-        (seen.settled one frame (under seen.itself.key region) before.count used)
-        (seen.settled other frame (under seen.itself.key region) before.count used) _ _
+        (seen.settled (scope_of one frame (under seen.itself.key region)) before.count used)
+        (seen.settled (scope_of other frame (under seen.itself.key region)) before.count used) _ _
         (holds one other frame (under seen.itself.key region) before.count used follows)
         (λ x later. done U later (pairs_and before seen.itself x))
 
     pairs_agree :
         (seen : List PairSeen) (before : SettledPairs) (used : List FileKey) →
         Each PairSettles seen →
-        Agree U used (pairs_behind seen one frame region before used)
-        (pairs_behind seen other frame region before used)
+        Agree U used (pairs_behind seen (scope_of one frame region) before used)
+        (pairs_behind seen (scope_of other frame region) before used)
     pairs_agree [] before used holds = done U used before
     pairs_agree (first ∷ seen) before used holds =
-        both_then U used (pair_behind first one frame region before used)
-        (pair_behind first other frame region before used)
-        (pairs_behind seen one frame region) (pairs_behind seen other frame region)
+        both_then U used (pair_behind first (scope_of one frame region) before used)
+        (pair_behind first (scope_of other frame region) before used)
+        (pairs_behind seen (scope_of one frame region))
+        (pairs_behind seen (scope_of other frame region))
         (pair_agree first before used holds.0)
         (λ after later. pairs_agree seen after later holds.1)
 
@@ -191,8 +194,9 @@ module _ (U : List FileKey → Type 0) where
   array_claim : (seen : List NodeSeen) → Each NodeSettles seen → Settles (array_settled seen)
   array_claim seen holds one other frame region count used follows =
       both_then U used
-      (items_behind seen one frame region (record { items = []; count = count }) used)
-      (items_behind seen other frame region (record { items = []; count = count }) used) _ _
+      (items_behind seen (scope_of one frame region) (record { items = []; count = count }) used)
+      (items_behind seen (scope_of other frame region) (record { items = []; count = count }) used)
+      _ _
       (items_agree one other follows frame region seen (record { items = []; count = count }) used
       holds)
       (λ all later. done U later (record { value = value.Array all.items; count = all.count }))
@@ -200,8 +204,9 @@ module _ (U : List FileKey → Type 0) where
   object_claim : (seen : List PairSeen) → Each PairSettles seen → Settles (object_settled seen)
   object_claim seen holds one other frame region count used follows =
       both_then U used
-      (pairs_behind seen one frame region (record { pairs = []; count = count }) used)
-      (pairs_behind seen other frame region (record { pairs = []; count = count }) used) _ _
+      (pairs_behind seen (scope_of one frame region) (record { pairs = []; count = count }) used)
+      (pairs_behind seen (scope_of other frame region) (record { pairs = []; count = count }) used)
+      _ _
       (pairs_agree one other follows frame region seen (record { pairs = []; count = count }) used
       holds)
       (λ all later. done U later (record { value = value.Object all.pairs; count = all.count }))
@@ -248,8 +253,8 @@ module _ (U : List FileKey → Type 0) where
       search (rules, the_lemmas) in
       subst Settles is
       (λ one other frame region count used follows.
-      both_then U used ((value_seen x).settled one frame region count used)
-      ((value_seen x).settled other frame region count used) _ _
+      both_then U used ((value_seen x).settled (scope_of one frame region) count used)
+      ((value_seen x).settled (scope_of other frame region) count used) _ _
       (claim one other frame region count used follows)
       (λ settled later. done U later (record {
         node = record { origin = origin; value = settled.value };

@@ -3,7 +3,6 @@ use Rattle.std.proofs.Common.{◌≡◌, ℕ, zero, suc, ◌+◌, ◌<◌, ◌�
 use Rattle.std.proofs.Common.{cond, Option, Some, None, Result, Ok, Err, List, [], ◌∷◌, ◌++◌}
 use Rattle.std.proofs.Common.{length, drop, refl, ap, sym, subst, ◌∙◌, arith, inl, inr}
 use Rattle.std.specs.Prelude.{◌==◌, nat_lt, encode_utf8_all}
-use Rattle.std.specs.List.{position_or_len}
 use Rattle.std.proofs.lemmas.Bool.{cases_Bool, both_ways, and_parts, or_cases, and_from}
 use Rattle.std.proofs.lemmas.Bool.{or_parts, or_right}
 use Rattle.std.proofs.lemmas.Bool.{not-true, or_left, eqb-true}
@@ -22,7 +21,6 @@ use Rattle.pl_line.specs.Scanning.{plain_len}
 use Rattle.pl_line.specs.Trees.{node_at, is_doubled}
 use Rattle.pl_line.specs.Quoted.{quoted}
 use Rattle.pl_line.specs.Flow.{flow}
-use Rattle.pl_reading.specs.Bytes.{is_blank}
 use Rattle.pl_yaml.specs.Reading.{Read, has_row, many, many_step}
 use Rattle.pl_yaml.specs.Heads.{head_at, head_of, is_start}
 use Rattle.pl_yaml.specs.Content.{stands, content, begins, lead, closed}
@@ -38,7 +36,7 @@ use Rattle.pl_yaml.specs.Nodes.{begun, fits, node_in, node_with, inner, node}
 use Rattle.pl_yaml.specs.Spells.{whole_text, nothing_left, document, placed}
 use Rattle.pl_yaml_laws.proofs.Heads.{by_heads}
 use Rattle.pl_yaml_laws.specs.EmptyLines.{IsPassedOver}
-use Rattle.pl_yaml_laws.specs.Between.{has_colon, is_low, is_left, stops}
+use Rattle.pl_yaml_laws.specs.Between.{held_at, is_scalar, has_colon, is_low, is_left, stops}
 use Rattle.pl_yaml_laws.specs.Between.{is_passed, alone_ended, each_ended}
 use Rattle.pl_yaml_laws.specs.Between.{PassedOverBetween, PassedOverInside}
 use Rattle.pl_yaml_laws.proofs.Texts.{spelled_is}
@@ -48,7 +46,8 @@ use Rattle.pl_yaml_laws.proofs.ToldRows.{inner_sound, KeyFound, ItemFound, next_
 use Rattle.pl_yaml_laws.proofs.ToldRows.{next_item_told, item_step, pair_step}
 use Rattle.pl_yaml_laws.proofs.Agreeing.{Any, any_each, size_append}
 use Rattle.pl_yaml_laws.proofs.BetweenRows.{start_refused, colon_refused, deeper_colon, len_open}
-use Rattle.pl_yaml_laws.proofs.BetweenRows.{Out, column_told, digit_some, KeyLink, key_linked}
+use Rattle.pl_yaml_laws.proofs.BetweenRows.{Out, column_told, digit_some, KeyLink, key_found}
+use Rattle.pl_yaml_laws.proofs.BetweenRows.{mark_len, held_plain, held_key, held_least, held_more}
 use Rattle.pl_yaml_laws.proofs.BetweenRows.{ItemLink, bind_same, Stops, Shut, Alone, Fits, Full}
 use Rattle.pl_yaml_laws.proofs.BetweenRows.{shut_behind, alone_more, alone_is, fits_is, fits_skip}
 use Rattle.pl_yaml_laws.proofs.BetweenRows.{FitsIn, alone_skip, bare_stops, deeper_stops, shut_left}
@@ -397,7 +396,7 @@ module _ (row next : Row) (rest : List Row) (passed : IsPassedOver row)
 
   inline_alike :
       (file : FileKey) (depth parent : ℕ) (first : Row) (front : List Row) → Fits next front
-      → Shut next parent first.text front
+      → (is_scalar first ≡ true → Shut next parent first.text front)
       → Alike Sync (inline file depth parent first (front ++ one))
       (inline file depth parent first (front ++ two))
   unfolding inline head_at
@@ -407,10 +406,12 @@ module _ (row next : Row) (rest : List Row) (passed : IsPassedOver row)
       (same _) (same _) (same _) (same _)
       (at (quoted first >>= quoted_node file first) (λ made. both _ _ (sync made front fits)))
       (at (flow file depth first >>= flow_node first) (λ made. both _ _ (sync made front fits)))
-      (λ _ bar. block_alike file parent first front fits (shut_left next parent first.text front bar
-      shut))
+      (λ no_dash bar. block_alike file parent first front fits
+      (shut_left next parent first.text front bar
+      (shut (and_from _ _ (ap not no_dash) (or_right (not (has_colon first)) _ bar)))))
       (same _) (λ text n is. rw is (same _))
-      (λ _ some isnt. rw isnt (word_alike file parent first front fits some shut))
+      (λ no_dash some isnt. rw isnt (word_alike file parent first front fits some
+      (shut (and_from _ _ (ap not no_dash) (or_left (not (has_colon first)) _ (ap not isnt))))))
 
   -- ---- the next entry of a collection
 
@@ -438,7 +439,7 @@ module _ (row next : Row) (rest : List Row) (passed : IsPassedOver row)
           either (nat_lt first.column column) (both _ _ (sync_none (first ∷ rest) fit))
           (either (nat_lt column first.column) (same _)
           (known_at (key_by file depth first (head_of first))
-          (key_linked file depth first first.whole first.text)
+          (key_found file depth first)
           (λ key link. both _ _ (sync_some key first rest fit full link))))
 
   next_item_alike : (parent column : ℕ) (front : List Row) → Fits next front
@@ -469,13 +470,18 @@ module _ (row next : Row) (rest : List Row) (passed : IsPassedOver row)
 
   module _ (file : FileKey) (values : Values) (alike : AllAlike values) where
     value_alike : (own : Bool) (holder first : Row) (front : List Row) → Fits next front
-        → Shut next holder.column first.text front → Alone next holder.column front
+        → (is_scalar first ≡ true → Shut next holder.column first.text front)
+        → (is_done first ≡ true → Alone next holder.column front)
         → Alike Sync (value file values (below own holder) first (front ++ one))
         (value file values (below own holder) first (front ++ two))
     unfolding value AllAlike
     value_alike own holder first front fits shut alone =
-        either (is_done first) (at (line_end first) (λ _. alike own holder front fits alone))
-        (inline_alike file values.depth holder.column first front fits shut)
+        elim (cases_Bool (is_done first)) [
+          | inl done ↦
+              rw done (at (line_end first) (λ _. alike own holder front fits (alone done)))
+          | inr more ↦
+              rw more (inline_alike file values.depth holder.column first front fits shut)
+        ]
 
     item_alike :
         (first : Row) (front : List Row) → Fits next (first ∷ front) → is_passed first ≡ false
@@ -484,22 +490,35 @@ module _ (row next : Row) (rest : List Row) (passed : IsPassedOver row)
     unfolding item AllAlike Fits Alone behind
     item_alike first front fits full =
         let here = fits.0 full in
-        let n : ℕ = 1 + position_or_len (λ c. not (is_blank c)) (drop 1 first.text) in
+        let n : ℕ = mark_len first.text in
+        let scalar : is_scalar (behind 1 first) ≡ true
+        → Shut next first.column (drop n first.text) front =
+        λ is. shut_behind next (held_at first) first.column n first.text front
+        (omega (
+          arith,
+          held_plain first (or_right (is_passed (behind 1 first)) _
+              (or_right (is_done (behind 1 first)) _ is)),
+        )) here.0
+        in
+        let beside : held_at first ≡ first.column → Alone next first.column front =
+        λ is. alone_more next (held_at first) first.column front (omega (arith, is)) here.1 in
+        let further : held_at first ≤ held_at (behind 1 first) =
+        omega (arith, held_more first, held_least (behind 1 first)) in
         either (not (is_done (behind 1 first)) && spaces_only 1 first)
         (alike false first (behind 1 first ∷ front) (
           (λ _. (
-            shut_behind next first.column (first.column + n) n first.text front (omega arith)
+            shut_behind next (held_at first) (held_at (behind 1 first)) n first.text front further
                 here.0,
-            alone_more next first.column (first.column + n) front (omega arith) here.1,
+            alone_more next (held_at first) (held_at (behind 1 first)) front further here.1,
           )),
           fits.1,
         ) (
-          (λ _. here.1),
-          (λ _ _. shut_behind next first.column first.column n first.text front (omega arith)
-              here.0),
+          (λ passed. beside (held_plain first (or_left (is_passed (behind 1 first)) _ passed))),
+          (λ _. scalar),
         ))
-        (value_alike false first (behind 1 first) front fits.1
-        (shut_behind next first.column first.column n first.text front (omega arith) here.0) here.1)
+        (value_alike false first (behind 1 first) front fits.1 scalar
+        (λ done. beside (held_plain first (or_right (is_passed (behind 1 first)) _
+        (or_left (is_done (behind 1 first)) _ done)))))
 
     pair_alike : (before : List NodePair) (key : FoundKey) (first : Row) (front : List Row)
         → Fits next (first ∷ front) → is_passed first ≡ false → KeyLink key first
@@ -508,16 +527,18 @@ module _ (row next : Row) (rest : List Row) (passed : IsPassedOver row)
     unfolding pair Fits KeyLink
     pair_alike before key first front fits full link =
         let here = fits.0 full in
-        let a : ℕ = link.1.0 in
-        let b : ℕ = link.1.1 in
-        let column : first.column ≤ key.start.column = omega (arith, link.0) in
+        let a : ℕ = link.2.0 in
+        let b : ℕ = link.2.1 in
+        let column : first.column ≤ key.start.column = omega (arith, link.1) in
         let shut : Shut next key.start.column (drop a (drop b first.text)) front =
         shut_behind next first.column key.start.column a (drop b first.text) front column
-        (shut_behind next first.column first.column b first.text front (omega arith) here.0) in
+        (shut_behind next (held_at first) first.column b first.text front
+        (omega (arith, held_key first link.0)) here.0) in
         either (is_doubled key.text before) (same _)
         (goes (value_alike true key.start key.left front fits.1
-        (subst (λ text. Shut next key.start.column text front) (sym link.1.2) shut)
-        (alone_more next first.column key.start.column front column here.1))
+        (λ _. subst (λ text. Shut next key.start.column text front) (sym link.2.2) shut)
+        (λ _. alone_more next (held_at first) key.start.column front
+        (omega (arith, held_key first link.0, column)) here.1))
         (by_sync _ (λ x rest fit. both _ _ (sync _ rest fit))))
 
   module _ {E A : Type 0} (here : List Row → Read (Option E))

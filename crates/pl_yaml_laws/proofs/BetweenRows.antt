@@ -1,9 +1,9 @@
 -- Where no scalar goes on between the lines of a text.
 use Rattle.std.proofs.Common.{◌≡◌, ℕ, zero, suc, ◌+◌, ◌<◌, ◌≤◌, Bool, true, false, not, ◌&&◌, ◌||◌}
 use Rattle.std.proofs.Common.{◌⊎◌, Option, Some, None, Result, Ok, Err, List, [], ◌∷◌}
-use Rattle.std.proofs.Common.{length, drop, take, codes, ◌-◌, refl, ap, sym, arith, inl, inr}
+use Rattle.std.proofs.Common.{length, drop, take, codes, ◌-◌, refl, subst, ap, sym, arith, inl, inr}
 use Rattle.std.specs.Prelude.{◌==◌, nat_lt, max}
-use Rattle.std.specs.List.{list_any}
+use Rattle.std.specs.List.{list_any, position_or_len}
 use Rattle.std.proofs.lemmas.Bool.{cases_Bool, both_ways, and_parts, or_cases}
 use Rattle.std.proofs.lemmas.Bool.{or_parts, or_right}
 use Rattle.std.proofs.Math.Nat.{le-max_left}
@@ -14,10 +14,10 @@ use Rattle.pl_line.specs.declared.line_fault.Fault.{Fault}
 use Rattle.pl_line.specs.Rows.{Row}
 use Rattle.pl_line.specs.Reading.{fault_at, fault_behind}
 use Rattle.pl_reading.specs.Steps.{◌>>=◌}
-use Rattle.pl_line.specs.Left.{behind, is_bare, is_comment}
-use Rattle.pl_line.specs.Scanning.{plain_len}
+use Rattle.pl_line.specs.Left.{is_done, behind, is_bare, is_comment}
+use Rattle.pl_line.specs.Scanning.{ends_word, plain_len}
 use Rattle.pl_reading.specs.Bytes.{begins_with, is_blank}
-use Rattle.pl_yaml.specs.Heads.{head_at, is_start, is_block, is_word}
+use Rattle.pl_yaml.specs.Heads.{head_of, head_at, is_start, is_block, is_word}
 use Rattle.pl_yaml.specs.Content.{stands, closed}
 use Rattle.pl_yaml.specs.Plain.{continued}
 use Rattle.pl_yaml.specs.BlockScalars.{first_column}
@@ -26,7 +26,8 @@ use Rattle.pl_yaml.specs.BlockScalars.{is_digit}
 use Rattle.pl_yaml.specs.Keys.{FoundKey, is_colon, key_by}
 use Rattle.pl_yaml.specs.Nodes.{fits}
 use Rattle.pl_yaml_laws.proofs.Heads.{by_head}
-use Rattle.pl_yaml_laws.specs.Between.{has_colon, leaves_open, is_low, is_left, stops, is_stopped}
+use Rattle.pl_yaml_laws.specs.Between.{is_plain, held_at, begins_item, has_colon, leaves_open}
+use Rattle.pl_yaml_laws.specs.Between.{is_low, is_left, stops, is_stopped}
 use Rattle.pl_yaml_laws.specs.Between.{is_ended, is_scalar, is_passed, alone_ended, each_ended}
 use Rattle.pl_yaml_laws.proofs.Told as T
 use Rattle.pl_yaml_laws.proofs.Told.{Told, Whatever, is_ok, is_err, weaker, quoted_told, flow_told}
@@ -197,20 +198,93 @@ any_take p (c ∷ cs) some = elim (or_cases (p c) false some) [
 ]
 
 unfoldable pub KeyLink : FoundKey → Row → Type 0
-KeyLink key first = (key.start.column ≡ first.column)
+KeyLink key first = (begins_item first ≡ false) × (key.start.column ≡ first.column)
     × ((a : ℕ) × (b : ℕ) × (key.left.text ≡ drop a (drop b first.text)))
 
-pub key_linked : (file : FileKey) (depth : ℕ) (first : Row) (whole : Bool) (text : List ℕ)
+pub key_linked : (file : FileKey) (depth : ℕ) (first : Row) → begins_item first ≡ false
+    → (whole : Bool) (text : List ℕ)
     → Told Any (λ key. KeyLink key first) (key_by file depth first (head_at whole text))
 unfolding head_at KeyLink behind
-key_linked file depth first whole text =
+key_linked file depth first no_dash whole text =
     by_head (λ head. Told Any (λ key. KeyLink key first) (key_by file depth first head)) whole text
     (is_err _ tt) (is_err _ tt) (is_err _ tt) (is_err _ tt)
     (T.goes (quoted_told {P = Any} first tt) (λ read _. T.either (is_colon (behind read.1 first))
-    (is_ok _ (refl, (_, _, refl))) (is_err _ tt)))
+    (is_ok _ (no_dash, refl, (_, _, refl))) (is_err _ tt)))
     (T.goes (flow_told Any file depth first tt) (λ read _. is_err _ tt))
-    (is_err _ tt) (is_err _ tt) (λ text n is. rw is (is_ok _ (refl, (0, _, refl))))
+    (is_err _ tt) (is_err _ tt) (λ text n is. rw is (is_ok _ (no_dash, refl, (0, _, refl))))
     (λ text n isnt. rw isnt (is_err _ tt))
+
+dash_head : (first : Row) → begins_item first ≡ true → head_of first ≡ head_at true (45 ∷ [])
+unfolding head_at
+dash_head first dash = by_text first.whole first.text dash
+  where
+    by_text : (whole : Bool) (text : List ℕ)
+        → (begins_with 45 text && ends_word whole (drop 1 text)) ≡ true
+        → head_at whole text ≡ head_at true (45 ∷ [])
+    by_text whole [] dash = absurd (both_ways false refl dash)
+    by_text whole (c ∷ cs) dash = rw dash refl
+
+pub key_found : (file : FileKey) (depth : ℕ) (first : Row)
+    → Told Any (λ key. KeyLink key first) (key_by file depth first (head_of first))
+unfolding head_at
+key_found file depth first = elim (cases_Bool (begins_item first)) [
+  | inl dash ↦
+      subst (λ head. Told Any (λ key. KeyLink key first) (key_by file depth first head))
+      (sym (dash_head first dash)) (is_err _ tt)
+  | inr none ↦ key_linked file depth first none first.whole first.text
+]
+
+-- ---- where a scalar on a line is held
+
+pub held_plain : (row : Row) → is_plain (behind 1 row) ≡ true → held_at row ≡ row.column
+held_plain row plain = elim (cases_Bool (begins_item row)) [
+  | inl dash ↦ rw (dash, plain) refl
+  | inr none ↦ rw none refl
+]
+
+pub held_key : (row : Row) → begins_item row ≡ false → held_at row ≡ row.column
+held_key row none = rw none refl
+
+pub held_least : (row : Row) → row.column ≤ held_at row
+held_least row = elim (cases_Bool (begins_item row && not (is_plain (behind 1 row)))) [
+  | inl on ↦ let two : held_at row ≡ row.column + 2 = rw on refl in omega (arith, two)
+  | inr off ↦ let none : held_at row ≡ row.column = rw off refl in omega (arith, none)
+]
+
+-- how many characters stand before the content behind a dash
+abbrev pub mark_len : List ℕ → ℕ
+mark_len text = 1 + position_or_len (λ c. not (is_blank c)) (drop 1 text)
+
+pub held_more : (row : Row) → held_at row ≤ row.column + mark_len row.text
+unfolding behind
+held_more row = elim (cases_Bool (begins_item row && not (is_plain (behind 1 row)))) [
+  | inl on ↦
+      let parts = and_parts (begins_item row) (not (is_plain (behind 1 row))) on in
+      let rest = or_parts (is_passed (behind 1 row)) _
+      (not-true (is_plain (behind 1 row)) parts.1) in
+      let more = two_more row parts.0 (or_parts (is_done (behind 1 row)) _ rest.1).1 in
+      let two : held_at row ≡ row.column + 2 = rw on refl in
+      omega (arith, two, more)
+  | inr off ↦ let none : held_at row ≡ row.column = rw off refl in omega (arith, none)
+]
+  where
+    by_text : (whole : Bool) (column : ℕ) (number : ℕ) (text : List ℕ)
+        → (begins_with 45 text && ends_word whole (drop 1 text)) ≡ true
+        → is_scalar
+        (behind 1 (record { number = number; column = column; text = text; whole = whole })) ≡ false
+        → 2 ≤ mark_len text
+    by_text whole column number [] dash collection = absurd (both_ways false refl dash)
+    by_text whole column number (c ∷ []) dash collection = absurd (both_ways true collection refl)
+    by_text whole column number (c ∷ (d ∷ cs)) dash collection =
+        let blank : is_blank d ≡ true = (and_parts (c == 45) (is_blank d) dash).1 in
+        let more : position_or_len (λ c. not (is_blank c)) (d ∷ cs)
+        ≡ 1 + position_or_len (λ c. not (is_blank c)) cs = rw blank refl in
+        omega (arith, more)
+
+    two_more : (row : Row) → begins_item row ≡ true → is_scalar (behind 1 row) ≡ false
+        → 2 ≤ mark_len row.text
+    two_more row dash collection =
+        by_text row.whole row.column row.number row.text dash collection
 
 unfoldable pub ItemLink : Row → Row → Type 0
 ItemLink found first = found ≡ first
@@ -242,7 +316,8 @@ module _ (next : Row) where
   unfoldable pub Fits : List Row → Type 0
   Fits [] = Unit {0}
   Fits (first ∷ front) =
-      (is_passed first ≡ false → Shut first.column first.text front × Alone first.column front)
+      (is_passed first ≡ false
+      → Shut (held_at first) first.text front × Alone (held_at first) front)
       × Fits front
 
   pub shut_behind : (least most n : ℕ) (text : List ℕ) (front : List Row) → least ≤ most
@@ -309,13 +384,13 @@ module _ (next : Row) where
     where
       fits_here : is_passed first ≡ false
           → (is_passed first ≡ true)
-          ⊎ ((is_ended first.column first.text front next
-          && alone_ended first.column front next) ≡ true)
-          → Shut first.column first.text front × Alone first.column front
+          ⊎ ((is_ended (held_at first) first.text front next
+          && alone_ended (held_at first) front next) ≡ true)
+          → Shut (held_at first) first.text front × Alone (held_at first) front
       fits_here full (inl passed) = absurd (both_ways (is_passed first) full passed)
       fits_here full (inr ended) =
-          let both = and_parts (is_ended first.column first.text front next) _ ended in
-          (shut_is first.column first.text front both.0, alone_is first.column front both.1)
+          let both = and_parts (is_ended (held_at first) first.text front next) _ ended in
+          (shut_is (held_at first) first.text front both.0, alone_is (held_at first) front both.1)
 
   pub fits_skip : (first : Row) (front : List Row) → is_passed first ≡ true → Fits (first ∷ front)
       → Fits front

@@ -1,11 +1,12 @@
 -- Comment lines and empty lines between the lines of a text (YAML 1.2.2, sections 6.4 and 6.6).
-use Rattle.std.specs.Prelude.{◌≡◌, ℕ, Bool, true, false, ◌==◌, ◌&&◌, ◌||◌, not, nat_lt, List, []}
+use Rattle.std.specs.Prelude.{◌≡◌, ℕ, ◌+◌, Bool, true, false, ◌==◌, ◌&&◌, ◌||◌, not, nat_lt, List}
+use Rattle.std.specs.Prelude.{[]}
 use Rattle.std.specs.Prelude.{◌∷◌, ◌++◌, drop, take, Err, if◌then◌else◌}
 use Rattle.std.specs.List.{list_any}
 use Rattle.pl_base.specs.declared.place.FileKey.{FileKey}
 use Rattle.pl_line.specs.declared.line_fault.Fault.{Fault}
 use Rattle.pl_line.specs.Rows.{Row, rows_of}
-use Rattle.pl_line.specs.Left.{is_bare, is_comment, is_empty}
+use Rattle.pl_line.specs.Left.{behind, is_done, is_bare, is_comment, is_empty}
 use Rattle.pl_line.specs.Scanning.{ends_word, plain_len}
 use Rattle.pl_reading.specs.Bytes.{begins_with}
 use Rattle.pl_yaml.specs.Heads.{is_block, is_start}
@@ -49,10 +50,11 @@ is_ended column text rows next =
     is_left column rows
     || not (list_any is_block text) && (not (leaves_open text) || is_stopped column rows next)
 
--- A line may begin with a scalar alone, with no dash and no key before it.
+-- A line begins with a sequence's dash.
 abbrev pub begins_item : Row → Bool
 begins_item row = begins_with 45 row.text && ends_word row.whole (drop 1 row.text)
 
+-- A line may begin with a scalar alone, with no dash and no key before it.
 abbrev pub is_scalar : Row → Bool
 is_scalar row =
     not (begins_item row) && (not (has_colon row) || list_any is_block (take 1 row.text))
@@ -68,12 +70,22 @@ alone_ended column (row ∷ rows) next =
     if is_passed row then alone_ended column rows next
     else not (is_scalar row) || is_ended column row.text rows next
 
+-- No collection begins where nothing is left of a line, or a scalar alone.
+abbrev pub is_plain : Row → Bool
+is_plain row = is_passed row || (is_done row || is_scalar row)
+
+-- The column, at least, of the block that holds a scalar on a line, or alone on the line behind it:
+-- that of the line's first character, or two further where a dash stands there before a collection.
+abbrev pub held_at : Row → ℕ
+held_at row =
+    if begins_item row && not (is_plain (behind 1 row)) then row.column + 2 else row.column
+
 -- the same of each of these rows, and of a scalar alone on the line behind it
 abbrev pub each_ended : List Row → Row → Bool
 each_ended [] next = true
 each_ended (row ∷ rows) next =
     (is_passed row
-    || is_ended row.column row.text rows next && alone_ended row.column rows next)
+    || is_ended (held_at row) row.text rows next && alone_ended (held_at row) rows next)
     && each_ended rows next
 
 -- No scalar that begins on one of these rows goes on where the next row stands.
@@ -85,7 +97,7 @@ abbrev pub IsReadThere : FileKey → List Row → Row → Type 0
 IsReadThere file rows row =
     (fault : Fault) → document file rows ≡ Err fault → fault.line ≡ row.number → ⊥
 
--- Between rows, before a row with content on which no scalar goes on, a row that is passed over
+-- Between rows, before a row with content at which no scalar goes on, a row that is passed over
 -- changes nothing; unless reading is refused on that next row.
 abbrev pub PassedOverBetween : Type 0
 PassedOverBetween =

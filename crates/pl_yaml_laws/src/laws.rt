@@ -57,12 +57,14 @@ pub fn chomping_changes_the_end()
 ///
 /// In the middle of a text it changes nothing before a line with content at which no scalar of
 /// several lines goes on (`between`, and of a whole text `inside`), as the lines before the place
-/// tell (`all_ended`): each is followed, still before the place, by a line that isn't deeper; or it
-/// has no `|` and no `>`, and it ends with `:`, or the next line with content isn't deeper, has a
+/// tell (`all_ended`): each is followed, still before the place, by a line that isn't deeper than
+/// it (or than two columns behind it, where it begins with a dash before a collection); or it has
+/// no `|` and no `>`, and it ends with `:`, or the next line with content isn't deeper, has a
 /// mapping's `:` or is a comment. Where a scalar stands alone on the line behind it, the same holds
-/// of that scalar, with the first line's column. The tree is the same, with the lines behind the
-/// place numbered one further, and so is a fault, unless it is told on the line behind the place:
-/// there a line that can't go on with a plain scalar is told otherwise where a comment ended it.
+/// of that scalar, with the first line's column. Of places in a scalar of several lines, and
+/// directly behind one, nothing is said. The tree is the same, with the lines behind the place
+/// numbered one further, and so is a fault, unless it is told on the line behind the place: there a
+/// line that can't go on with a plain scalar is told otherwise where a comment ended it.
 pub fn empty_lines_are_passed_over()
     ensures rows { PassedOverInDocuments }
     ensures text { PassedOverInTexts }

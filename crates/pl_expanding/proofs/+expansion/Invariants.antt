@@ -1,6 +1,7 @@
 use Rattle.std.proofs.Common.{◌≡◌, ℕ, ◌+◌, ◌*◌, [], drop, map}
 use Rattle.pl_calls.specs.Reaching.{opens}
 use Rattle.pl_expanding.specs.Expanding.{part_of, entry_of, turns, pairs_behind, items_behind}
+use Rattle.pl_expanding.specs.Following.{scope_of}
 use Rattle.pl_expanding.specs.Levels.{followed}
 use Rattle.pl_expanding.specs.Settling.{node_seen, pair_seen}
 use Rattle.pl_expanding.specs.Settling as settling
@@ -96,11 +97,11 @@ abbrev pub invariant-expanding::fill_items-loop-item :
 invariant-expanding::fill_items-loop-item g l = record {
   gives :
       items_behind (map part_of l.items)
-      (followed l.at.calls (opens (g.F.Files.files l.fn.files) l.fn.reach.home))
-      l.frame l.at.region l.fn.progress l.fn.reach.used
+      (scope_of (followed l.at.calls (opens (g.F.Files.files l.fn.files) l.fn.reach.home))
+      l.frame l.at.region) l.fn.progress l.fn.reach.used
       ≡ items_behind (map part_of (drop l.item-index l.item-items))
-      (followed l.at.calls (opens (g.F.Files.files l.fn.files) l.fn.reach.home))
-      l.frame l.at.region l.after l.reach.used;
+      (scope_of (followed l.at.calls (opens (g.F.Files.files l.fn.files) l.fn.reach.home))
+      l.frame l.at.region) l.after l.reach.used;
   files : g.F.Files.files l.files ≡ g.F.Files.files l.fn.files;
   home : l.reach.home ≡ l.fn.reach.home;
 }
@@ -110,11 +111,11 @@ abbrev pub invariant-expanding::fill_pairs-loop-pair :
 invariant-expanding::fill_pairs-loop-pair g l = record {
   gives :
       pairs_behind (map entry_of l.pairs)
-      (followed l.at.calls (opens (g.F.Files.files l.fn.files) l.fn.reach.home))
-      l.frame l.at.region l.fn.progress l.fn.reach.used
+      (scope_of (followed l.at.calls (opens (g.F.Files.files l.fn.files) l.fn.reach.home))
+      l.frame l.at.region) l.fn.progress l.fn.reach.used
       ≡ pairs_behind (map entry_of (drop l.pair-index l.pair-items))
-      (followed l.at.calls (opens (g.F.Files.files l.fn.files) l.fn.reach.home))
-      l.frame l.at.region l.after l.reach.used;
+      (scope_of (followed l.at.calls (opens (g.F.Files.files l.fn.files) l.fn.reach.home))
+      l.frame l.at.region) l.after l.reach.used;
   files : g.F.Files.files l.files ≡ g.F.Files.files l.fn.files;
   home : l.reach.home ≡ l.fn.reach.home;
 }
@@ -124,11 +125,11 @@ abbrev pub invariant-expanding::fill_turns-loop-item :
 invariant-expanding::fill_turns-loop-item g l = record {
   gives :
       turns l.steps.name (part_of l.node) l.steps.items
-      (followed l.at.calls (opens (g.F.Files.files l.fn.files) l.fn.reach.home))
-      l.frame l.at.region l.fn.progress l.fn.reach.used
+      (scope_of (followed l.at.calls (opens (g.F.Files.files l.fn.files) l.fn.reach.home))
+      l.frame l.at.region) l.fn.progress l.fn.reach.used
       ≡ turns l.steps.name (part_of l.node) (drop l.item-index l.item-items)
-      (followed l.at.calls (opens (g.F.Files.files l.fn.files) l.fn.reach.home))
-      l.frame l.at.region l.after l.reach.used;
+      (scope_of (followed l.at.calls (opens (g.F.Files.files l.fn.files) l.fn.reach.home))
+      l.frame l.at.region) l.after l.reach.used;
   files : g.F.Files.files l.files ≡ g.F.Files.files l.fn.files;
   home : l.reach.home ≡ l.fn.reach.home;
 }
@@ -138,11 +139,11 @@ abbrev pub invariant-settling::settle_items-loop-item :
 invariant-settling::settle_items-loop-item g l = record {
   gives :
       settling.items_behind (map node_seen l.items)
-      (followed l.at.calls (opens (g.F.Files.files l.fn.files) l.fn.reach.home))
-      l.frame l.at.region (record { items = []; count = l.count }) l.fn.reach.used
+      (scope_of (followed l.at.calls (opens (g.F.Files.files l.fn.files) l.fn.reach.home))
+      l.frame l.at.region) (record { items = []; count = l.count }) l.fn.reach.used
       ≡ settling.items_behind (map node_seen (drop l.item-index l.item-items))
-      (followed l.at.calls (opens (g.F.Files.files l.fn.files) l.fn.reach.home))
-      l.frame l.at.region l.all l.reach.used;
+      (scope_of (followed l.at.calls (opens (g.F.Files.files l.fn.files) l.fn.reach.home))
+      l.frame l.at.region) l.all l.reach.used;
   files : g.F.Files.files l.files ≡ g.F.Files.files l.fn.files;
   home : l.reach.home ≡ l.fn.reach.home;
 }
@@ -152,11 +153,11 @@ abbrev pub invariant-settling::settle_pairs-loop-pair :
 invariant-settling::settle_pairs-loop-pair g l = record {
   gives :
       settling.pairs_behind (map pair_seen l.pairs)
-      (followed l.at.calls (opens (g.F.Files.files l.fn.files) l.fn.reach.home))
-      l.frame l.at.region (record { pairs = []; count = l.count }) l.fn.reach.used
+      (scope_of (followed l.at.calls (opens (g.F.Files.files l.fn.files) l.fn.reach.home))
+      l.frame l.at.region) (record { pairs = []; count = l.count }) l.fn.reach.used
       ≡ settling.pairs_behind (map pair_seen (drop l.pair-index l.pair-items))
-      (followed l.at.calls (opens (g.F.Files.files l.fn.files) l.fn.reach.home))
-      l.frame l.at.region l.all l.reach.used;
+      (scope_of (followed l.at.calls (opens (g.F.Files.files l.fn.files) l.fn.reach.home))
+      l.frame l.at.region) l.all l.reach.used;
   files : g.F.Files.files l.files ≡ g.F.Files.files l.fn.files;
   home : l.reach.home ≡ l.fn.reach.home;
 }
