@@ -27,7 +27,8 @@ use std::alloc::Global;
 /// and of `coalesce` without a value. Roots, look-ups, `iif` and `coalesce` hand values on with the
 /// origins that they have. In a tree that the grammar never gives, an argument that is missing up
 /// to a function's least count is Null, and one past its greatest count isn't looked at.
-///  A fault is the first one, arguments being looked at from left to right, and none that the
+///
+/// A fault is the first one, arguments being looked at from left to right, and none that the
 /// functions don't look at: NotConvertible in `lt`, `le`, `gt` and `ge`, FormatIndex, NoLength in
 /// `length`, TextTooLong where a function makes a text of more than 65,536 bytes, UnknownRoot where
 /// the names have no such root. Memory may come at any time.

@@ -1,5 +1,6 @@
 //! Expressions, evaluated over one world in memory (`world`), as texts.
-//!  A line `EXPRESSION => EXPECTED` of a table (`table`) holds where the expression, parsed as a
+//!
+//! A line `EXPRESSION => EXPECTED` of a table (`table`) holds where the expression, parsed as a
 //! condition and evaluated over the world, gives what is expected: the value and where it comes
 //! from, as `told` writes them. The form:
 //!
@@ -16,7 +17,8 @@
 //! - A fault is its code: `V1` not convertible, `V2` a brace of `format`, `V3` no length, `V4` too
 //!   long, `V5` an unknown
 //!   root. A text that isn't an expression is `unparsed`.
-//!  The world has three roots, `parameters`, `variables` and `item`; `world.rt` lists their values
+//!
+//! The world has three roots, `parameters`, `variables` and `item`; `world.rt` lists their values
 //! with their lines.
 mod form;
 mod names;

@@ -7,7 +7,8 @@ ghost use Rattle.pl_expr.specs.Spelling.{IsText};
 ghost use Rattle.pl_expr.specs.Trees.{printed};
 
 /// What holds of every text and every tree in each mode.
-///  A text that has a tree is spelled so by the rules of the grammar. Its tree is of a stated kind,
+///
+/// A text that has a tree is spelled so by the rules of the grammar. Its tree is of a stated kind,
 /// at most 50 deep. What is printed of a tree of that kind has this tree; and so what is printed of
 /// a text's tree has that tree again.
 pub fn grammar_laws()

@@ -197,7 +197,8 @@ fn read_tails<'t>(
 
 /// The stop at one more tail behind a tree as deep as it may get. The text begins right behind the
 /// tree.
-///  Names make a projection no deeper, so a dot right behind one may begin a name. Where it begins
+///
+/// Names make a projection no deeper, so a dot right behind one may begin a name. Where it begins
 /// neither a name nor `.*`, the byte behind the dot is what fits nothing.
 #[tactic(auto, unfolding(crate::specs::Grammar::deep_fault))]
 fn deep_stop(tree: &Tree, text: &str) -> Stop
@@ -324,7 +325,8 @@ fn read_whole(alloc: Global, text: &str, mode: Mode) -> Result<Tree, Stop>
 }
 
 /// The expression that a text is.
-///  A refusal has the code of the text's first fault and its offset in bytes. `Memory` comes where
+///
+/// A refusal has the code of the text's first fault and its offset in bytes. `Memory` comes where
 /// memory is wanting. The grammar is that of Microsoft Learn, Azure Pipelines, "Expressions",
 /// without decimal fractions and grouping parentheses: a tree is at most 50 deep, numbers have 64
 /// signed bits, versions three or four segments of at most 2147483647, and status functions stand

@@ -11,7 +11,8 @@ use std::alloc::Global;
 
 /// All nodes, each after those that it depends on, the least possible first at each place, in
 /// O((n + e) log n).
-///  Nodes are the numbers below `n`. An edge `(a, b)` says that `a` depends on `b`, and may come
+///
+/// Nodes are the numbers below `n`. An edge `(a, b)` says that `a` depends on `b`, and may come
 /// twice.
 ///
 /// # Errors

@@ -8,7 +8,8 @@ use std::alloc::Global;
 use std::collections::BTreeSet;
 
 /// All transitive dependencies of a node, ascending, in O((n + e) log n).
-///  Nodes are the numbers below `n`. An edge `(a, b)` says that `a` depends on `b`, and may come
+///
+/// Nodes are the numbers below `n`. An edge `(a, b)` says that `a` depends on `b`, and may come
 /// twice. Where the node lies on a cycle it is among its own ancestors.
 pub fn ancestors(
     alloc: Global,

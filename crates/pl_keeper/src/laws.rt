@@ -5,7 +5,8 @@ ghost use Rattle.pl_keeper.specs.Rows.{row_of, IsKept, IsShortRecord};
 ghost use Rattle.pl_keeper.specs.Sorting.{record_cmp};
 
 /// The laws of records and their rows.
-///  A row is one record's at most. So what `encode` writes is read by `decode` as the record, where
+///
+/// A row is one record's at most. So what `encode` writes is read by `decode` as the record, where
 /// that is within the limits, and what `decode` reads is written by `encode` as that row again,
 /// byte for byte; it can be written, since its lengths fit. Rows sort, by table and by the bytes of
 /// the key, as their records do, by table and by the fields of the key in order: numbers as

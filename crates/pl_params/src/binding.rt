@@ -21,12 +21,14 @@ use std::alloc::Global;
 
 /// What is bound to the declared parameters, in their order (Microsoft Learn, Azure Pipelines,
 /// "Template parameters").
-///  Names are compared without regard to the case of ASCII's letters, and of several that are given
+///
+/// Names are compared without regard to the case of ASCII's letters, and of several that are given
 /// under one name the first counts. What is given is read by the parameter's type and keeps its
 /// origin: a string takes an atom's text, a boolean and a number also a text that is one, a list of
 /// items also an empty scalar for the empty list. A parameter that isn't given has its default,
 /// whose nodes come from their own places in the template, across no border, with `given` false.
-///  A fault is first P5, at the first given name that no parameter has; then that of the first
+///
+/// A fault is first P5, at the first given name that no parameter has; then that of the first
 /// parameter that has one: P4 at the declaration, where nothing is given and there is no default;
 /// P6 at the given name, where what is given isn't of the type; P7 there, where it isn't among the
 /// allowed values, both sides as the type reads them. P3 comes, at the default, only for parameters

@@ -21,11 +21,13 @@ use std::alloc::Global;
 
 /// The parameters that a template declares under its key `parameters`, in order (Microsoft Learn,
 /// Azure Pipelines, "YAML schema reference", parameters).
-///  A sequence has one mapping for each parameter, with the keys `name`, `type` (string where it
+///
+/// A sequence has one mapping for each parameter, with the keys `name`, `type` (string where it
 /// isn't there), `default`, `values` and `displayName`, which is passed over. In the older form a
 /// mapping declares each of its keys as an object whose default is the key's value. A parameter's
 /// place is its mapping's, in the older form its key's.
-///  A fault is that of the first declaration that has one, and there the one at the earliest place,
+///
+/// A fault is that of the first declaration that has one, and there the one at the earliest place,
 /// at one place the one with the smaller code: P1 at the value of `type`; P2 at the parameter's
 /// place; P3 at the value of `default`; P8 at the parameter's place where there is no name, at the
 /// value of `values` where that is no sequence, at a key that isn't listed above, at an item that

@@ -15,7 +15,8 @@ use pl_base::{List, Text};
 use std::alloc::Global;
 
 /// The pattern with `{n}` replaced by argument n, counted from 0, `{{` by `{` and `}}` by `}`.
-///  Index where any other brace stands, or an n that is no argument's number or has a leading zero.
+///
+/// Index where any other brace stands, or an n that is no argument's number or has a leading zero.
 /// Else TooLong where the result has more than 65,536 bytes.
 pub fn format(alloc: Global, pattern: &Text, arguments: &List<Text>) -> Result<Text, TextFault>
     ensures { Gives result (formatted arguments.now pattern.now) }

@@ -55,7 +55,8 @@ const WHOLE_TEXT: Slot = Slot {
 ///   `
 ///   at an entry of a flow sequence. So is the `{` of `[${{ x }}]`, since a plain scalar in a flow
 ///   collection ends before `{`: such an expression is written in quotes, or in a block sequence.
-///  The text is read from its bytes, line by line. Block collections that wait for a value stand on
+///
+/// The text is read from its bytes, line by line. Block collections that wait for a value stand on
 /// a stack of at most 64. Memory is taken for the node, for that stack, and for the keys of
 /// mappings with more than eight pairs; Memory is answered where a growth is refused.
 pub fn read(alloc: Global, text: &[u8], file: &FileKey) -> Result<Node, YamlFault>

@@ -189,7 +189,8 @@ fn close(alloc: Global, file: &Shared<FileKey>, top: &mut Open, waiting: Open) -
 }
 
 /// Reads the entries of a collection that has begun, and makes its node.
-///  Collections in one another are read by one loop. Those that wait for a value stand on a stack,
+///
+/// Collections in one another are read by one loop. Those that wait for a value stand on a stack,
 /// the innermost on top: a collection is put there when a value of it has begun on later lines, and
 /// taken off when that value was read.
 fn entries(

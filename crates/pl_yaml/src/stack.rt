@@ -1,5 +1,6 @@
 //! Block collections that are being read.
-//!  A collection inside another is read before the other goes on. So those that wait for a value
+//!
+//! A collection inside another is read before the other goes on. So those that wait for a value
 //! stand on a stack, the innermost on top, each with the entries before that value.
 
 ghost use Rattle.std.specs.Prelude.{◌≡◌, ℕ, List as list, IfOk, OnOk};
