@@ -13,13 +13,13 @@ ghost use Rattle.pl_expand.specs.Tree.{bare_expanded};
 ghost use Rattle.pl_expand.specs.Tree.{expansion};
 
 use crate::filling::{ROOT, early_by, fill_root};
-use crate::root::{RootNode, RootTree};
+use crate::root::{RootMapping, RootNode, RootTree};
 use pl_base::{
     Argument, ExactCopy, Expanded, FileKey, List, Memory, Node, NodeBody, NodePair, Place, Shared,
 };
 use pl_calls::{Files, Home, Reach, node_in, same_file, under};
 use pl_directives::{Counted, ExpandFault, ExpandProblem, complain, enter};
-use pl_expanding::expand_node;
+use pl_expanding::{Scope, expand_node};
 use pl_frame::{Frame, Parameter};
 use pl_root::{first_complaint, first_frame, parameters_by, repositories_of};
 use std::alloc::Global;
@@ -87,7 +87,13 @@ fn expand_pairs<F: Files>(
         files,
         reach,
     )?;
-    fill_root(alloc, root, place, pairs, &parameters, early, files, reach)
+    let mapping = RootMapping {
+        file: root,
+        place,
+        pairs,
+        parameters: &parameters,
+    };
+    fill_root(alloc, &mapping, early, files, reach)
 }
 
 /// Where paths lead from a root of these pairs. Nothing is called yet.
@@ -165,7 +171,8 @@ fn expand_bare<F: Files>(
     ensures files { F.files files.new ≡ F.files files.old }
 {
     let mut reach = bare_reach(alloc, root)?;
-    let one = expand_node(alloc, node, frame, ROOT, 0, files, &mut reach)?;
+    let scope = Scope { frame, at: ROOT };
+    let one = expand_node(alloc, node, scope, 0, files, &mut reach)?;
     Ok(whole(alloc, bare_node(one), reach)?)
 }
 

@@ -1,6 +1,6 @@
 ghost use Rattle.std.specs.Prelude.{◌≡◌, [], IfOk};
 ghost use Rattle.pl_base.specs.declared.origin.Crossing.TheVariants.{Extends};
-ghost use Rattle.pl_calls.specs.Frames.{template_of, framed_by};
+ghost use Rattle.pl_calls.specs.Frames.{template_seen, framed_by};
 ghost use Rattle.std.specs.Option.{option_copied};
 ghost use Rattle.pl_calls.specs.Gives.{GivesUsed};
 ghost use Rattle.pl_calls.specs.Nodes.{GivesPairs};
@@ -21,7 +21,7 @@ ghost use Rattle.pl_expand.specs.Extending.{extended};
 
 use pl_base::{
     Crossing, DEEPEST, ExactCopy, FileKey, List, MarkedNode, MarkedPair, Memory, Node, NodeBody,
-    NodePair, Place, Text, Value,
+    NodePair, Place, Shared, Text, Value,
 };
 use pl_calls::{
     Files, Opened, Reach, Template, framed_by, node_in, open, path_text, template_in, under,
@@ -30,7 +30,7 @@ use pl_directives::{
     Chain, Content, Counted, ExpandFault, ExpandProblem, Kind, Progress, Region, Standing, begin,
     complain, enter,
 };
-use pl_expanding::{MOST_LEVELS, SettledPairs, expand_node, expand_path, fill_pair};
+use pl_expanding::{MOST_LEVELS, Scope, SettledPairs, expand_node, expand_path, fill_pair};
 use pl_frame::Frame;
 use std::alloc::Global;
 
@@ -110,7 +110,11 @@ fn value_from<F: Files>(
     ensures files { F.files files.new ≡ F.files files.old }
     ensures home { reach.new.home ≡ reach.old.home }
 {
-    let one = expand_node(alloc, node, frame, ARGUMENTS, count, files, reach)?;
+    let scope = Scope {
+        frame,
+        at: ARGUMENTS,
+    };
+    let one = expand_node(alloc, node, scope, count, files, reach)?;
     mapping_from(alloc, one)
 }
 
@@ -212,7 +216,11 @@ fn fill_body_pair<F: Files>(
     if pair.key.as_str() == "parameters" {
         return Ok(progress);
     }
-    fill_pair(alloc, pair, frame, EXTENDED, progress, files, reach)
+    let scope = Scope {
+        frame,
+        at: EXTENDED,
+    };
+    fill_pair(alloc, pair, scope, progress, files, reach)
 }
 
 /// The template's pairs but the declarations.
@@ -248,29 +256,29 @@ fn pairs_there(alloc: Global, content: Content) -> List<MarkedPair>
 /// The template's body in its frame.
 fn fill_extension<F: Files>(
     alloc: Global,
-    file: &FileKey,
+    template: &Template<'_>,
     place: &Place,
-    pairs: &List<NodePair>,
     inner: &Frame,
     count: u32,
     files: &mut F,
     reach: &mut Reach,
 ) -> Result<Extension, ExpandFault>
-    ensures filled { GivesUsed result reach.new.used (body_filled file.now place.now pairs.now
-        (scope_of (followed 99 (opens (F.files files.old) reach.old.home)) inner.now Free) count
-        reach.old.used) }
+    ensures filled { GivesUsed result reach.new.used (body_filled template.now.file.now place.now
+        template.now.pairs.now (scope_of (followed 99 (opens (F.files files.old) reach.old.home))
+        inner.now Free) count reach.old.used) }
     ensures files { F.files files.new ≡ F.files files.old }
     ensures home { reach.new.home ≡ reach.old.home }
 {
     let count = enter(alloc, place, count)?;
     let begun = begin(alloc, Kind::Pairs, Chain::Closed, count);
-    let after = fill_body_pairs(alloc, pairs, inner, begun, files, reach)?;
+    let after = fill_body_pairs(alloc, template.pairs, inner, begun, files, reach)?;
     let Progress {
         content,
         chain: _,
         count,
     } = after;
     let pairs = pairs_there(alloc, content);
+    let file: &FileKey = template.file;
     let file = file.copy(alloc)?;
     Ok(Extension { file, pairs, count })
 }
@@ -293,55 +301,38 @@ fn enter_file<F: Files>(
 {
     let node = node_in(alloc, &opened.file)?;
     let pairs = extended_pairs(alloc, node)?;
-    let inner = frame_for(alloc, opened, pairs, path, arguments, frame)?;
-    let count = arguments.count;
-    fill_extension(
-        alloc,
-        &opened.key,
-        &node.place,
-        pairs,
-        &inner,
-        count,
-        files,
-        reach,
-    )
-}
-
-/// The frame of the template.
-fn frame_for(
-    alloc: Global,
-    opened: &Opened,
-    pairs: &List<NodePair>,
-    path: &MarkedNode,
-    arguments: &SettledPairs,
-    frame: &Frame,
-) -> Result<Frame, ExpandFault>
-    ensures { Gives result (framed_by (template_of opened.now.key 1 pairs.now) frame.now.variables
-        arguments.now.pairs (Extends opened.now.key) path.now.origin.crossings) }
-{
     let template = Template {
         file: &opened.key,
         level: 1,
         pairs,
     };
-    let border = border(alloc, opened)?;
+    let inner = frame_for(alloc, &template, path, arguments, frame)?;
+    let count = arguments.count;
+    fill_extension(alloc, &template, &node.place, &inner, count, files, reach)
+}
+
+/// The frame of the template.
+fn frame_for(
+    alloc: Global,
+    template: &Template<'_>,
+    path: &MarkedNode,
+    arguments: &SettledPairs,
+    frame: &Frame,
+) -> Result<Frame, ExpandFault>
+    ensures { Gives result (framed_by (template_seen template.now) frame.now.variables
+        arguments.now.pairs (Extends template.now.file.now) path.now.origin.crossings) }
+{
+    let border = border(alloc, template.file)?;
     let given = Some(&arguments.pairs);
     let crossings = &path.origin.crossings;
-    framed_by(
-        alloc,
-        &template,
-        &frame.variables,
-        given,
-        &border,
-        crossings,
-    )
+    framed_by(alloc, template, &frame.variables, given, &border, crossings)
 }
 
 /// The border to the template.
-fn border(alloc: Global, opened: &Opened) -> Result<Crossing, Memory>
-    ensures { IfOk result (λ crossing. crossing ≡ Extends opened.now.key) }
+fn border(alloc: Global, file: &Shared<FileKey>) -> Result<Crossing, Memory>
+    ensures { IfOk result (λ crossing. crossing ≡ Extends file.now) }
 {
-    Ok(Crossing::Extends(opened.key.copy(alloc)?))
+    Ok(Crossing::Extends(file.copy(alloc)?))
 }
 
 /// The file of the path.

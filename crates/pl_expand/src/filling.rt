@@ -13,21 +13,22 @@ ghost use Rattle.pl_expand.specs.Tree.{filled_root, root_from};
 ghost use Rattle.pl_expand.specs.Tree.{ordinary_pair, filled_in, file_of};
 ghost use Rattle.pl_expand.specs.Tree.{extends_pair, variables_pair, object_pairs, passed_over};
 ghost use Rattle.pl_frame.specs.Doubles.{first_double};
+ghost use Rattle.pl_root.specs.Keys.{root_key};
 
 use crate::extending::{Extension, extend};
 use crate::merging::merge;
-use crate::root::RootNode;
+use crate::root::{RootMapping, RootNode};
 use pl_base::{
     DEEPEST, ExactCopy, FileKey, List, MarkedNode, MarkedPair, Memory, Node, NodePair, Origin,
-    Place, Shared, Value,
+    Place, Value,
 };
 use pl_calls::{Files, Reach};
 use pl_directives::{
     Chain, Content, ExpandFault, ExpandProblem, Form, Kind, Progress, Region, Standing, begin,
     complain, put_pair,
 };
-use pl_expanding::{MOST_LEVELS, expand_node, fill_pair};
-use pl_frame::{Frame, Parameter, first_double, literal_at};
+use pl_expanding::{MOST_LEVELS, Scope, expand_node, fill_pair};
+use pl_frame::{Frame, first_double, literal_at};
 use pl_root::{RootKey, second_frame};
 use std::alloc::Global;
 
@@ -67,7 +68,7 @@ pub fn early_by<F: Files>(
         levels: DEEPEST,
         calls: MOST_LEVELS,
     };
-    let one = expand_node(alloc, node, frame, at, count, files, reach)?;
+    let one = expand_node(alloc, node, Scope { frame, at }, count, files, reach)?;
     Ok(Early {
         node: Some(one.node),
         count: one.count,
@@ -131,7 +132,8 @@ fn ordinary_pair<F: Files>(
         progress,
         extension,
     } = filling;
-    let progress = fill_pair(alloc, pair, frame, ROOT, progress, files, reach)?;
+    let scope = Scope { frame, at: ROOT };
+    let progress = fill_pair(alloc, pair, scope, progress, files, reach)?;
     Ok(RootFilling {
         progress,
         extension,
@@ -203,20 +205,19 @@ fn fill_variables(
 #[tactic(auto, using(crate::proofs::Alone::gives_alone))]
 fn fill_root_pair<F: Files>(
     alloc: Global,
-    key: RootKey,
-    early: Option<MarkedNode>,
     pair: &NodePair,
+    early: Option<MarkedNode>,
     frame: &Frame,
     filling: RootFilling,
     files: &mut F,
     reach: &mut Reach,
 ) -> Result<RootFilling, ExpandFault>
-    ensures filled { GivesUsed result reach.new.used (root_pair key early pair.now (opens (F.files
-        files.old) reach.old.home) frame.now filling reach.old.used) }
+    ensures filled { GivesUsed result reach.new.used (root_pair (root_key pair.now.key) early
+        pair.now (opens (F.files files.old) reach.old.home) frame.now filling reach.old.used) }
     ensures files { F.files files.new ≡ F.files files.old }
     ensures home { reach.new.home ≡ reach.old.home }
 {
-    match key {
+    match RootKey::of(&pair.key) {
         RootKey::Parameters | RootKey::Resources => Ok(passed_over(filling)),
         RootKey::Extends => fill_extends(alloc, pair, frame, filling, files, reach),
         RootKey::Variables => match early {
@@ -245,9 +246,8 @@ fn fill_root_pairs<F: Files>(
     let mut left = early;
     let mut after = filling;
     for pair in pairs.as_slice() {
-        let key = RootKey::of(&pair.key);
-        let given = given_to(key, &mut left);
-        after = fill_root_pair(alloc, key, given, pair, frame, after, files, reach)?;
+        let given = given_to(RootKey::of(&pair.key), &mut left);
+        after = fill_root_pair(alloc, pair, given, frame, after, files, reach)?;
     }
     Ok(after)
 }
@@ -385,19 +385,17 @@ fn fill_in<F: Files>(
 /// The root's mapping, once its variables were expanded.
 pub fn fill_root<F: Files>(
     alloc: Global,
-    root: &FileKey,
-    place: &Place,
-    pairs: &List<NodePair>,
-    parameters: &Shared<List<Parameter>>,
+    root: &RootMapping<'_>,
     early: Early,
     files: &mut F,
     reach: &mut Reach,
 ) -> Result<RootNode, ExpandFault>
-    ensures filled { GivesUsed result reach.new.used (filled_root (root_mapping root.now place.now
-        pairs.now parameters.now) (opens (F.files files.old) reach.old.home) early reach.old.used) }
+    ensures filled { GivesUsed result reach.new.used (filled_root (root_mapping root.now.file.now
+        root.now.place.now root.now.pairs.now root.now.parameters.now) (opens (F.files files.old)
+        reach.old.home) early reach.old.used) }
     ensures files { F.files files.new ≡ F.files files.old }
     ensures home { reach.new.home ≡ reach.old.home }
 {
-    let frame = second_frame(alloc, root, parameters, early.node.as_ref())?;
-    fill_in(alloc, place, pairs, &frame, early, files, reach)
+    let frame = second_frame(alloc, root.file, root.parameters, early.node.as_ref())?;
+    fill_in(alloc, root.place, root.pairs, &frame, early, files, reach)
 }

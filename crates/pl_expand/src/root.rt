@@ -1,10 +1,21 @@
-use pl_base::{Expanded, FileKey, MarkedNode};
+use pl_base::{Expanded, FileKey, List, MarkedNode, NodePair, Place, Shared};
+use pl_frame::Parameter;
 
 /// An expanded root file, and the count of its nodes.
 #[derive(Drop)]
 pub struct RootTree {
     pub expanded: Expanded,
     pub count: u32,
+}
+
+/// A root file's mapping: the file, where the mapping stands, its pairs, and what is bound to the
+/// parameters that it declares.
+#[derive(Drop)]
+pub struct RootMapping<'r> {
+    pub file: &'r FileKey,
+    pub place: &'r Place,
+    pub pairs: &'r List<NodePair>,
+    pub parameters: &'r Shared<List<Parameter>>,
 }
 
 /// The node of a root file, the file that it extends, and the count behind them.

@@ -1,7 +1,7 @@
 -- A part of a tree as it is seen is itself.
 use Rattle.std.proofs.Common.{◌≡◌, ℕ, List, [], ◌∷◌, map, refl, ap, ap₂, sym, ◌∙◌, subst, rules}
 use Rattle.std.specs.List.{AllByRecursion as Each}
-use Rattle.pl_base.specs.declared.value.Value.{Value, roll-Value, map-Value, ind-Value, the_lemmas}
+use Rattle.pl_base.specs.declared.value.Value.{Value, roll-Value, map-Value, the_lemmas}
 use Rattle.pl_base.specs.declared.value.Value.TheVariants as value
 use Rattle.pl_base.specs.declared.value.Value.TheOpen.{Value-F, MarkedNode-F, MarkedPair-F, Null}
 use Rattle.pl_base.specs.declared.value.Value.TheOpen.{Bool as Truth, Number, Version, Str, Array}

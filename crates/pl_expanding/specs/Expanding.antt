@@ -1,7 +1,7 @@
 -- The expansion of a node in a frame (Microsoft Learn, Azure Pipelines, "Templates" and "Template
 -- expressions"). Nodes are entered and counted in the order in which they stand, and the first
 -- fault that is met is the answer.
-use Rattle.std.specs.Prelude.{ℕ, List, [], ◌∷◌, ◌++◌, map, Bool, true, false, Result, Ok}
+use Rattle.std.specs.Prelude.{ℕ, List, [], ◌∷◌, map, Bool, true, false, Result, Ok}
 use Rattle.pl_base.specs.declared.place.FileKey.{FileKey}
 use Rattle.pl_base.specs.declared.place.Place.{Place}
 use Rattle.pl_base.specs.declared.node.Node.{Node, fold-Node}
@@ -10,7 +10,6 @@ use Rattle.pl_base.specs.declared.node.NodePair.{NodePair, fold-NodePair}
 use Rattle.pl_base.specs.declared.node.NodeBody.TheOpen.{NodeBody-F, Node-F, NodePair-F}
 use Rattle.pl_base.specs.declared.node.NodeBody.TheOpen.{Scalar, Seq, Map}
 use Rattle.pl_base.specs.declared.value.MarkedNode.{MarkedNode}
-use Rattle.pl_base.specs.declared.value.MarkedPair.{MarkedPair}
 use Rattle.pl_frame.specs.Names.{within}
 use Rattle.pl_frame.specs.Origins.{literal_at}
 use Rattle.pl_frame.specs.declared.frame.Frame.{Frame}
@@ -24,7 +23,6 @@ use Rattle.pl_directives.specs.declared.manner.Kind.{Kind}
 use Rattle.pl_directives.specs.declared.manner.Kind.TheVariants as kind
 use Rattle.pl_directives.specs.declared.manner.Manner.{Manner}
 use Rattle.pl_directives.specs.declared.manner.Manner.TheVariants.{Empty, Stays, Splices, Mixed}
-use Rattle.pl_directives.specs.declared.progress.Chain.{Chain}
 use Rattle.pl_directives.specs.declared.progress.Chain.TheVariants.{Closed}
 use Rattle.pl_directives.specs.declared.progress.Counted.{Counted}
 use Rattle.pl_directives.specs.declared.progress.Progress.{Progress}

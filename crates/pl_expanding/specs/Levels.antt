@@ -2,11 +2,9 @@
 -- is judged.
 use Rattle.std.specs.Prelude.{ℕ, zero, suc, ◌-◌, List, [], ◌∷◌, map, codes}
 use Rattle.std.specs.Prelude.{Option, Some, None, Result, Ok}
-use Rattle.pl_base.specs.declared.node.Node.{Node}
 use Rattle.pl_base.specs.declared.node.NodePair.{NodePair}
 use Rattle.pl_base.specs.declared.origin.Crossing.{Crossing}
 use Rattle.pl_base.specs.declared.origin.Crossing.TheVariants.{Include}
-use Rattle.pl_base.specs.declared.origin.Origin.{Origin}
 use Rattle.pl_base.specs.declared.place.FileKey.{FileKey}
 use Rattle.pl_base.specs.declared.place.Place.{Place}
 use Rattle.pl_base.specs.declared.value.Value.{Value, Str, Object, out-Value}
@@ -21,7 +19,7 @@ use Rattle.pl_directives.specs.declared.fault.ExpandFault.{ExpandFault}
 use Rattle.pl_directives.specs.declared.fault.ExpandProblem.TheVariants.{NestedTooDeep, WrongKind}
 use Rattle.pl_directives.specs.declared.progress.Counted.{Counted}
 use Rattle.pl_directives.specs.declared.region.Form.{Form}
-use Rattle.pl_directives.specs.declared.region.Form.TheVariants.{Stages, Jobs, Steps, Variables}
+use Rattle.pl_directives.specs.declared.region.Form.TheVariants.{Variables}
 use Rattle.pl_directives.specs.declared.region.Region.TheVariants.{Calls as InCalls}
 use Rattle.pl_directives.specs.Complaints.{refused}
 use Rattle.pl_directives.specs.Counting.{entered}
@@ -31,7 +29,6 @@ use Rattle.pl_calls.specs.Frames.{template_of, framed_by}
 use Rattle.pl_calls.specs.Judging.{template_in, body_in}
 use Rattle.pl_calls.specs.Meant.{◌>>>◌, alone}
 use Rattle.pl_calls.specs.Reaching.{Opens, node_in}
-use Rattle.pl_calls.specs.declared.reaching.Opened.{Opened}
 use Rattle.pl_expanding.specs.Expanding.{expanded}
 use Rattle.pl_expanding.specs.Following.{Follow, scope_of}
 use Rattle.pl_expanding.specs.declared.followed.Followed.{Followed}

@@ -19,7 +19,7 @@ use Rattle.pl_directives.specs.Counting.{entered}
 use Rattle.pl_directives.specs.Keys.{key_by}
 use Rattle.pl_directives.specs.Scalars.{counted_value_at, plain_scalar, joined_scalar}
 use Rattle.pl_reading.specs.Steps.{◌>>=◌}
-use Rattle.pl_calls.specs.Meant.{◌>>>◌, alone}
+use Rattle.pl_calls.specs.Meant.{alone}
 use Rattle.pl_expanding.specs.Following.{Scope}
 use Rattle.pl_expanding.specs.Settling.{node_settling}
 

@@ -3,6 +3,7 @@ ghost use Rattle.pl_calls.specs.Gives.{GivesUsed};
 ghost use Rattle.pl_calls.specs.Reaching.{opens};
 ghost use Rattle.pl_directives.specs.Gives.{Gives};
 ghost use Rattle.pl_directives.specs.Misfits.{problem_of};
+ghost use Rattle.pl_directives.specs.Regions.{is_path};
 ghost use Rattle.pl_expanding.specs.Expanding.{part_of, entry_of, expanded, body, turns, done};
 ghost use Rattle.pl_expanding.specs.Expanding.{pair_behind, pairs_behind, item_behind};
 ghost use Rattle.pl_expanding.specs.Expanding.{items_behind, mapping_item, path_by, value_under};
@@ -12,12 +13,12 @@ ghost use Rattle.pl_expanding.specs.Levels.{followed};
 use crate::facets::manner_of;
 use crate::putting::{add_item, put_alone, splice, spread};
 use crate::scalars::{expand_scalar, path_at};
+use crate::scope::Scope;
 use pl_base::{ExactCopy, List, MarkedPair, Node, NodeBody, NodePair, Place, Text};
 use pl_calls::{Files, Reach};
 use pl_directives::{
-    Action, Chain, Counted, ExpandFault, ExpandProblem, Kind, Manner, Misfit, Progress, Standing,
-    Turns, absorb, as_items, as_pairs, begin, begin_spliced, complain, enter, finish, key_asks,
-    put_pair,
+    Action, Chain, Counted, ExpandFault, ExpandProblem, Kind, Manner, Misfit, Progress, Turns,
+    absorb, as_items, as_pairs, begin, begin_spliced, complain, enter, finish, key_asks, put_pair,
 };
 use pl_frame::{Frame, within};
 use std::alloc::Global;
@@ -29,32 +30,32 @@ use std::alloc::Global;
 pub fn expand_node<F: Files>(
     alloc: Global,
     node: &Node,
-    frame: &Frame,
-    at: Standing,
+    scope: Scope<'_>,
     count: u32,
     files: &mut F,
     reach: &mut Reach,
 ) -> Result<Counted, ExpandFault>
-    ensures gives { GivesUsed result reach.new.used (expanded node.now (scope_of (followed at.calls
-        (opens (F.files files.old) reach.old.home)) frame.now at.region) count reach.old.used) }
+    ensures gives { GivesUsed result reach.new.used (expanded node.now (scope_of (followed
+        scope.entry.at.calls (opens (F.files files.old) reach.old.home)) scope.entry.frame.now
+        scope.entry.at.region) count reach.old.used) }
     ensures files { F.files files.new ≡ F.files files.old }
     ensures home { reach.new.home ≡ reach.old.home }
 {
     match &node.body {
         NodeBody::Scalar(text) => {
-            expand_scalar(alloc, text, frame, at, &node.place, count, files, reach)
+            expand_scalar(alloc, text, scope, &node.place, count, files, reach)
         }
         NodeBody::Seq(items) => {
             let count = enter(alloc, &node.place, count)?;
             let begun = begin(alloc, Kind::Items, Chain::Closed, count);
-            let progress = fill_items(alloc, items, frame, at.below()?, begun, files, reach)?;
-            finish(alloc, frame, &node.place, progress)
+            let progress = fill_items(alloc, items, scope.below()?, begun, files, reach)?;
+            finish(alloc, scope.frame, &node.place, progress)
         }
         NodeBody::Map(pairs) => {
             let count = enter(alloc, &node.place, count)?;
             let begun = begin(alloc, Kind::Pairs, Chain::Closed, count);
-            let progress = fill_pairs(alloc, pairs, frame, at.below()?, begun, files, reach)?;
-            finish(alloc, frame, &node.place, progress)
+            let progress = fill_pairs(alloc, pairs, scope.below()?, begun, files, reach)?;
+            finish(alloc, scope.frame, &node.place, progress)
         }
     }
 }
@@ -65,15 +66,14 @@ fn fill_body<F: Files>(
     alloc: Global,
     node: &Node,
     misfit: Misfit,
-    frame: &Frame,
-    at: Standing,
+    scope: Scope<'_>,
     progress: Progress,
     files: &mut F,
     reach: &mut Reach,
 ) -> Result<Progress, ExpandFault>
     ensures gives { GivesUsed result reach.new.used (body (part_of node.now) (problem_of misfit)
-        (scope_of (followed at.calls (opens (F.files files.old) reach.old.home)) frame.now
-        at.region) progress reach.old.used) }
+        (scope_of (followed scope.entry.at.calls (opens (F.files files.old) reach.old.home))
+        scope.entry.frame.now scope.entry.at.region) progress reach.old.used) }
     ensures files { F.files files.new ≡ F.files files.old }
     ensures home { reach.new.home ≡ reach.old.home }
 {
@@ -81,7 +81,7 @@ fn fill_body<F: Files>(
     let count = progress.count;
     let after = match &node.body {
         NodeBody::Scalar(text) => {
-            let one = expand_scalar(alloc, text, frame, at, place, count, files, reach)?;
+            let one = expand_scalar(alloc, text, scope, place, count, files, reach)?;
             absorb(
                 alloc,
                 misfit,
@@ -93,12 +93,12 @@ fn fill_body<F: Files>(
         NodeBody::Seq(items) => {
             let count = enter(alloc, place, count)?;
             let begun = as_items(alloc, misfit, place, progress.at(Chain::Closed, count))?;
-            fill_items(alloc, items, frame, at.below()?, begun, files, reach)?
+            fill_items(alloc, items, scope.below()?, begun, files, reach)?
         }
         NodeBody::Map(pairs) => {
             let count = enter(alloc, place, count)?;
             let begun = as_pairs(alloc, misfit, place, progress.at(Chain::Closed, count))?;
-            fill_pairs(alloc, pairs, frame, at.below()?, begun, files, reach)?
+            fill_pairs(alloc, pairs, scope.below()?, begun, files, reach)?
         }
     };
     Ok(after.chained(Chain::Closed))
@@ -110,31 +110,25 @@ fn fill_turns<F: Files>(
     alloc: Global,
     steps: &Turns,
     node: &Node,
-    frame: &Frame,
-    at: Standing,
+    scope: Scope<'_>,
     progress: Progress,
     files: &mut F,
     reach: &mut Reach,
 ) -> Result<Progress, ExpandFault>
     ensures gives { GivesUsed result reach.new.used (turns steps.now.name (part_of node.now)
-        steps.now.items (scope_of (followed at.calls (opens (F.files files.old) reach.old.home))
-        frame.now at.region) progress reach.old.used) }
+        steps.now.items (scope_of (followed scope.entry.at.calls (opens (F.files files.old)
+        reach.old.home)) scope.entry.frame.now scope.entry.at.region) progress reach.old.used) }
     ensures files { F.files files.new ≡ F.files files.old }
     ensures home { reach.new.home ≡ reach.old.home }
 {
     let mut after = progress;
     for item in steps.items.as_slice() {
-        let inner = within(alloc, frame, &steps.name, item.copy(alloc)?)?;
-        after = fill_body(
-            alloc,
-            node,
-            Misfit::WrongKind,
-            &inner,
-            at,
-            after,
-            files,
-            reach,
-        )?;
+        let inner = within(alloc, scope.frame, &steps.name, item.copy(alloc)?)?;
+        let turn = Scope {
+            frame: &inner,
+            at: scope.at,
+        };
+        after = fill_body(alloc, node, Misfit::WrongKind, turn, after, files, reach)?;
     }
     Ok(after)
 }
@@ -144,22 +138,21 @@ fn fill_turns<F: Files>(
 pub fn fill_pair<F: Files>(
     alloc: Global,
     pair: &NodePair,
-    frame: &Frame,
-    at: Standing,
+    scope: Scope<'_>,
     progress: Progress,
     files: &mut F,
     reach: &mut Reach,
 ) -> Result<Progress, ExpandFault>
     ensures gives { GivesUsed result reach.new.used (pair_behind (entry_of pair.now) (scope_of
-        (followed at.calls (opens (F.files files.old) reach.old.home)) frame.now at.region) progress
-        reach.old.used) }
+        (followed scope.entry.at.calls (opens (F.files files.old) reach.old.home))
+        scope.entry.frame.now scope.entry.at.region) progress reach.old.used) }
     ensures files { F.files files.new ≡ F.files files.old }
     ensures home { reach.new.home ≡ reach.old.home }
 {
     let chain = progress.chain;
     let count = progress.count;
-    let action = key_asks(alloc, &pair.key, frame, &pair.key_place, chain, count)?;
-    fill_asked(alloc, action, &pair.item, frame, at, progress, files, reach)
+    let action = key_asks(alloc, &pair.key, scope.frame, &pair.key_place, chain, count)?;
+    fill_asked(alloc, action, &pair.item, scope, progress, files, reach)
 }
 
 /// What a key asked for.
@@ -169,23 +162,20 @@ fn fill_asked<F: Files>(
     alloc: Global,
     action: Action,
     node: &Node,
-    frame: &Frame,
-    at: Standing,
+    scope: Scope<'_>,
     progress: Progress,
     files: &mut F,
     reach: &mut Reach,
 ) -> Result<Progress, ExpandFault>
     ensures gives { GivesUsed result reach.new.used (done action (part_of node.now) (scope_of
-        (followed at.calls (opens (F.files files.old) reach.old.home)) frame.now at.region) progress
-        reach.old.used) }
+        (followed scope.entry.at.calls (opens (F.files files.old) reach.old.home))
+        scope.entry.frame.now scope.entry.at.region) progress reach.old.used) }
     ensures files { F.files files.new ≡ F.files files.old }
     ensures home { reach.new.home ≡ reach.old.home }
 {
     match action {
         Action::Put(key, key_origin) => {
-            let is_path = at.region.is_path(&progress.content, &key);
-            let count = progress.count;
-            let one = expand_under(alloc, is_path, &key, node, frame, at, count, files, reach)?;
+            let one = expand_under(alloc, &key, node, scope, &progress, files, reach)?;
             let item = one.node;
             let pair = MarkedPair {
                 key,
@@ -199,8 +189,7 @@ fn fill_asked<F: Files>(
                 alloc,
                 node,
                 Misfit::WrongKind,
-                frame,
-                at,
+                scope,
                 progress,
                 files,
                 reach,
@@ -210,14 +199,13 @@ fn fill_asked<F: Files>(
         Action::Pass(chain) => Ok(progress.chained(chain)),
         Action::Repeat(steps, count) => {
             let begun = progress.before_turns(count);
-            fill_turns(alloc, &steps, node, frame, at, begun, files, reach)
+            fill_turns(alloc, &steps, node, scope, begun, files, reach)
         }
         Action::Insert => fill_body(
             alloc,
             node,
             Misfit::InsertNoMapping,
-            frame,
-            at,
+            scope,
             progress,
             files,
             reach,
@@ -230,25 +218,25 @@ fn fill_asked<F: Files>(
 #[tactic(auto, using(crate::proofs::Alone::gives_alone))]
 fn expand_under<F: Files>(
     alloc: Global,
-    is_path: bool,
     key: &Text,
     node: &Node,
-    frame: &Frame,
-    at: Standing,
-    count: u32,
+    scope: Scope<'_>,
+    progress: &Progress,
     files: &mut F,
     reach: &mut Reach,
 ) -> Result<Counted, ExpandFault>
-    ensures gives { GivesUsed result reach.new.used (value_under is_path key.now (part_of node.now)
-        (scope_of (followed at.calls (opens (F.files files.old) reach.old.home)) frame.now
-        at.region) count reach.old.used) }
+    ensures gives { GivesUsed result reach.new.used (value_under (is_path scope.entry.at.region
+        progress.now.content key.now) key.now (part_of node.now) (scope_of (followed
+        scope.entry.at.calls (opens (F.files files.old) reach.old.home)) scope.entry.frame.now
+        scope.entry.at.region) progress.now.count reach.old.used) }
     ensures files { F.files files.new ≡ F.files files.old }
     ensures home { reach.new.home ≡ reach.old.home }
 {
-    if is_path {
-        return expand_path(alloc, node, frame, count);
+    let count = progress.count;
+    if scope.at.region.is_path(&progress.content, key) {
+        return expand_path(alloc, node, scope.frame, count);
     }
-    expand_node(alloc, node, frame, at.under(key), count, files, reach)
+    expand_node(alloc, node, scope.under(key), count, files, reach)
 }
 
 /// The path of a call. X9 where it is a list or a mapping.
@@ -276,21 +264,20 @@ pub fn expand_path(
 fn fill_pairs<F: Files>(
     alloc: Global,
     pairs: &List<NodePair>,
-    frame: &Frame,
-    at: Standing,
+    scope: Scope<'_>,
     progress: Progress,
     files: &mut F,
     reach: &mut Reach,
 ) -> Result<Progress, ExpandFault>
     ensures gives { GivesUsed result reach.new.used (pairs_behind (map entry_of pairs.now) (scope_of
-        (followed at.calls (opens (F.files files.old) reach.old.home)) frame.now at.region) progress
-        reach.old.used) }
+        (followed scope.entry.at.calls (opens (F.files files.old) reach.old.home))
+        scope.entry.frame.now scope.entry.at.region) progress reach.old.used) }
     ensures files { F.files files.new ≡ F.files files.old }
     ensures home { reach.new.home ≡ reach.old.home }
 {
     let mut after = progress;
     for pair in pairs.as_slice() {
-        after = fill_pair(alloc, pair, frame, at, after, files, reach)?;
+        after = fill_pair(alloc, pair, scope, after, files, reach)?;
     }
     Ok(after)
 }
@@ -300,21 +287,20 @@ fn fill_pairs<F: Files>(
 fn fill_items<F: Files>(
     alloc: Global,
     items: &List<Node>,
-    frame: &Frame,
-    at: Standing,
+    scope: Scope<'_>,
     progress: Progress,
     files: &mut F,
     reach: &mut Reach,
 ) -> Result<Progress, ExpandFault>
     ensures gives { GivesUsed result reach.new.used (items_behind (map part_of items.now) (scope_of
-        (followed at.calls (opens (F.files files.old) reach.old.home)) frame.now at.region) progress
-        reach.old.used) }
+        (followed scope.entry.at.calls (opens (F.files files.old) reach.old.home))
+        scope.entry.frame.now scope.entry.at.region) progress reach.old.used) }
     ensures files { F.files files.new ≡ F.files files.old }
     ensures home { reach.new.home ≡ reach.old.home }
 {
     let mut after = progress;
     for item in items.as_slice() {
-        after = fill_item(alloc, item, frame, at, after, files, reach)?;
+        after = fill_item(alloc, item, scope, after, files, reach)?;
     }
     Ok(after)
 }
@@ -324,15 +310,14 @@ fn fill_items<F: Files>(
 fn fill_item<F: Files>(
     alloc: Global,
     node: &Node,
-    frame: &Frame,
-    at: Standing,
+    scope: Scope<'_>,
     progress: Progress,
     files: &mut F,
     reach: &mut Reach,
 ) -> Result<Progress, ExpandFault>
     ensures gives { GivesUsed result reach.new.used (item_behind (part_of node.now) (scope_of
-        (followed at.calls (opens (F.files files.old) reach.old.home)) frame.now at.region) progress
-        reach.old.used) }
+        (followed scope.entry.at.calls (opens (F.files files.old) reach.old.home))
+        scope.entry.frame.now scope.entry.at.region) progress reach.old.used) }
     ensures files { F.files files.new ≡ F.files files.old }
     ensures home { reach.new.home ≡ reach.old.home }
 {
@@ -340,28 +325,19 @@ fn fill_item<F: Files>(
     let count = progress.count;
     match &node.body {
         NodeBody::Scalar(text) => {
-            let one = expand_scalar(alloc, text, frame, at, place, count, files, reach)?;
+            let one = expand_scalar(alloc, text, scope, place, count, files, reach)?;
             let progress = progress.at(Chain::Closed, one.count);
-            spread(alloc, frame, at, one.node, progress, files, reach)
+            spread(alloc, scope, one.node, progress, files, reach)
         }
         NodeBody::Seq(items) => {
             let count = enter(alloc, place, count)?;
             let begun = begin(alloc, Kind::Items, Chain::Closed, count);
-            let inner = fill_items(
-                alloc,
-                items,
-                frame,
-                at.inside().below()?,
-                begun,
-                files,
-                reach,
-            )?;
-            let list = finish(alloc, frame, place, inner)?;
-            put_alone(alloc, frame, at, list, progress, files, reach)
+            let inside = scope.inside().below()?;
+            let inner = fill_items(alloc, items, inside, begun, files, reach)?;
+            let list = finish(alloc, scope.frame, place, inner)?;
+            put_alone(alloc, scope, list, progress, files, reach)
         }
-        NodeBody::Map(pairs) => fill_mapping(
-            alloc, place, pairs, frame, at, progress, files, reach,
-        ),
+        NodeBody::Map(pairs) => fill_mapping(alloc, place, pairs, scope, progress, files, reach),
     }
 }
 
@@ -371,15 +347,14 @@ fn fill_mapping<F: Files>(
     alloc: Global,
     place: &Place,
     pairs: &List<NodePair>,
-    frame: &Frame,
-    at: Standing,
+    scope: Scope<'_>,
     progress: Progress,
     files: &mut F,
     reach: &mut Reach,
 ) -> Result<Progress, ExpandFault>
     ensures gives { GivesUsed result reach.new.used (mapping_item place.now (map entry_of pairs.now)
-        (scope_of (followed at.calls (opens (F.files files.old) reach.old.home)) frame.now
-        at.region) progress reach.old.used) }
+        (scope_of (followed scope.entry.at.calls (opens (F.files files.old) reach.old.home))
+        scope.entry.frame.now scope.entry.at.region) progress reach.old.used) }
     ensures files { F.files files.new ≡ F.files files.old }
     ensures home { reach.new.home ≡ reach.old.home }
 {
@@ -387,32 +362,23 @@ fn fill_mapping<F: Files>(
     match manner_of(alloc, pairs)? {
         Manner::Empty => {
             let begun = begin(alloc, Kind::Pairs, Chain::Closed, count);
-            let one = finish(alloc, frame, place, begun)?;
-            put_alone(alloc, frame, at, one, progress, files, reach)
+            let one = finish(alloc, scope.frame, place, begun)?;
+            put_alone(alloc, scope, one, progress, files, reach)
         }
         Manner::Stays => {
             let begun = begin(alloc, Kind::Pairs, progress.chain, count);
-            let inner_at = at.of_item().below()?;
-            let inner = fill_pairs(alloc, pairs, frame, inner_at, begun, files, reach)?;
+            let inside = scope.of_item().below()?;
+            let inner = fill_pairs(alloc, pairs, inside, begun, files, reach)?;
             let progress = progress.at(inner.chain, inner.count);
-            let one = finish(alloc, frame, place, inner)?;
-            add_item(alloc, frame, at, one.node, progress, files, reach)
+            let one = finish(alloc, scope.frame, place, inner)?;
+            add_item(alloc, scope, one.node, progress, files, reach)
         }
         Manner::Splices(kind) => {
             let begun = begin_spliced(alloc, kind, progress.chain, count);
-            let inner_at = at.of_item().below()?;
-            let inner = fill_pairs(alloc, pairs, frame, inner_at, begun, files, reach)?;
+            let inside = scope.of_item().below()?;
+            let inner = fill_pairs(alloc, pairs, inside, begun, files, reach)?;
             let progress = progress.at(inner.chain, inner.count);
-            splice(
-                alloc,
-                frame,
-                at,
-                place,
-                inner.content,
-                progress,
-                files,
-                reach,
-            )
+            splice(alloc, scope, place, inner.content, progress, files, reach)
         }
         Manner::Mixed(other) => {
             let first = complain(alloc, ExpandProblem::WrongKind, &other)?;

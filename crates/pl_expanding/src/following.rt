@@ -3,7 +3,6 @@ ghost use Rattle.pl_calls.specs.Calls.{seen};
 ghost use Rattle.pl_calls.specs.Gives.{GivesUsed};
 ghost use Rattle.pl_calls.specs.Reaching.{opens};
 ghost use Rattle.pl_directives.specs.Gives.{Gives};
-ghost use Rattle.pl_directives.specs.declared.region.Region.TheVariants.{Calls as InCalls};
 ghost use Rattle.pl_expanding.specs.Following.{scope_of};
 ghost use Rattle.pl_expanding.specs.Levels.{followed, frame_for, border};
 ghost use Rattle.pl_expanding.specs.Steps.{call_in, reached, found_in, filled_in};
@@ -11,6 +10,7 @@ ghost use Rattle.pl_expanding.specs.Steps.{call_in, reached, found_in, filled_in
 use crate::expanding::expand_node;
 use crate::followed::Followed;
 use crate::items::items_from;
+use crate::scope::Scope;
 use pl_base::{Crossing, DEEPEST, ExactCopy, List, MarkedNode, Memory, Node, NodePair, Place};
 use pl_calls::{
     Call, Files, Opened, Reach, Template, body_in, call_of, framed_by, node_in, open, template_in,
@@ -22,6 +22,16 @@ use std::alloc::Global;
 /// How many levels of templates may be called in one another.
 pub const MOST_LEVELS: u32 = 100;
 
+/// A call that is followed: the call itself, the frame of its caller, the form of the list that its
+/// item is of, and the count before it.
+#[derive(Drop)]
+struct Calling<'c> {
+    call: &'c Call<'c>,
+    frame: &'c Frame,
+    form: Form,
+    count: u32,
+}
+
 /// What the item of a call gives in its place, with so many levels left: its path and its arguments
 /// first.
 #[cycle(expansion)]
@@ -29,20 +39,26 @@ pub const MOST_LEVELS: u32 = 100;
 pub fn follow<F: Files>(
     alloc: Global,
     item: &MarkedNode,
-    frame: &Frame,
+    scope: Scope<'_>,
     form: Form,
-    levels: u32,
     count: u32,
     files: &mut F,
     reach: &mut Reach,
 ) -> Result<Followed, ExpandFault>
-    ensures followed { GivesUsed result reach.new.used (followed levels (opens (F.files
-        files.old) reach.old.home) frame.now form item.now count reach.old.used) }
+    ensures followed { GivesUsed result reach.new.used (followed scope.entry.at.calls (opens
+        (F.files files.old) reach.old.home) scope.entry.frame.now form item.now count
+        reach.old.used) }
     ensures files { F.files files.new ≡ F.files files.old }
     ensures home { reach.new.home ≡ reach.old.home }
 {
     let call = call_of(alloc, item)?;
-    descend(alloc, &call, frame, form, levels, count, files, reach)
+    let calling = Calling {
+        call: &call,
+        frame: scope.frame,
+        form,
+        count,
+    };
+    descend(alloc, &calling, scope.at.calls, files, reach)
 }
 
 /// One level more: X3 where none is left.
@@ -50,25 +66,23 @@ pub fn follow<F: Files>(
 #[tactic(auto, using(crate::proofs::Levels::reached_none, crate::proofs::Levels::reached_some))]
 fn descend<F: Files>(
     alloc: Global,
-    call: &Call<'_>,
-    frame: &Frame,
-    form: Form,
+    calling: &Calling<'_>,
     levels: u32,
-    count: u32,
     files: &mut F,
     reach: &mut Reach,
 ) -> Result<Followed, ExpandFault>
     ensures reached { GivesUsed result reach.new.used (reached levels (opens (F.files files.old)
-        reach.old.home) (call_in frame.now form (seen call.now) count) reach.old.used) }
+        reach.old.home) (call_in calling.now.frame.now calling.now.form (seen calling.now.call.now)
+        calling.now.count) reach.old.used) }
     ensures files { F.files files.new ≡ F.files files.old }
     ensures home { reach.new.home ≡ reach.old.home }
 {
     let Some(left) = levels.checked_sub(1) else {
-        let first = complain(alloc, ExpandProblem::NestedTooDeep, call.at)?;
+        let first = complain(alloc, ExpandProblem::NestedTooDeep, calling.call.at)?;
         return Err(ExpandFault::Refused(first));
     };
-    let opened = open(alloc, call.at, &call.path, files, reach)?;
-    enter_file(alloc, &opened, call, frame, form, left, count, files, reach)
+    let opened = open(alloc, calling.call.at, &calling.call.path, files, reach)?;
+    enter_file(alloc, &opened, calling, left, files, reach)
 }
 
 /// The file that the path led to.
@@ -76,34 +90,30 @@ fn descend<F: Files>(
 fn enter_file<F: Files>(
     alloc: Global,
     opened: &Opened,
-    call: &Call<'_>,
-    frame: &Frame,
-    form: Form,
+    calling: &Calling<'_>,
     left: u32,
-    count: u32,
     files: &mut F,
     reach: &mut Reach,
 ) -> Result<Followed, ExpandFault>
     ensures found { GivesUsed result reach.new.used (found_in opened.now left (opens (F.files
-        files.old) reach.old.home) (call_in frame.now form (seen call.now) count) reach.old.used) }
+        files.old) reach.old.home) (call_in calling.now.frame.now calling.now.form (seen
+        calling.now.call.now) calling.now.count) reach.old.used) }
     ensures files { F.files files.new ≡ F.files files.old }
     ensures home { reach.new.home ≡ reach.old.home }
 {
     let node = node_in(alloc, &opened.file)?;
     let pairs = template_in(alloc, node)?;
-    let body = body_in(alloc, form, &node.place, pairs)?;
-    let inner = frame_for(alloc, opened, left, pairs, call, frame)?;
-    fill(
-        alloc,
-        &node.place,
-        body,
-        &inner,
-        form,
-        left,
-        count,
-        files,
-        reach,
-    )
+    let body = body_in(alloc, calling.form, &node.place, pairs)?;
+    let inner = frame_for(alloc, opened, left, pairs, calling.call, calling.frame)?;
+    let scope = Scope {
+        frame: &inner,
+        at: Standing {
+            region: Region::Calls(calling.form),
+            levels: DEEPEST,
+            calls: left,
+        },
+    };
+    fill(alloc, &node.place, body, calling, scope, files, reach)
 }
 
 /// The frame of a called template.
@@ -151,25 +161,18 @@ fn fill<F: Files>(
     alloc: Global,
     place: &Place,
     body: &Node,
-    inner: &Frame,
-    form: Form,
-    left: u32,
-    count: u32,
+    calling: &Calling<'_>,
+    scope: Scope<'_>,
     files: &mut F,
     reach: &mut Reach,
 ) -> Result<Followed, ExpandFault>
-    ensures filled { GivesUsed result reach.new.used (filled_in place.now body.now form (scope_of
-        (followed left (opens (F.files files.old) reach.old.home)) inner.now (InCalls form)) count
-        reach.old.used) }
+    ensures filled { GivesUsed result reach.new.used (filled_in place.now body.now calling.now.form
+        (scope_of (followed scope.entry.at.calls (opens (F.files files.old) reach.old.home))
+        scope.entry.frame.now scope.entry.at.region) calling.now.count reach.old.used) }
     ensures files { F.files files.new ≡ F.files files.old }
     ensures home { reach.new.home ≡ reach.old.home }
 {
-    let count = enter(alloc, place, count)?;
-    let at = Standing {
-        region: Region::Calls(form),
-        levels: DEEPEST,
-        calls: left,
-    };
-    let one = expand_node(alloc, body, inner, at, count, files, reach)?;
-    items_from(alloc, form, &body.place, one)
+    let count = enter(alloc, place, calling.count)?;
+    let one = expand_node(alloc, body, scope, count, files, reach)?;
+    items_from(alloc, calling.form, &body.place, one)
 }

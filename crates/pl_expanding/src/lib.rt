@@ -9,9 +9,11 @@ mod following;
 mod items;
 mod putting;
 mod scalars;
+mod scope;
 mod settling;
 
 pub use expanding::{expand_node, expand_path, fill_pair};
 pub use followed::{Followed, SettledPairs};
 pub use following::MOST_LEVELS;
 pub use items::variable_items;
+pub use scope::Scope;

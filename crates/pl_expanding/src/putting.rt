@@ -11,12 +11,11 @@ ghost use Rattle.pl_expanding.specs.Levels.{followed};
 ghost use Rattle.pl_expanding.specs.Putting.{add_item, splice, spread};
 
 use crate::following::follow;
+use crate::scope::Scope;
 use pl_base::{ExactCopy, List, MarkedNode, MarkedPair, Place, Value};
 use pl_calls::{Files, Reach};
-use pl_directives::{
-    Chain, Content, Counted, ExpandFault, Progress, Standing, add_items, object_of,
-};
-use pl_frame::{Frame, literal_at};
+use pl_directives::{Chain, Content, Counted, ExpandFault, Progress, add_items, object_of};
+use pl_frame::literal_at;
 use std::alloc::Global;
 
 /// An item behind those that are there: a call is followed.
@@ -24,30 +23,21 @@ use std::alloc::Global;
 #[tactic(auto, using(crate::proofs::Alone::gives_alone))]
 pub fn add_item<F: Files>(
     alloc: Global,
-    frame: &Frame,
-    at: Standing,
+    scope: Scope<'_>,
     item: MarkedNode,
     progress: Progress,
     files: &mut F,
     reach: &mut Reach,
 ) -> Result<Progress, ExpandFault>
-    ensures added { GivesUsed result reach.new.used (add_item (scope_of (followed at.calls (opens
-        (F.files files.old) reach.old.home)) frame.now at.region) item progress reach.old.used) }
+    ensures added { GivesUsed result reach.new.used (add_item (scope_of (followed
+        scope.entry.at.calls (opens (F.files files.old) reach.old.home)) scope.entry.frame.now
+        scope.entry.at.region) item progress reach.old.used) }
     ensures files { F.files files.new ≡ F.files files.old }
     ensures home { reach.new.home ≡ reach.old.home }
 {
-    match at.region.call_form(&item) {
+    match scope.at.region.call_form(&item) {
         Some(form) => {
-            let more = follow(
-                alloc,
-                &item,
-                frame,
-                form,
-                at.calls,
-                progress.count,
-                files,
-                reach,
-            )?;
+            let more = follow(alloc, &item, scope, form, progress.count, files, reach)?;
             let progress = progress.counting(more.count);
             add_items(alloc, &item.origin.source, more.items, progress)
         }
@@ -69,22 +59,22 @@ fn put_item(alloc: Global, item: MarkedNode, progress: Progress) -> Result<Progr
 #[cycle(expansion)]
 pub fn put_alone<F: Files>(
     alloc: Global,
-    frame: &Frame,
-    at: Standing,
+    scope: Scope<'_>,
     one: Counted,
     progress: Progress,
     files: &mut F,
     reach: &mut Reach,
 ) -> Result<Progress, ExpandFault>
-    ensures added { GivesUsed result reach.new.used (add_item (scope_of (followed at.calls (opens
-        (F.files files.old) reach.old.home)) frame.now at.region) one.node (with_chain Closed
-        (with_count one.count progress)) reach.old.used) }
+    ensures added { GivesUsed result reach.new.used (add_item (scope_of (followed
+        scope.entry.at.calls (opens (F.files files.old) reach.old.home)) scope.entry.frame.now
+        scope.entry.at.region) one.node (with_chain Closed (with_count one.count progress))
+        reach.old.used) }
     ensures files { F.files files.new ≡ F.files files.old }
     ensures home { reach.new.home ≡ reach.old.home }
 {
     let Counted { node, count } = one;
     let progress = progress.at(Chain::Closed, count);
-    add_item(alloc, frame, at, node, progress, files, reach)
+    add_item(alloc, scope, node, progress, files, reach)
 }
 
 /// What directives alone put in an item's place, behind the items that are there: items as they
@@ -93,17 +83,16 @@ pub fn put_alone<F: Files>(
 #[tactic(auto, using(crate::proofs::Alone::gives_alone))]
 pub fn splice<F: Files>(
     alloc: Global,
-    frame: &Frame,
-    at: Standing,
+    scope: Scope<'_>,
     place: &Place,
     content: Content,
     progress: Progress,
     files: &mut F,
     reach: &mut Reach,
 ) -> Result<Progress, ExpandFault>
-    ensures added { GivesUsed result reach.new.used (splice (scope_of (followed at.calls (opens
-        (F.files files.old) reach.old.home)) frame.now at.region) (literal_at frame.now place.now)
-        content progress reach.old.used) }
+    ensures added { GivesUsed result reach.new.used (splice (scope_of (followed scope.entry.at.calls
+        (opens (F.files files.old) reach.old.home)) scope.entry.frame.now scope.entry.at.region)
+        (literal_at scope.entry.frame.now place.now) content progress reach.old.used) }
     ensures files { F.files files.new ≡ F.files files.old }
     ensures home { reach.new.home ≡ reach.old.home }
 {
@@ -111,7 +100,7 @@ pub fn splice<F: Files>(
         Content::Unknown => Ok(progress),
         Content::Items(items) => add_items(alloc, place, items, progress),
         Content::Pairs(pairs) => {
-            splice_pairs(alloc, frame, at, place, pairs, progress, files, reach)
+            splice_pairs(alloc, scope, place, pairs, progress, files, reach)
         }
     }
 }
@@ -119,26 +108,25 @@ pub fn splice<F: Files>(
 #[cycle(expansion)]
 fn splice_pairs<F: Files>(
     alloc: Global,
-    frame: &Frame,
-    at: Standing,
+    scope: Scope<'_>,
     place: &Place,
     pairs: List<MarkedPair>,
     progress: Progress,
     files: &mut F,
     reach: &mut Reach,
 ) -> Result<Progress, ExpandFault>
-    ensures added { GivesUsed result reach.new.used (splice (scope_of (followed at.calls (opens
-        (F.files files.old) reach.old.home)) frame.now at.region) (literal_at frame.now place.now)
-        (Pairs pairs) progress reach.old.used) }
+    ensures added { GivesUsed result reach.new.used (splice (scope_of (followed scope.entry.at.calls
+        (opens (F.files files.old) reach.old.home)) scope.entry.frame.now scope.entry.at.region)
+        (literal_at scope.entry.frame.now place.now) (Pairs pairs) progress reach.old.used) }
     ensures files { F.files files.new ≡ F.files files.old }
     ensures home { reach.new.home ≡ reach.old.home }
 {
     if pairs.is_empty() {
         return Ok(progress);
     }
-    let origin = literal_at(alloc, frame, place)?;
+    let origin = literal_at(alloc, scope.frame, place)?;
     let item = object_of(alloc, origin, pairs)?;
-    add_item(alloc, frame, at, item, progress, files, reach)
+    add_item(alloc, scope, item, progress, files, reach)
 }
 
 /// An expression's value as an item: an array's items stand in its place.
@@ -146,15 +134,15 @@ fn splice_pairs<F: Files>(
 #[tactic(auto, using(crate::proofs::Alone::gives_alone))]
 pub fn spread<F: Files>(
     alloc: Global,
-    frame: &Frame,
-    at: Standing,
+    scope: Scope<'_>,
     node: MarkedNode,
     progress: Progress,
     files: &mut F,
     reach: &mut Reach,
 ) -> Result<Progress, ExpandFault>
-    ensures added { GivesUsed result reach.new.used (spread (scope_of (followed at.calls (opens
-        (F.files files.old) reach.old.home)) frame.now at.region) node progress reach.old.used) }
+    ensures added { GivesUsed result reach.new.used (spread (scope_of (followed scope.entry.at.calls
+        (opens (F.files files.old) reach.old.home)) scope.entry.frame.now scope.entry.at.region)
+        node progress reach.old.used) }
     ensures files { F.files files.new ≡ F.files files.old }
     ensures home { reach.new.home ≡ reach.old.home }
 {
@@ -163,7 +151,7 @@ pub fn spread<F: Files>(
         Value::Array(items) => add_items(alloc, &origin.source, items, progress),
         value => {
             let node = MarkedNode { origin, value };
-            add_item(alloc, frame, at, node, progress, files, reach)
+            add_item(alloc, scope, node, progress, files, reach)
         }
     }
 }

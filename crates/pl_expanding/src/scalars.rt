@@ -8,12 +8,13 @@ ghost use Rattle.pl_expanding.specs.Following.{scope_of};
 ghost use Rattle.pl_expanding.specs.Levels.{followed};
 ghost use Rattle.pl_expanding.specs.Scalars.{whole_scalar, scalar_at, path_by, path_at};
 
+use crate::scope::Scope;
 use crate::settling::settle;
 use pl_base::{ExactCopy, MarkedNode, Memory, Place, Text, Value};
 use pl_calls::{Files, Reach};
 use pl_directives::{
-    Counted, ExpandFault, ExpandProblem, MadeKey, Standing, complain, counted_value_at, enter,
-    joined_scalar, key_by, plain_scalar,
+    Counted, ExpandFault, ExpandProblem, MadeKey, complain, counted_value_at, enter, joined_scalar,
+    key_by, plain_scalar,
 };
 use pl_frame::{Frame, literal_at};
 use pl_template::{ScalarForm, scalar_form};
@@ -24,21 +25,20 @@ use std::alloc::Global;
 fn whole_scalar<F: Files>(
     alloc: Global,
     inside: &Text,
-    frame: &Frame,
-    at: Standing,
+    scope: Scope<'_>,
     place: &Place,
     count: u32,
     files: &mut F,
     reach: &mut Reach,
 ) -> Result<Counted, ExpandFault>
     ensures whole { GivesUsed result reach.new.used (whole_scalar inside.now (scope_of (followed
-        at.calls (opens (F.files files.old) reach.old.home)) frame.now at.region) place.now count
-        reach.old.used) }
+        scope.entry.at.calls (opens (F.files files.old) reach.old.home)) scope.entry.frame.now
+        scope.entry.at.region) place.now count reach.old.used) }
     ensures files { F.files files.new ≡ F.files files.old }
     ensures home { reach.new.home ≡ reach.old.home }
 {
-    let one = counted_value_at(alloc, frame, place, inside, count)?;
-    settle(alloc, &one.node, frame, at, one.count, files, reach)
+    let one = counted_value_at(alloc, scope.frame, place, inside, count)?;
+    settle(alloc, &one.node, scope, one.count, files, reach)
 }
 
 /// A scalar where it stands: its text where no expression stands in it, the value of the one
@@ -48,26 +48,25 @@ fn whole_scalar<F: Files>(
 pub fn expand_scalar<F: Files>(
     alloc: Global,
     text: &Text,
-    frame: &Frame,
-    at: Standing,
+    scope: Scope<'_>,
     place: &Place,
     count: u32,
     files: &mut F,
     reach: &mut Reach,
 ) -> Result<Counted, ExpandFault>
     ensures scalar { GivesUsed result reach.new.used (scalar_at text.now (scope_of (followed
-        at.calls (opens (F.files files.old) reach.old.home)) frame.now at.region) place.now count
-        reach.old.used) }
+        scope.entry.at.calls (opens (F.files files.old) reach.old.home)) scope.entry.frame.now
+        scope.entry.at.region) place.now count reach.old.used) }
     ensures files { F.files files.new ≡ F.files files.old }
     ensures home { reach.new.home ≡ reach.old.home }
 {
     let count = enter(alloc, place, count)?;
     match scalar_form(alloc, text)? {
-        ScalarForm::Plain => Ok(plain_scalar(alloc, text, frame, place, count)?),
+        ScalarForm::Plain => Ok(plain_scalar(alloc, text, scope.frame, place, count)?),
         ScalarForm::Whole(inside) => {
-            whole_scalar(alloc, &inside, frame, at, place, count, files, reach)
+            whole_scalar(alloc, &inside, scope, place, count, files, reach)
         }
-        ScalarForm::Joined(pieces) => joined_scalar(alloc, &pieces, frame, place, count),
+        ScalarForm::Joined(pieces) => joined_scalar(alloc, &pieces, scope.frame, place, count),
         ScalarForm::Unclosed => {
             let first = complain(alloc, ExpandProblem::BadDirective, place)?;
             Err(ExpandFault::Refused(first))

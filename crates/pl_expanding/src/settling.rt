@@ -10,10 +10,10 @@ ghost use Rattle.pl_expanding.specs.Settling.{pairs_behind};
 use crate::followed::{Followed, SettledPairs, SettledValue};
 use crate::following::follow;
 use crate::items::{items_and, items_with, pairs_and};
+use crate::scope::Scope;
 use pl_base::{ExactCopy, List, MarkedNode, MarkedPair, Value};
 use pl_calls::{Files, Reach};
-use pl_directives::{Counted, ExpandFault, Standing};
-use pl_frame::Frame;
+use pl_directives::{Counted, ExpandFault};
 use std::alloc::Global;
 
 /// A node that an expression gave, where it stands: the calls in it are followed.
@@ -21,19 +21,18 @@ use std::alloc::Global;
 pub fn settle<F: Files>(
     alloc: Global,
     node: &MarkedNode,
-    frame: &Frame,
-    at: Standing,
+    scope: Scope<'_>,
     count: u32,
     files: &mut F,
     reach: &mut Reach,
 ) -> Result<Counted, ExpandFault>
     ensures settled { GivesUsed result reach.new.used (node_settling node.now (scope_of (followed
-        at.calls (opens (F.files files.old) reach.old.home)) frame.now at.region) count
-        reach.old.used) }
+        scope.entry.at.calls (opens (F.files files.old) reach.old.home)) scope.entry.frame.now
+        scope.entry.at.region) count reach.old.used) }
     ensures files { F.files files.new ≡ F.files files.old }
     ensures home { reach.new.home ≡ reach.old.home }
 {
-    let one = settle_value(alloc, &node.value, frame, at, count, files, reach)?;
+    let one = settle_value(alloc, &node.value, scope, count, files, reach)?;
     let origin = node.origin.copy(alloc)?;
     let node = MarkedNode {
         origin,
@@ -49,28 +48,27 @@ pub fn settle<F: Files>(
 fn settle_value<F: Files>(
     alloc: Global,
     value: &Value,
-    frame: &Frame,
-    at: Standing,
+    scope: Scope<'_>,
     count: u32,
     files: &mut F,
     reach: &mut Reach,
 ) -> Result<SettledValue, ExpandFault>
     ensures settled { GivesUsed result reach.new.used ((value_seen value.now).settled (scope_of
-        (followed at.calls (opens (F.files files.old) reach.old.home)) frame.now at.region) count
-        reach.old.used) }
+        (followed scope.entry.at.calls (opens (F.files files.old) reach.old.home))
+        scope.entry.frame.now scope.entry.at.region) count reach.old.used) }
     ensures files { F.files files.new ≡ F.files files.old }
     ensures home { reach.new.home ≡ reach.old.home }
 {
     match value {
         Value::Array(items) => {
-            let all = settle_items(alloc, items, frame, at.below()?, count, files, reach)?;
+            let all = settle_items(alloc, items, scope.below()?, count, files, reach)?;
             Ok(SettledValue {
                 value: Value::Array(all.items),
                 count: all.count,
             })
         }
         Value::Object(pairs) => {
-            let all = settle_pairs(alloc, pairs, frame, at.below()?, count, files, reach)?;
+            let all = settle_pairs(alloc, pairs, scope.below()?, count, files, reach)?;
             Ok(SettledValue {
                 value: Value::Object(all.pairs),
                 count: all.count,
@@ -87,15 +85,15 @@ fn settle_value<F: Files>(
 fn settle_items<F: Files>(
     alloc: Global,
     items: &List<MarkedNode>,
-    frame: &Frame,
-    at: Standing,
+    scope: Scope<'_>,
     count: u32,
     files: &mut F,
     reach: &mut Reach,
 ) -> Result<Followed, ExpandFault>
     ensures settled { GivesUsed result reach.new.used (items_behind (map node_seen items.now)
-        (scope_of (followed at.calls (opens (F.files files.old) reach.old.home)) frame.now
-        at.region) (record { items = []; count = count }) reach.old.used) }
+        (scope_of (followed scope.entry.at.calls (opens (F.files files.old) reach.old.home))
+        scope.entry.frame.now scope.entry.at.region) (record { items = []; count = count })
+        reach.old.used) }
     ensures files { F.files files.new ≡ F.files files.old }
     ensures home { reach.new.home ≡ reach.old.home }
 {
@@ -104,7 +102,7 @@ fn settle_items<F: Files>(
         count,
     };
     for item in items.as_slice() {
-        all = settle_item(alloc, item, frame, at, all, files, reach)?;
+        all = settle_item(alloc, item, scope, all, files, reach)?;
     }
     Ok(all)
 }
@@ -115,34 +113,24 @@ fn settle_items<F: Files>(
 fn settle_item<F: Files>(
     alloc: Global,
     item: &MarkedNode,
-    frame: &Frame,
-    at: Standing,
+    scope: Scope<'_>,
     before: Followed,
     files: &mut F,
     reach: &mut Reach,
 ) -> Result<Followed, ExpandFault>
     ensures settled { GivesUsed result reach.new.used (item_behind (node_seen item.now) (scope_of
-        (followed at.calls (opens (F.files files.old) reach.old.home)) frame.now at.region) before
-        reach.old.used) }
+        (followed scope.entry.at.calls (opens (F.files files.old) reach.old.home))
+        scope.entry.frame.now scope.entry.at.region) before reach.old.used) }
     ensures files { F.files files.new ≡ F.files files.old }
     ensures home { reach.new.home ≡ reach.old.home }
 {
-    match at.region.call_form(item) {
+    match scope.at.region.call_form(item) {
         Some(form) => {
-            let more = follow(
-                alloc,
-                item,
-                frame,
-                form,
-                at.calls,
-                before.count,
-                files,
-                reach,
-            )?;
+            let more = follow(alloc, item, scope, form, before.count, files, reach)?;
             Ok(items_with(before, more)?)
         }
         None => {
-            let one = settle(alloc, item, frame, at.inside(), before.count, files, reach)?;
+            let one = settle(alloc, item, scope.inside(), before.count, files, reach)?;
             Ok(items_and(before, one)?)
         }
     }
@@ -152,15 +140,15 @@ fn settle_item<F: Files>(
 fn settle_pairs<F: Files>(
     alloc: Global,
     pairs: &List<MarkedPair>,
-    frame: &Frame,
-    at: Standing,
+    scope: Scope<'_>,
     count: u32,
     files: &mut F,
     reach: &mut Reach,
 ) -> Result<SettledPairs, ExpandFault>
     ensures settled { GivesUsed result reach.new.used (pairs_behind (map pair_seen pairs.now)
-        (scope_of (followed at.calls (opens (F.files files.old) reach.old.home)) frame.now
-        at.region) (record { pairs = []; count = count }) reach.old.used) }
+        (scope_of (followed scope.entry.at.calls (opens (F.files files.old) reach.old.home))
+        scope.entry.frame.now scope.entry.at.region) (record { pairs = []; count = count })
+        reach.old.used) }
     ensures files { F.files files.new ≡ F.files files.old }
     ensures home { reach.new.home ≡ reach.old.home }
 {
@@ -169,7 +157,7 @@ fn settle_pairs<F: Files>(
         count,
     };
     for pair in pairs.as_slice() {
-        all = settle_pair(alloc, pair, frame, at, all, files, reach)?;
+        all = settle_pair(alloc, pair, scope, all, files, reach)?;
     }
     Ok(all)
 }
@@ -179,19 +167,18 @@ fn settle_pairs<F: Files>(
 fn settle_pair<F: Files>(
     alloc: Global,
     pair: &MarkedPair,
-    frame: &Frame,
-    at: Standing,
+    scope: Scope<'_>,
     before: SettledPairs,
     files: &mut F,
     reach: &mut Reach,
 ) -> Result<SettledPairs, ExpandFault>
     ensures settled { GivesUsed result reach.new.used (pair_behind (pair_seen pair.now) (scope_of
-        (followed at.calls (opens (F.files files.old) reach.old.home)) frame.now at.region) before
-        reach.old.used) }
+        (followed scope.entry.at.calls (opens (F.files files.old) reach.old.home))
+        scope.entry.frame.now scope.entry.at.region) before reach.old.used) }
     ensures files { F.files files.new ≡ F.files files.old }
     ensures home { reach.new.home ≡ reach.old.home }
 {
-    let at = at.under(&pair.key);
-    let one = settle(alloc, &pair.item, frame, at, before.count, files, reach)?;
+    let scope = scope.under(&pair.key);
+    let one = settle(alloc, &pair.item, scope, before.count, files, reach)?;
     Ok(pairs_and(alloc, before, pair, one)?)
 }

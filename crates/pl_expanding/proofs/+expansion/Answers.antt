@@ -1,4 +1,4 @@
-use Rattle.std.proofs.Common.{◌≡◌, ◌-◌, List, arith, rules}
+use Rattle.std.proofs.Common.{◌≡◌, List, arith}
 use Rattle.pl_base.specs.declared.value.MarkedNode.{MarkedNode}
 use Rattle.pl_base.specs.declared.value.Value.TheVariants as value
 use Rattle.pl_calls.specs.Reaching.{opens}

@@ -12,76 +12,76 @@ abbrev depth : ℕ → ℕ → ℕ → ℕ
 depth calls levels rank = 16 * (4294967296 * calls + levels) + rank
 
 abbrev pub decreases-settling::settle_value : goal.decreases-settling::settle_value
-decreases-settling::settle_value g l = depth l.at.calls l.at.levels 3
+decreases-settling::settle_value g l = depth l.scope.at.calls l.scope.at.levels 3
 
 abbrev pub decreases-settling::settle : goal.decreases-settling::settle
-decreases-settling::settle g l = depth l.at.calls l.at.levels 4
+decreases-settling::settle g l = depth l.scope.at.calls l.scope.at.levels 4
 
 abbrev pub decreases-settling::settle_item : goal.decreases-settling::settle_item
-decreases-settling::settle_item g l = depth l.at.calls l.at.levels 5
+decreases-settling::settle_item g l = depth l.scope.at.calls l.scope.at.levels 5
 
 abbrev pub decreases-settling::settle_pair : goal.decreases-settling::settle_pair
-decreases-settling::settle_pair g l = depth l.at.calls l.at.levels 5
+decreases-settling::settle_pair g l = depth l.scope.at.calls l.scope.at.levels 5
 
 abbrev pub decreases-settling::settle_items : goal.decreases-settling::settle_items
-decreases-settling::settle_items g l = depth l.at.calls l.at.levels 6
+decreases-settling::settle_items g l = depth l.scope.at.calls l.scope.at.levels 6
 
 abbrev pub decreases-settling::settle_pairs : goal.decreases-settling::settle_pairs
-decreases-settling::settle_pairs g l = depth l.at.calls l.at.levels 6
+decreases-settling::settle_pairs g l = depth l.scope.at.calls l.scope.at.levels 6
 
 abbrev pub decreases-scalars::whole_scalar : goal.decreases-scalars::whole_scalar
-decreases-scalars::whole_scalar g l = depth l.at.calls l.at.levels 5
+decreases-scalars::whole_scalar g l = depth l.scope.at.calls l.scope.at.levels 5
 
 abbrev pub decreases-scalars::expand_scalar : goal.decreases-scalars::expand_scalar
-decreases-scalars::expand_scalar g l = depth l.at.calls l.at.levels 6
+decreases-scalars::expand_scalar g l = depth l.scope.at.calls l.scope.at.levels 6
 
 abbrev pub decreases-putting::add_item : goal.decreases-putting::add_item
-decreases-putting::add_item g l = depth l.at.calls l.at.levels 3
+decreases-putting::add_item g l = depth l.scope.at.calls l.scope.at.levels 3
 
 abbrev pub decreases-putting::put_alone : goal.decreases-putting::put_alone
-decreases-putting::put_alone g l = depth l.at.calls l.at.levels 4
+decreases-putting::put_alone g l = depth l.scope.at.calls l.scope.at.levels 4
 
 abbrev pub decreases-putting::splice_pairs : goal.decreases-putting::splice_pairs
-decreases-putting::splice_pairs g l = depth l.at.calls l.at.levels 4
+decreases-putting::splice_pairs g l = depth l.scope.at.calls l.scope.at.levels 4
 
 abbrev pub decreases-putting::splice : goal.decreases-putting::splice
-decreases-putting::splice g l = depth l.at.calls l.at.levels 5
+decreases-putting::splice g l = depth l.scope.at.calls l.scope.at.levels 5
 
 abbrev pub decreases-putting::spread : goal.decreases-putting::spread
-decreases-putting::spread g l = depth l.at.calls l.at.levels 4
+decreases-putting::spread g l = depth l.scope.at.calls l.scope.at.levels 4
 
 abbrev pub decreases-expanding::expand_node : goal.decreases-expanding::expand_node
-decreases-expanding::expand_node g l = depth l.at.calls l.at.levels 7
+decreases-expanding::expand_node g l = depth l.scope.at.calls l.scope.at.levels 7
 
 abbrev pub decreases-expanding::fill_body : goal.decreases-expanding::fill_body
-decreases-expanding::fill_body g l = depth l.at.calls l.at.levels 7
+decreases-expanding::fill_body g l = depth l.scope.at.calls l.scope.at.levels 7
 
 abbrev pub decreases-expanding::expand_under : goal.decreases-expanding::expand_under
-decreases-expanding::expand_under g l = depth l.at.calls l.at.levels 8
+decreases-expanding::expand_under g l = depth l.scope.at.calls l.scope.at.levels 8
 
 abbrev pub decreases-expanding::fill_turns : goal.decreases-expanding::fill_turns
-decreases-expanding::fill_turns g l = depth l.at.calls l.at.levels 8
+decreases-expanding::fill_turns g l = depth l.scope.at.calls l.scope.at.levels 8
 
 abbrev pub decreases-expanding::fill_asked : goal.decreases-expanding::fill_asked
-decreases-expanding::fill_asked g l = depth l.at.calls l.at.levels 9
+decreases-expanding::fill_asked g l = depth l.scope.at.calls l.scope.at.levels 9
 
 abbrev pub decreases-expanding::fill_pair : goal.decreases-expanding::fill_pair
-decreases-expanding::fill_pair g l = depth l.at.calls l.at.levels 10
+decreases-expanding::fill_pair g l = depth l.scope.at.calls l.scope.at.levels 10
 
 abbrev pub decreases-expanding::fill_pairs : goal.decreases-expanding::fill_pairs
-decreases-expanding::fill_pairs g l = depth l.at.calls l.at.levels 11
+decreases-expanding::fill_pairs g l = depth l.scope.at.calls l.scope.at.levels 11
 
 abbrev pub decreases-expanding::fill_mapping : goal.decreases-expanding::fill_mapping
-decreases-expanding::fill_mapping g l = depth l.at.calls l.at.levels 7
+decreases-expanding::fill_mapping g l = depth l.scope.at.calls l.scope.at.levels 7
 
 abbrev pub decreases-expanding::fill_item : goal.decreases-expanding::fill_item
-decreases-expanding::fill_item g l = depth l.at.calls l.at.levels 8
+decreases-expanding::fill_item g l = depth l.scope.at.calls l.scope.at.levels 8
 
 abbrev pub decreases-expanding::fill_items : goal.decreases-expanding::fill_items
-decreases-expanding::fill_items g l = depth l.at.calls l.at.levels 9
+decreases-expanding::fill_items g l = depth l.scope.at.calls l.scope.at.levels 9
 
 abbrev pub decreases-following::follow : goal.decreases-following::follow
-decreases-following::follow g l = depth l.levels 0 2
+decreases-following::follow g l = depth l.scope.at.calls 0 2
 
 abbrev pub decreases-following::descend : goal.decreases-following::descend
 decreases-following::descend g l = depth l.levels 0 1
@@ -90,18 +90,18 @@ abbrev pub decreases-following::enter_file : goal.decreases-following::enter_fil
 decreases-following::enter_file g l = depth l.left 1002 1
 
 abbrev pub decreases-following::fill : goal.decreases-following::fill
-decreases-following::fill g l = depth l.left 1002 0
+decreases-following::fill g l = depth l.scope.at.calls l.scope.at.levels 8
 
 abbrev pub invariant-expanding::fill_items-loop-item :
     goal.invariant-expanding::fill_items-loop-item
 invariant-expanding::fill_items-loop-item g l = record {
   gives :
       items_behind (map part_of l.items)
-      (scope_of (followed l.at.calls (opens (g.F.Files.files l.fn.files) l.fn.reach.home))
-      l.frame l.at.region) l.fn.progress l.fn.reach.used
+      (scope_of (followed l.scope.at.calls (opens (g.F.Files.files l.fn.files) l.fn.reach.home))
+      l.scope.frame.now l.scope.at.region) l.fn.progress l.fn.reach.used
       ≡ items_behind (map part_of (drop l.item-index l.item-items))
-      (scope_of (followed l.at.calls (opens (g.F.Files.files l.fn.files) l.fn.reach.home))
-      l.frame l.at.region) l.after l.reach.used;
+      (scope_of (followed l.scope.at.calls (opens (g.F.Files.files l.fn.files) l.fn.reach.home))
+      l.scope.frame.now l.scope.at.region) l.after l.reach.used;
   files : g.F.Files.files l.files ≡ g.F.Files.files l.fn.files;
   home : l.reach.home ≡ l.fn.reach.home;
 }
@@ -111,11 +111,11 @@ abbrev pub invariant-expanding::fill_pairs-loop-pair :
 invariant-expanding::fill_pairs-loop-pair g l = record {
   gives :
       pairs_behind (map entry_of l.pairs)
-      (scope_of (followed l.at.calls (opens (g.F.Files.files l.fn.files) l.fn.reach.home))
-      l.frame l.at.region) l.fn.progress l.fn.reach.used
+      (scope_of (followed l.scope.at.calls (opens (g.F.Files.files l.fn.files) l.fn.reach.home))
+      l.scope.frame.now l.scope.at.region) l.fn.progress l.fn.reach.used
       ≡ pairs_behind (map entry_of (drop l.pair-index l.pair-items))
-      (scope_of (followed l.at.calls (opens (g.F.Files.files l.fn.files) l.fn.reach.home))
-      l.frame l.at.region) l.after l.reach.used;
+      (scope_of (followed l.scope.at.calls (opens (g.F.Files.files l.fn.files) l.fn.reach.home))
+      l.scope.frame.now l.scope.at.region) l.after l.reach.used;
   files : g.F.Files.files l.files ≡ g.F.Files.files l.fn.files;
   home : l.reach.home ≡ l.fn.reach.home;
 }
@@ -125,11 +125,11 @@ abbrev pub invariant-expanding::fill_turns-loop-item :
 invariant-expanding::fill_turns-loop-item g l = record {
   gives :
       turns l.steps.name (part_of l.node) l.steps.items
-      (scope_of (followed l.at.calls (opens (g.F.Files.files l.fn.files) l.fn.reach.home))
-      l.frame l.at.region) l.fn.progress l.fn.reach.used
+      (scope_of (followed l.scope.at.calls (opens (g.F.Files.files l.fn.files) l.fn.reach.home))
+      l.scope.frame.now l.scope.at.region) l.fn.progress l.fn.reach.used
       ≡ turns l.steps.name (part_of l.node) (drop l.item-index l.item-items)
-      (scope_of (followed l.at.calls (opens (g.F.Files.files l.fn.files) l.fn.reach.home))
-      l.frame l.at.region) l.after l.reach.used;
+      (scope_of (followed l.scope.at.calls (opens (g.F.Files.files l.fn.files) l.fn.reach.home))
+      l.scope.frame.now l.scope.at.region) l.after l.reach.used;
   files : g.F.Files.files l.files ≡ g.F.Files.files l.fn.files;
   home : l.reach.home ≡ l.fn.reach.home;
 }
@@ -139,11 +139,11 @@ abbrev pub invariant-settling::settle_items-loop-item :
 invariant-settling::settle_items-loop-item g l = record {
   gives :
       settling.items_behind (map node_seen l.items)
-      (scope_of (followed l.at.calls (opens (g.F.Files.files l.fn.files) l.fn.reach.home))
-      l.frame l.at.region) (record { items = []; count = l.count }) l.fn.reach.used
+      (scope_of (followed l.scope.at.calls (opens (g.F.Files.files l.fn.files) l.fn.reach.home))
+      l.scope.frame.now l.scope.at.region) (record { items = []; count = l.count }) l.fn.reach.used
       ≡ settling.items_behind (map node_seen (drop l.item-index l.item-items))
-      (scope_of (followed l.at.calls (opens (g.F.Files.files l.fn.files) l.fn.reach.home))
-      l.frame l.at.region) l.all l.reach.used;
+      (scope_of (followed l.scope.at.calls (opens (g.F.Files.files l.fn.files) l.fn.reach.home))
+      l.scope.frame.now l.scope.at.region) l.all l.reach.used;
   files : g.F.Files.files l.files ≡ g.F.Files.files l.fn.files;
   home : l.reach.home ≡ l.fn.reach.home;
 }
@@ -153,11 +153,11 @@ abbrev pub invariant-settling::settle_pairs-loop-pair :
 invariant-settling::settle_pairs-loop-pair g l = record {
   gives :
       settling.pairs_behind (map pair_seen l.pairs)
-      (scope_of (followed l.at.calls (opens (g.F.Files.files l.fn.files) l.fn.reach.home))
-      l.frame l.at.region) (record { pairs = []; count = l.count }) l.fn.reach.used
+      (scope_of (followed l.scope.at.calls (opens (g.F.Files.files l.fn.files) l.fn.reach.home))
+      l.scope.frame.now l.scope.at.region) (record { pairs = []; count = l.count }) l.fn.reach.used
       ≡ settling.pairs_behind (map pair_seen (drop l.pair-index l.pair-items))
-      (scope_of (followed l.at.calls (opens (g.F.Files.files l.fn.files) l.fn.reach.home))
-      l.frame l.at.region) l.all l.reach.used;
+      (scope_of (followed l.scope.at.calls (opens (g.F.Files.files l.fn.files) l.fn.reach.home))
+      l.scope.frame.now l.scope.at.region) l.all l.reach.used;
   files : g.F.Files.files l.files ≡ g.F.Files.files l.fn.files;
   home : l.reach.home ≡ l.fn.reach.home;
 }
