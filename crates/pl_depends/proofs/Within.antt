@@ -10,7 +10,7 @@ use Rattle.std.proofs.lemmas.Bool.{cases_lt}
 use Rattle.std.proofs.lemmas.List.{length-map, get_or_default}
 use Rattle.std.proofs.lemmas.List.Elements.{All-from_recursion, All-contains}
 use Rattle.std.proofs.lemmas.List.Elements.{Contains-get_or}
-use Rattle.pl_graph.proofs.Chains.{goes_on}
+use Rattle.pl_graph.proofs.Lists.{goes_on}
 use Rattle.pl_graph.specs.Graph.{AreEdges, DependsOn, IsCycle}
 use Rattle.pl_literal.specs.Booleans.{spells}
 use Rattle.pl_schema_parts.specs.declared.pipeline.DependSpec.{DependSpec}

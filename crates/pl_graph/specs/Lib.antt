@@ -1,4 +1,4 @@
-pub mod Adjacency
 pub mod Graph
 pub mod Placing
+pub mod Sets
 pub mod Walking

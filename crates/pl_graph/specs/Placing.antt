@@ -1,8 +1,8 @@
 -- What the functions inside say while they place node after node.
-use Rattle.std.specs.Prelude.{◌≡◌, ℕ, ◌+◌, ◌<◌, ◌==◌, ◌&&◌, ◌⊎◌, ◌↔◌, not, List, [], Contains}
-use Rattle.std.specs.Prelude.{count_by, map, length, slice_index}
-use Rattle.std.specs.List.{list_any}
+use Rattle.std.specs.Prelude.{◌≡◌, ℕ, ◌<◌, ◌⊎◌, ◌↔◌, true, false, List, [], Contains, map, length}
+use Rattle.std.specs.BTreeSet.{BTreeSet}
 use Rattle.pl_graph.specs.Graph.{DependsOn, InTurn, IsLeast}
+use Rattle.pl_graph.specs.Sets.{AreLeft, has, set_of}
 
 -- x is not placed, and all that it depends on is
 pub record IsReady (n : ℕ) (edges : List (ℕ × ℕ)) (placed : List ℕ) (x : ℕ) : Type 0 where
@@ -18,26 +18,34 @@ PlacesLeast n edges placed = InTurn (λ before. IsLeast (IsReady n edges before)
 abbrev pub reversed_of : List (ℕ × ℕ) → List (ℕ × ℕ)
 reversed_of edges = map (λ edge. (edge.1, edge.0)) edges
 
--- how many edges lead from x to nodes that are not placed
-abbrev pub missing_of : List (ℕ × ℕ) → List ℕ → ℕ → ℕ
-missing_of edges placed x =
-    count_by (λ edge. not (list_any (λ y. edge.1 == y) placed) && (edge.0 == x)) edges
+-- the node misses nothing
+abbrev pub MissesNone : List (BTreeSet ℕ) → ℕ → Type 0
+MissesNone missing x = (b : ℕ) → has (set_of missing x) b ≡ false
 
--- a count for each node: its edges to nodes that are not placed
-pub record CountsMissing (n : ℕ) (edges : List (ℕ × ℕ)) (placed missing : List ℕ) : Type 0 where
-  pub len : length missing ≡ n
-  pub is : (x : ℕ) → slice_index missing x ≡ missing_of edges placed x
+-- a set for each node: those on which it depends that are left, and none for a placed one
+pub record AreMissing (edges : List (ℕ × ℕ)) (left : BTreeSet ℕ) (missing : List (BTreeSet ℕ)) :
+    Type 0 where
+  pub each : (x b : ℕ) →
+      (has (set_of missing x) b ≡ true) ↔ (DependsOn edges x b × (has left b ≡ true))
+  pub waits : (x b : ℕ) → has (set_of missing x) b ≡ true → has left x ≡ true
 
--- each of the nodes has a missing dependency less, and those that have none left are ready now
-pub record Releases (nodes missing ready new_missing new_ready : List ℕ) : Type 0 where
-  pub len : length new_missing ≡ length missing
-  pub counts : (x : ℕ) →
-      slice_index new_missing x + count_by (λ y. y == x) nodes ≡ slice_index missing x
-  pub ready_is : (x : ℕ) → Contains new_ready x
-      ↔ (Contains ready x ⊎ ((0 < slice_index missing x) × (slice_index new_missing x ≡ 0)))
+-- none of the nodes misses y any longer, and all else stays
+pub record Forgets (y : ℕ) (nodes : List ℕ) (missing new : List (BTreeSet ℕ)) : Type 0 where
+  pub len : length new ≡ length missing
+  pub each : (x b : ℕ) → (has (set_of new x) b ≡ true)
+      ↔ ((has (set_of missing x) b ≡ true) × (b ≡ y → Contains nodes x → ⊥))
 
--- nodes were placed while any was ready
-pub record IsPlacement (n : ℕ) (edges : List (ℕ × ℕ)) (placed missing : List ℕ) : Type 0 where
+-- those of the nodes that miss nothing are ready as well
+pub record MakesReady (missing : List (BTreeSet ℕ)) (nodes : List ℕ) (ready new : BTreeSet ℕ) :
+    Type 0 where
+  pub each : (x : ℕ) →
+      (has new x ≡ true) ↔ ((has ready x ≡ true) ⊎ (Contains nodes x × MissesNone missing x))
+
+-- nodes were placed while any was ready; of those that are left each misses one
+pub record IsPlacement (n : ℕ) (edges : List (ℕ × ℕ)) (placed : List ℕ) (left : BTreeSet ℕ)
+    (missing : List (BTreeSet ℕ)) : Type 0 where
   pub least : PlacesLeast n edges placed
-  pub counts : CountsMissing n edges placed missing
-  pub whole : (x : ℕ) → x < n → slice_index missing x ≡ 0 → Contains placed x
+  pub taken : AreLeft n placed left
+  pub len : length missing ≡ n
+  pub missed : AreMissing edges left missing
+  pub waiting : (x : ℕ) → has left x ≡ true → MissesNone missing x → ⊥

@@ -1,7 +1,6 @@
-ghost use Rattle.std.specs.Prelude.{◌≡◌, ◌<◌, ◌≤◌, ℕ, IfErr, IfOk, List, MatchOption, OnOk, length};
-ghost use Rattle.std.specs.Prelude.{slice_index};
-ghost use Rattle.pl_graph.specs.Graph.{AreEdges, IsCanonicalCycle, IsCycle, IsLeast};
-ghost use Rattle.pl_graph.specs.Graph.{IsLeastTopological, OnCycle};
+ghost use Rattle.std.specs.Prelude.{◌≡◌, IfErr, IfOk, List, OnOk, length, ℕ};
+ghost use Rattle.pl_graph.specs.Graph.{AreEdges, IsCanonicalCycle, IsCycle, IsLeastTopological};
+ghost use Rattle.pl_graph.specs.Graph.{OnCycle};
 
 use crate::fault::GraphFault;
 use crate::placing::{Placement, place_nodes};
@@ -29,21 +28,16 @@ pub fn order(alloc: Global, n: u32, edges: &List<(u32, u32)>) -> Result<List<u32
     ensures canonical { IfErr result (λ fault.
         OnCycle fault (λ nodes. IsCanonicalCycle n edges.now nodes)) }
 {
-    let Placement { placed, missing } = place_nodes(alloc, n, edges.as_slice())?;
-    match first_waiting(&missing) {
+    let Placement {
+        placed,
+        left,
+        missing,
+    } = place_nodes(alloc, n, edges.as_slice())?;
+    match left.first() {
         None => Ok(List::from_vec(placed)),
         Some(first) => {
-            let cycle = canonical_cycle(alloc, n, edges.as_slice(), &missing, first as u32)?;
+            let cycle = canonical_cycle(alloc, n, &missing, *first)?;
             Err(GraphFault::Cycle(cycle))
         }
     }
-}
-
-/// The first node that misses a dependency.
-fn first_waiting(missing: &[usize]) -> Option<usize>
-    ensures { MatchOption result
-        ((x : ℕ) → slice_index missing.now x ≡ 0)
-        (λ first. IsLeast (λ x. 0 < slice_index missing.now x) first) }
-{
-    missing.iter().position(|count| *count > 0)
 }

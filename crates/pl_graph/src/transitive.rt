@@ -1,8 +1,8 @@
-ghost use Rattle.std.specs.Prelude.{◌<◌, ◌↔◌, ℕ, Contains, IfOk};
-ghost use Rattle.std.specs.BTreeSet.{keys};
+ghost use Rattle.std.specs.Prelude.{◌≡◌, ◌<◌, ◌↔◌, true, ℕ, IfOk, OnOk};
 ghost use Rattle.pl_graph.specs.Graph.{AreEdges, AreAncestors, DependsTransitively};
+ghost use Rattle.pl_graph.specs.Sets.{FindsMore, has};
 
-use crate::adjacency::{find_more, neighbors};
+use crate::sets::{members, neighbors, neighbors_of};
 use pl_base::{List, Memory};
 use std::alloc::Global;
 use std::collections::BTreeSet;
@@ -22,8 +22,7 @@ pub fn ancestors(
     ensures { IfOk result (λ nodes. AreAncestors edges.now node nodes) }
 {
     let found = reach(alloc, n, edges.as_slice(), node)?;
-    let nodes: Vec<u32> = found.iter().copied().collect(alloc)?;
-    Ok(List::from_vec(nodes))
+    Ok(List::from_vec(members(alloc, &found)?))
 }
 
 /// The transitive dependencies of a node.
@@ -31,25 +30,29 @@ fn reach(alloc: Global, n: u32, edges: &[(u32, u32)], node: u32) -> Result<BTree
     requires edges { AreEdges n edges.now }
     requires node { node < n }
     ensures { IfOk result (λ found. (b : ℕ) →
-        Contains (keys found) b ↔ DependsTransitively edges.now node b) }
+        (has found b ≡ true) ↔ DependsTransitively edges.now node b) }
 {
     let dependencies = neighbors(alloc, n, edges)?;
-    let mut nodes = Vec::new(alloc);
     let mut found = BTreeSet::new(alloc);
-    find_more(
-        &mut nodes,
-        &mut found,
-        dependencies[node as usize].as_slice(),
-    )?;
-    let mut at = 0;
-    while at < nodes.len() {
-        let next = nodes[at];
-        find_more(
-            &mut nodes,
-            &mut found,
-            dependencies[next as usize].as_slice(),
-        )?;
-        at += 1;
+    let mut todo = Vec::new(alloc);
+    let first = neighbors_of(alloc, &dependencies, node)?;
+    find_more(&mut found, &mut todo, &first)?;
+    while let Some(next) = todo.pop() {
+        let more = neighbors_of(alloc, &dependencies, next)?;
+        find_more(&mut found, &mut todo, &more)?;
     }
     Ok(found)
+}
+
+/// Those of the nodes that had not been found are found, and their own neighbors are to be found.
+fn find_more(found: &mut BTreeSet<u32>, todo: &mut Vec<u32>, nodes: &[u32]) -> Result<(), Memory>
+    ensures { OnOk result (FindsMore found.old todo.old.items nodes.now
+        found.new todo.new.items) }
+{
+    for node in nodes {
+        if found.insert(*node)? {
+            todo.push(*node)?;
+        }
+    }
+    Ok(())
 }

@@ -1,8 +1,8 @@
 ghost use Rattle.std.specs.Prelude.{◌≡◌, ◌<◌, ◌≤◌, ℕ, All, Contains, IfOk, length, slice_index};
-ghost use Rattle.pl_graph.specs.Graph.{AreEdges, IsCanonicalCycle, IsLeast, Remains};
-ghost use Rattle.pl_graph.specs.Walking.{IsTurned, IsWalk, ShowsRemaining};
+ghost use Rattle.pl_graph.specs.Placing.{MissesNone};
+ghost use Rattle.pl_graph.specs.Walking.{GoesOn, IsCycleFrom, IsNext, IsTurned, IsWalk};
 
-use crate::adjacency::neighbors;
+use crate::sets::all_nodes;
 use pl_base::{List, Memory};
 use std::alloc::Global;
 use std::collections::BTreeSet;
@@ -14,69 +14,52 @@ struct Walk {
     start: usize,
 }
 
-/// The cycle to which the walk from the first remaining node leads, turned to begin with its least
-/// node.
+/// The cycle to which the walk from the first node along the least missed nodes leads, turned to
+/// begin with its least node.
 pub fn canonical_cycle(
     alloc: Global,
     n: u32,
-    edges: &[(u32, u32)],
-    missing: &[usize],
+    missing: &[BTreeSet<u32>],
     first: u32,
 ) -> Result<List<u32>, Memory>
-    requires edges { AreEdges n edges.now }
     requires len { length missing.now ≡ n }
-    requires shows { ShowsRemaining n edges.now missing.now }
-    requires first { IsLeast (Remains n edges.now) first }
-    ensures { IfOk result (λ cycle. IsCanonicalCycle n edges.now cycle) }
+    requires goes_on { GoesOn n missing.now }
+    requires first { first < n }
+    requires waits { MissesNone missing.now first → ⊥ }
+    ensures { IfOk result (IsCycleFrom missing.now first) }
 {
-    let walk = walk_from(alloc, n, edges, missing, first)?;
+    let walk = walk_from(alloc, n, missing, first)?;
     let (_, around) = walk.nodes.as_slice().split_at(walk.start);
     let cycle = turned(alloc, around)?;
     Ok(List::from_vec(cycle))
 }
 
-/// The walk from the first remaining node along least remaining dependencies, until a node repeats.
-fn walk_from(
-    alloc: Global,
-    n: u32,
-    edges: &[(u32, u32)],
-    missing: &[usize],
-    first: u32,
-) -> Result<Walk, Memory>
-    requires edges { AreEdges n edges.now }
+/// The walk from the first node along the least missed nodes, until a node repeats.
+fn walk_from(alloc: Global, n: u32, missing: &[BTreeSet<u32>], first: u32) -> Result<Walk, Memory>
     requires len { length missing.now ≡ n }
-    requires shows { ShowsRemaining n edges.now missing.now }
-    requires first { IsLeast (Remains n edges.now) first }
-    ensures { IfOk result (λ walk. IsWalk n edges.now walk.nodes.items walk.start) }
+    requires goes_on { GoesOn n missing.now }
+    requires first { first < n }
+    requires waits { MissesNone missing.now first → ⊥ }
+    ensures { IfOk result (λ walk. IsWalk missing.now first walk.nodes.items walk.start) }
 {
-    let dependencies = neighbors(alloc, n, edges)?;
-    let mut seen = BTreeSet::new(alloc);
+    let mut unseen = all_nodes(alloc, n)?;
     let mut nodes = Vec::new(alloc);
     let mut node = first;
-    while !seen.contains(&node) {
-        seen.insert(node)?;
+    while unseen.remove(&node) {
         nodes.push(node)?;
-        node = least_waiting(n, missing, dependencies[node as usize].as_slice());
+        node = least_missed(missing, node);
     }
     let start = place_of(&nodes, node);
     Ok(Walk { nodes, start })
 }
 
-/// The least of the nodes that misses a dependency, or `n` where none does.
-fn least_waiting(n: u32, missing: &[usize], nodes: &[u32]) -> u32
-    requires len { length missing.now ≡ n }
-    requires within { All (λ x. x < n) nodes.now }
-    ensures lower { (k : ℕ) → k < length nodes.now →
-        0 < slice_index missing.now (slice_index nodes.now k) → result ≤ slice_index nodes.now k }
-    ensures is { result < n → Contains nodes.now result × (0 < slice_index missing.now result) }
+/// The least node that a node misses.
+fn least_missed(missing: &[BTreeSet<u32>], node: u32) -> u32
+    requires within { node < length missing.now }
+    requires waits { MissesNone missing.now node → ⊥ }
+    ensures { IsNext missing.now node result }
 {
-    let mut least = n;
-    for node in nodes {
-        if missing[*node as usize] > 0 && *node < least {
-            least = *node;
-        }
-    }
-    least
+    missing[node as usize].first().copied().unwrap_or(node)
 }
 
 /// The first place of a node that is among the nodes.

@@ -2,9 +2,7 @@
 use Rattle.std.proofs.Common.{◌≡◌, ℕ, zero, suc, ◌≤◌, List, [], ◌∷◌, ◌++◌, refl, sym, subst, arith}
 use Rattle.std.specs.List.{Contains}
 use Rattle.std.proofs.lemmas.List.Elements.{All-contains, Contains-append_left, Contains-push}
-use Rattle.pl_graph.proofs.Chains.{goes_on}
-use Rattle.pl_graph.proofs.Members.{Contains-head, Contains-tail}
-use Rattle.pl_graph.proofs.Turns.{once_head}
+use Rattle.pl_graph.proofs.Lists.{Contains-head, Contains-tail, goes_on, once_head}
 use Rattle.pl_graph.specs.Graph.{Chain, ClosedChain, IsCanonicalCycle, IsLeast}
 use Rattle.pl_graph.specs.Graph.{IsLeastDependency, Leads}
 

@@ -2,9 +2,8 @@
 use Rattle.std.proofs.Common.{◌≡◌, ℕ, ◌<◌, List, [], ◌∷◌, refl, subst, arith}
 use Rattle.std.specs.List.{All, Contains}
 use Rattle.std.proofs.lemmas.List.Elements.{All-contains}
-use Rattle.pl_graph.proofs.Chains.{goes_on}
-use Rattle.pl_graph.proofs.Members.{Contains-head}
-use Rattle.pl_graph.proofs.Remaining.{none_in_turn}
+use Rattle.pl_graph.proofs.Lists.{Contains-head, goes_on}
+use Rattle.pl_graph.proofs.Orders.{none_in_turn}
 use Rattle.pl_graph.specs.Graph.{AreEdges, DependsOn, IsCycle, IsTopological}
 use Rattle.pl_plan.proofs.LegEdges.{IsJobEdge}
 

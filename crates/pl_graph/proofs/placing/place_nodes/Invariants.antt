@@ -1,10 +1,9 @@
-use Rattle.std.proofs.Common.{◌-◌, length}
-use Rattle.std.specs.BTreeSet.{keys}
-use Rattle.pl_graph.proofs.Places.{IsPlacing}
+use Rattle.pl_graph.proofs.Common.{btree_set_len}
+use Rattle.pl_graph.proofs.Orders.{IsPlacing}
 use Rattle.pl_graph.proofs.placing.place_nodes.Given as goal
 
 abbrev pub invariant-loop-node : goal.invariant-loop-node
-invariant-loop-node l = IsPlacing l.n l.edges l.placed.items l.missing.items (keys l.ready)
+invariant-loop-node l = IsPlacing l.n l.edges l.placed.items l.left l.missing.items l.ready
 
 abbrev pub decreases-loop-node : goal.decreases-loop-node
-decreases-loop-node l = l.n - length l.placed.items
+decreases-loop-node l = btree_set_len l.left

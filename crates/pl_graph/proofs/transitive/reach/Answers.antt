@@ -1,59 +1,55 @@
-use Rattle.std.proofs.Common.{◌<◌, length, arith, rules, ◌∙◌, ap}
-use Rattle.std.proofs.lemmas.List.{get_or_default}
-use Rattle.pl_graph.specs.Adjacency.{neighbors_of}
-use Rattle.pl_graph.proofs.Found.{length_found, set_none}
-use Rattle.pl_graph.proofs.Reach.{found_within, reach_first, reach_more, reach_whole}
-use Rattle.pl_graph.proofs.Reach.{transitive_within}
+use Rattle.pl_graph.proofs.Common.{◌≡◌, ◌++◌, ◌∷◌, [], arith, length, rules}
+use Rattle.pl_graph.proofs.Orders.{neighbor_list}
+use Rattle.pl_graph.proofs.Searches.{IsReach, next_within, reach_first, reach_length, reach_more}
+use Rattle.pl_graph.proofs.Searches.{reach_whole}
 use Rattle.pl_graph.proofs.transitive.reach.Goals as goal
+use Rattle.pl_graph.proofs.transitive.reach.Goals.{In-Some, In_ok-find_more-2}
 
-pub find_more-requires : goal.find_more-requires
-find_more-requires c = rw c.new-nodes.ensures.items (set_none c.new-found.result (search rules)
-    c.new-found.ensures.ordered)
-
-pub loop-at-init : goal.loop-at-init
-loop-at-init c =
-    let nodes = c.as_slice.ensures ∙ c.index.ensures
-    ∙ c.in_ok-dependencies.ensures.each c.args.node _ c.requires.node in
+pub loop-next-init : goal.loop-next-init
+loop-next-init c =
+    let list = rw c.deref.ensures.value at c.in_ok-first.ensures in
+    let f = rw (c.new-todo.ensures.items, c.deref-2.ensures.value) at c.in_ok-find_more.ensures in
     record {
-      reach =
-          reach_first (rw (c.new-nodes.ensures.items, nodes) at c.in_ok-find_more.ensures.finds);
-      set = c.in_ok-find_more.ensures.set;
+      reach = reach_first c.new-found.ensures.empty
+          (neighbor_list c.in_ok-dependencies.ensures list) f;
+      ordered = f.ordered c.new-found.ensures.ordered;
     }
 
-pub index-requires-in-loop-at : goal.index-requires-in-loop-at
-index-requires-in-loop-at c =
-    let below : c.loop-at.at < length c.loop-at.nodes.items = search rules in
-    let h = found_within c.requires.edges c.loop-at.invariant.reach below in
-    let here = c.index-next.ensures ∙ get_or_default c.loop-at.nodes.items c.loop-at.at _ 0 below in
-    let l = c.in_ok-dependencies.ensures.len in
-    search rules
+popped : (c : In-Some) → IsReach c.args.edges.now c.args.node c.loop-next.found
+    (c.pop.new.self.items ++ c.in-Some.next ∷ [])
+popped c = rw c.in-Some.ensures.items at c.loop-next.invariant.reach
 
-pub loop-at-preserved : goal.loop-at-preserved
-loop-at-preserved c =
-    let below : c.loop-at.at < length c.loop-at.nodes.items = search rules in
-    let x = c.index-next.result.now in
-    let here = c.index-next.ensures ∙ get_or_default c.loop-at.nodes.items c.loop-at.at x 0 below in
-    let h = found_within c.requires.edges c.loop-at.invariant.reach below in
-    let nodes = c.as_slice-in-loop-at.ensures ∙ c.index-in-loop-at.ensures
-    ∙ c.in_ok-dependencies.ensures.each x _ (omega arith)
-    ∙ ap (neighbors_of c.args.edges.now) here in
-    record {
-      reach = reach_more c.loop-at.invariant.reach below
-          (rw nodes at c.in_ok-find_more-2.ensures.finds);
-      set = c.in_ok-find_more-2.ensures.set;
-    }
+pub neighbors_of-requires-in-Some : goal.neighbors_of-requires-in-Some
+neighbors_of-requires-in-Some c =
+    let within =
+    next_within _ _ c.requires.edges (popped (goal.at.neighbors_of-requires-in-Some c).In-Some) in
+    let len = c.in_ok-dependencies.ensures.len in
+    rw c.deref-in-Some.ensures.value (omega arith)
 
-pub loop-at-smaller : goal.loop-at-smaller
-loop-at-smaller c =
-    let r = c.loop-at.invariant.reach in
-    let most = length_found c.args.n c.loop-at.nodes.items c.loop-at.found c.loop-at.invariant.set
-    (λ b h. transitive_within c.args.n c.args.edges.now c.args.node b c.requires.edges
-    (r.sound b h)) in
-    let below : c.loop-at.at < length c.loop-at.nodes.items = search rules in
-    omega arith
+more : (c : In_ok-find_more-2) → IsReach c.args.edges.now c.args.node
+    c.find_more-in-Some.new.found c.find_more-in-Some.new.todo.items
+more c =
+    let list = rw c.deref-in-Some.ensures.value at c.in_ok-more.ensures in
+    let f = rw c.deref-in-Some-2.ensures.value at c.in_ok-find_more-2.ensures in
+    reach_more c.in-Some.next (rw c.in-Some.ensures.items at c.loop-next.invariant.reach)
+    (neighbor_list c.in_ok-dependencies.ensures list) f
+
+pub loop-next-smaller : goal.loop-next-smaller
+loop-next-smaller c =
+    let f = c.in_ok-find_more-2.ensures in
+    let was = reach_length c.requires.edges c.loop-next.invariant.reach
+    c.loop-next.invariant.ordered in
+    let now = reach_length c.requires.edges (more (goal.at.loop-next-smaller c).In_ok-find_more-2)
+    (f.ordered c.loop-next.invariant.ordered) in
+    omega (arith, f.len, c.in-Some.ensures.len)
+
+pub loop-next-preserved : goal.loop-next-preserved
+loop-next-preserved c = record {
+  reach = more (goal.at.loop-next-preserved c).In_ok-find_more-2;
+  ordered = c.in_ok-find_more-2.ensures.ordered c.loop-next.invariant.ordered;
+}
 
 pub returns : goal.returns
-returns c = λ b.
-    let all = reach_whole c.loop-at.invariant.reach (search rules) b in
-    let is = c.loop-at.invariant.set.is b in
-    (λ h. all.0 (is.0 h), λ h. is.1 (all.1 h))
+returns c =
+    let none : length c.loop-next.todo.items ≡ 0 = search rules in
+    reach_whole c.loop-next.invariant.reach none

@@ -1,4 +1,4 @@
-use Rattle.std.proofs.Common.{◌∙◌, ap, drop}
+use Rattle.pl_graph.proofs.Common.{◌∙◌, ap, drop}
 use Rattle.pl_graph.proofs.Walks.{canonical}
 use Rattle.pl_graph.proofs.walking.canonical_cycle.Goals as goal
 

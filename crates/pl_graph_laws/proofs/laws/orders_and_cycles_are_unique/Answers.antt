@@ -1,4 +1,4 @@
-use Rattle.pl_graph.proofs.Remaining.{not_both}
+use Rattle.pl_graph.proofs.Orders.{not_both}
 use Rattle.pl_graph_laws.proofs.OneCycle.{one_cycle}
 use Rattle.pl_graph_laws.proofs.OneOrder.{one_order}
 use Rattle.pl_graph_laws.proofs.laws.orders_and_cycles_are_unique.Goals as goal
