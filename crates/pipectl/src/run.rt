@@ -23,7 +23,8 @@ use std::alloc::Global;
 const USAGE: &[u8] = b"usage: pipectl replay, serve, compile or rehearse\n";
 
 /// Runs the command that the words are.
-///  `replay --admin HEX` answers the messages of the source on the sink, as one session of a
+///
+/// `replay --admin HEX` answers the messages of the source on the sink, as one session of a
 /// service whose admin's token has the SHA-256 digest HEX: 0 where the source was read to its end
 /// between messages, 9 where it ended inside a message or isn't messages, 10 where 67,108,864 bytes
 /// were taken, 1 and 3 where a read or a write failed, 6 where memory was wanting. `compile`, with

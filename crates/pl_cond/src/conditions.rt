@@ -84,7 +84,8 @@ fn holds(alloc: Global, plan: &Plan, view: &RunView, node: PlanNode) -> Result<b
 
 /// Whether a stage is to run, asked once those for which it waits have ended (Microsoft Learn,
 /// Azure Pipelines, "Specify conditions" and "Expressions").
-///  `stage` is its place in the plan, and `view` how the run stands. The value of its condition
+///
+/// `stage` is its place in the plan, and `view` how the run stands. The value of its condition
 /// counts by its cast to Boolean, and a fault in it counts as false; without a condition it is
 /// `succeeded()`. It sees
 ///
@@ -116,7 +117,8 @@ pub fn stage_condition(
 }
 
 /// Whether a job is to run, asked once the jobs of its stage for which it waits have ended.
-///  `stage` is its stage's place in the plan and `job` its own in that stage, where each leg of a
+///
+/// `stage` is its stage's place in the plan and `job` its own in that stage, where each leg of a
 /// job has one. As for a stage, except that `dependencies.J` are the jobs of its stage for which it
 /// waits directly, with outputs by `step.variable`, `leg.step.variable` and, for a deployment,
 /// `J.step.variable`; that it sees `stageDependencies.S.J` besides, for the stages S for which its

@@ -22,7 +22,8 @@ use pl_expr::{Expr, Function, loosely_equal, to_bool};
 use std::alloc::Global;
 
 /// The value of an expression and where it comes from.
-///  `here` is the origin of the values that the expression makes: literals, results of functions,
+///
+/// `here` is the origin of the values that the expression makes: literals, results of functions,
 /// the arrays of projections and of `split` with its texts, the Null of a look-up without a match
 /// and of `coalesce` without a value. Roots, look-ups, `iif` and `coalesce` hand values on with the
 /// origins that they have. In a tree that the grammar never gives, an argument that is missing up

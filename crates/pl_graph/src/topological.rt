@@ -15,7 +15,8 @@ use std::alloc::Global;
 /// twice.
 ///
 /// # Errors
-///  `Cycle` exactly where the edges have a cycle, with the canonical one: nodes without remaining
+///
+/// `Cycle` exactly where the edges have a cycle, with the canonical one: nodes without remaining
 /// dependencies are taken away while there are any; from the least remaining node the least
 /// remaining dependency is followed until a node repeats; the cycle from there is turned to begin
 /// with its least node. `Memory` where memory was refused.

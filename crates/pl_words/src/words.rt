@@ -12,7 +12,8 @@ use pl_base::Memory;
 use std::alloc::Global;
 
 /// The command that the words are, if they are one.
-///  `replay` and the option `--admin`; or `compile` and, as often as wanted, the option `--param`,
+///
+/// `replay` and the option `--admin`; or `compile` and, as often as wanted, the option `--param`,
 /// each time with another name. An option's value is the next word, which doesn't begin with `-`,
 /// or stands behind `=`. The value of `--param` is cut at its first `=`, and what stands before it
 /// is the name, which isn't empty. Memory where memory is wanting for the arguments of `compile`.
