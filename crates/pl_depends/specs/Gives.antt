@@ -1,5 +1,6 @@
 -- What a call gives, by what is meant.
 use Rattle.std.specs.Prelude.{◌≡◌, List, [], ◌∷◌, ◌++◌, Option, Some, None, Result, Ok, Err}
+use Rattle.pl_reading.specs.Answers as answers
 use Rattle.pl_base.specs.declared.place.Place.{Place}
 use Rattle.pl_depends.specs.declared.fault.PlanCode.{PlanCode}
 use Rattle.pl_depends.specs.declared.fault.PlanFault.{PlanFault}
@@ -10,15 +11,18 @@ use Rattle.pl_reading.specs.Steps.{◌>>=◌}
 abbrev pub Fault : Type 0
 Fault = PlanCode × Place
 
+-- what a refusal tells; want of memory tells nothing
+abbrev pub told : PlanFault → Option Fault
+told Memory = None
+told (Refused code place) = Some (code, place)
+
 -- a refusal is the fault that is meant, and want of memory is free
 abbrev pub Refuses : {X : Type 0} → PlanFault → Result X Fault → Type 0
-Refuses Memory meant = Unit {0}
-Refuses (Refused code place) meant = meant ≡ Err (code, place)
+Refuses fault meant = answers.Tells (told fault) meant
 
 -- a value is what is meant
 abbrev pub Gives : {X : Type 0} → Result X PlanFault → Result X Fault → Type 0
-Gives (Ok value) meant = meant ≡ Ok value
-Gives (Err fault) meant = Refuses fault meant
+Gives answer meant = answers.Gives told (λ value. value) answer meant
 
 -- a refusal with this code at this place
 abbrev pub IsRefusal : PlanFault → PlanCode → Place → Type 0

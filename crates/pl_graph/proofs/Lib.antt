@@ -1,6 +1,7 @@
 pub mod Common
 pub mod Lists
-pub mod Nodes
+pub mod Members
 pub mod Orders
+pub mod Placements
 pub mod Searches
 pub mod Walks

@@ -1,12 +1,21 @@
 -- Lists: what they contain, in which no node comes twice, facts that hold of each node in its turn,
 -- and chains.
-use Rattle.pl_graph.proofs.Common.{◌≡◌, zero, suc, ◌⊎◌, inl, inr, List, ◌∷◌, ◌++◌, refl, subst}
-use Rattle.pl_graph.proofs.Common.{arith, Contains, Contains-append_right, ℕ, ◌<◌, ◌≤◌, ⊎_elim, []}
-use Rattle.pl_graph.proofs.Common.{cond, ap, ◌∙◌, append_assoc, count_by, cases_eq, cases_lt}
-use Rattle.pl_graph.proofs.Common.{eq-eqb, nat_tests, append-nil, get_or-le-sum_by, sum_by-append}
-use Rattle.pl_graph.proofs.Common.{sum_by-cons, sum_by_push, Contains-push_cases}
-use Rattle.std.proofs.Common.{eqb}
-use Rattle.pl_graph.specs.Graph.{EachOnce, InTurn, Chain, ClosedChain, Leads}
+use Rattle.pl_graph.proofs.Common.{Chain, ClosedChain, Contains, Contains-append_left}
+use Rattle.pl_graph.proofs.Common.{Contains-append_right, Contains-push, Contains-push_cases}
+use Rattle.pl_graph.proofs.Common.{Decides-eqb, EachOnce, InTurn, Leads, List, [], append-nil}
+use Rattle.pl_graph.proofs.Common.{append_assoc, arith, cases_Bool, eqb, false≢true}
+use Rattle.pl_graph.proofs.Common.{get_or-append-add, get_or_append_left, get_or_default, inl, inr}
+use Rattle.pl_graph.proofs.Common.{length, length-append, list_any, refl, subst, suc, sym, zero}
+use Rattle.pl_graph.proofs.Common.{◌++◌, ◌+◌, ◌<◌, ◌↔◌, ◌∙◌, ◌∷◌, ◌≡◌, ◌≢◌, ◌≤◌, ◌⊎◌, ℕ, ⊎_elim}
+use Rattle.std.proofs.Math.Seq.{get_or-append_seam}
+use Rattle.std.proofs.lemmas.Cmp.{nat_eq_equiv}
+use Rattle.std.proofs.lemmas.List.Quantifiers.{all_pairs_push}
+use Rattle.std.proofs.lemmas.List.Sorted.{IsPermutation-append_comm}
+use Rattle.std.proofs.lemmas.Map.Keys.{IsDistinct-IsPermutation}
+use Rattle.std.proofs.lemmas.Map.Made.{AllPairs-from_IsDistinct, IsDistinct-from_AllPairs}
+use Rattle.std.proofs.lemmas.Map.Made.{is_member-Decides}
+use Rattle.std.proofs.lemmas.Map.Steps.{le-length_from_below, length-le_from_distinct_below}
+use Rattle.std.specs.Bool.{Decides}
 
 -- ---- what a list contains
 
@@ -27,56 +36,58 @@ Contains-here xs ys x = Contains-append_right xs (x ∷ ys) x (Contains-head x y
 pub Contains-same : {X : Type 0} (xs ys : List X) (x : X) → xs ≡ ys → Contains xs x → Contains ys x
 Contains-same {X} xs ys x e h = let P : List X → Type 0 = λ zs. Contains zs x in subst P e h
 
+pub pushed : {X : Type 0} (xs : List X) (y x : X) →
+    Contains (xs ++ y ∷ []) x ↔ (Contains xs x ⊎ (y ≡ x))
+pushed xs y x = (
+  Contains-push_cases xs y x,
+  ⊎_elim (Contains-append_left xs (y ∷ []) x) (λ e. rw (← e) (Contains-push xs y)),
+)
+
 -- ---- no node twice, and each in its turn
 
--- 1 for x, 0 for another node
-abbrev pub one_at : ℕ → ℕ → ℕ
-one_at x y = cond (eqb y x) 1 0
-
-one : (x : ℕ) → ◌≡◌ {A = ℕ} (one_at x x) 1
-one x = ap (λ t. cond t 1 0) (eq-eqb x x refl)
-
-had_count : (xs : List ℕ) (x : ℕ) → Contains xs x → 0 < count_by (λ y. eqb y x) xs
-had_count xs x (k, below, is) =
-    let h = get_or-le-sum_by (one_at x) xs k x below in
-    let here = ap (one_at x) is ∙ one x in
-    omega arith
-
-contained : (xs : List ℕ) (x : ℕ) → 0 < count_by (λ y. eqb y x) xs → Contains xs x
-contained [] x some = absurd (omega arith)
-contained (y ∷ xs) x some =
-    ⊎_elim (λ same. (0, omega arith, same))
-    (λ ne. let sum = sum_by-cons (one_at x) y xs in
-    let none : one_at x y ≤ 0 = grind (arith, nat_tests) in
-    let (k, below, is) = contained xs x (omega arith) in (suc k, omega arith, is))
-    (cases_eq y x)
-
-pub once_push : (xs : List ℕ) (y : ℕ) → EachOnce xs → (Contains xs y → ⊥) →
-    EachOnce (xs ++ y ∷ [])
-once_push xs y once absent x =
-    let push = sum_by_push (one_at x) xs y in
-    let had = once x in
-    ⊎_elim
-    (λ e. ⊎_elim (λ some. absurd (absent (rw e (contained xs x some))))
-    (λ none. let one : one_at x y ≤ 1 = grind (arith, nat_tests) in omega arith)
-    (cases_lt 0 (count_by (λ z. eqb z x) xs)))
-    (λ ne. let none : one_at x y ≤ 0 = grind (arith, nat_tests) in omega arith)
-    (cases_eq y x)
-
 pub once_before : (xs ys : List ℕ) (y : ℕ) → EachOnce (xs ++ y ∷ ys) → Contains xs y → ⊥
-once_before xs ys y once had =
-    let all = sum_by-append (one_at y) xs (y ∷ ys) in
-    let here = sum_by-cons (one_at y) y ys in
-    let some = had_count xs y had in
-    let most = once y in
-    omega (arith, one y)
+once_before xs ys y once (k, below, is) =
+    once k (length xs) y below (omega (arith, length-append xs (y ∷ ys)))
+    (get_or_append_left xs (y ∷ ys) y k below ∙ is ∙ sym (get_or-append_seam xs y ys y))
 
 pub once_head : (xs : List ℕ) (y : ℕ) → EachOnce (y ∷ xs) → Contains xs y → ⊥
-once_head xs y once had =
-    let here = sum_by-cons (one_at y) y xs in
-    let some = had_count xs y had in
-    let most = once y in
-    omega (arith, one y)
+once_head xs y once (k, below, is) = once 0 (suc k) y (omega arith) (omega arith) (sym is)
+
+pub decided : (xs : List ℕ) (x : ℕ) → Contains xs x ⊎ (Contains xs x → ⊥)
+decided xs x =
+    let tells = is_member-Decides Decides-eqb xs x in
+    ⊎_elim (λ h. inl (tells.0 h)) (λ h. inr (λ had. false≢true (sym h ∙ tells.1 had)))
+    (cases_Bool (list_any (eqb x) xs))
+
+pub once_push : (xs : List ℕ) (y : ℕ) → EachOnce xs → (Contains xs y → ⊥) → EachOnce (xs ++ y ∷ [])
+once_push xs y once absent =
+    all_pairs_push (λ x z. x ≢ z) xs y once (λ k d below same.
+    absent (k, below, get_or_default xs k y d below ∙ same))
+
+pub once_drop : (xs ys : List ℕ) → EachOnce (xs ++ ys) → EachOnce ys
+once_drop xs ys once i j d low high same =
+    once (length xs + i) (length xs + j) d (omega arith) (omega (arith, length-append xs ys))
+    (get_or-append-add xs ys i d ∙ same ∙ sym (get_or-append-add xs ys j d))
+
+pub once_turn : (xs ys : List ℕ) → EachOnce (xs ++ ys) → EachOnce (ys ++ xs)
+once_turn xs ys once =
+    AllPairs-from_IsDistinct Decides-eqb _ (IsDistinct-IsPermutation eqb nat_eq_equiv.symm _ _
+    (IsPermutation-append_comm xs ys) (IsDistinct-from_AllPairs Decides-eqb _ once))
+
+-- nodes below n, each once, are at most n, and exactly so many where they are all of these
+module _ (n : ℕ) (nodes : List ℕ) (once : EachOnce nodes) where
+  tells : (x : ℕ) → Decides (list_any (eqb x) nodes) (Contains nodes x)
+  tells = is_member-Decides Decides-eqb nodes
+
+  pub once_most : ((x : ℕ) → Contains nodes x → x < n) → length nodes ≤ n
+  once_most below =
+      length-le_from_distinct_below nodes n (IsDistinct-from_AllPairs Decides-eqb nodes once)
+      (λ x h. below x ((tells x).0 h))
+
+  pub once_length : ((x : ℕ) → Contains nodes x ↔ (x < n)) → length nodes ≡ n
+  once_length members =
+      let most = once_most (λ x. (members x).0) in
+      let least = le-length_from_below nodes n (λ x h. (tells x).1 ((members x).1 h)) in omega arith
 
 -- ---- in turn
 
@@ -92,6 +103,19 @@ module _ (P : List ℕ → ℕ → Type 0) where
   turn_weaker Q implies before [] all = tt
   turn_weaker Q implies before (x ∷ xs) all =
       (implies before x all.0, turn_weaker Q implies (before ++ x ∷ []) xs all.1)
+
+pub all_in_turn : (Q : ℕ → Type 0) (before xs : List ℕ) → InTurn (λ front x. Q x) before xs →
+    (x : ℕ) → Contains xs x → Q x
+all_in_turn Q before [] all x (k, below, is) = absurd (omega arith)
+all_in_turn Q before (y ∷ ys) all x (zero, below, is) = rw is at all.0
+all_in_turn Q before (y ∷ ys) all x (suc k, below, is) =
+    all_in_turn Q (before ++ y ∷ []) ys all.1 x (k, omega arith, is)
+
+pub once_in_turn : (before xs : List ℕ) → EachOnce before →
+    InTurn (λ front x. Contains front x → ⊥) before xs → EachOnce (before ++ xs)
+once_in_turn before [] once all = rw append-nil once
+once_in_turn before (x ∷ xs) once all =
+    rw append_assoc at (once_in_turn (before ++ x ∷ []) xs (once_push before x once all.0) all.1)
 
 -- ---- chains
 

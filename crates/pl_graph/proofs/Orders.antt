@@ -1,24 +1,19 @@
--- Nodes placed one by one, the least ready one each time: they are the least order, or those that are
--- left remain.
-use Rattle.pl_graph.proofs.Common.{◌≡◌, ℕ, ◌<◌, ◌≤◌, List, [], ◌∷◌, ◌++◌, refl, sym, subst, ◌∙◌}
-use Rattle.pl_graph.proofs.Common.{arith, append_assoc, ◌↔◌, nat_cmp, ordering_then, slice_cmp}
-use Rattle.pl_graph.proofs.Common.{Less, Equal, Greater, Contains, nat_tests, exact_unsigned}
-use Rattle.pl_graph.proofs.Common.{append-nil, ◌+◌, ◌⊎◌, inr, ⊎_elim, Bool, true, false, cond}
-use Rattle.pl_graph.proofs.Common.{length, ap, All, BTreeSet, Updates, btree_set_len, keys}
-use Rattle.pl_graph.proofs.Common.{false≢true, All-contains, All-map, All-weaker, Contains-get_or}
-use Rattle.pl_graph.proofs.Common.{inl, Contains-push_cases}
-use Rattle.std.proofs.Common.{◌≢◌, Ordering}
-use Rattle.pl_graph.proofs.Lists.{Contains-here, Contains-same, once_before, turn_weaker, turn_push}
-use Rattle.pl_graph.proofs.Lists.{closed_weaker, goes_on, leads_weaker, Contains-cases}
-use Rattle.pl_graph.proofs.Lists.{Contains-head}
-use Rattle.pl_graph.proofs.Nodes.{left_take, none_has, updated, has_key, some_or_none}
-use Rattle.pl_graph.specs.Graph.{DependsOn, EachOnce, InTurn, IsLeast, IsTopological}
-use Rattle.pl_graph.specs.Graph.{IsLeastTopological, AreEdges, IsCanonicalCycle, IsCycle}
-use Rattle.pl_graph.specs.Graph.{IsLeastDependency, KeepsItself, Remains}
-use Rattle.pl_graph.specs.Placing.{IsReady, PlacesLeast, AreMissing, Forgets, MakesReady}
-use Rattle.pl_graph.specs.Placing.{MissesNone, reversed_of, IsPlacement}
-use Rattle.pl_graph.specs.Sets.{AreLeft, AreNeighbors, IsListOf, has, set_of}
-use Rattle.pl_graph.specs.Walking.{GoesOn, IsCycleFrom, IsNext}
+-- The least order, or those that remain where there is none.
+use Rattle.pl_graph.proofs.Common.{All, AllGoOn, AreEdges, BTreeSet, Contains, Contains-push_cases}
+use Rattle.pl_graph.proofs.Common.{DependsOn, EachOnce, Equal, GoesOn, Greater, InTurn}
+use Rattle.pl_graph.proofs.Common.{IsCanonicalCycle, IsCycle, IsCycleFrom, IsLeast}
+use Rattle.pl_graph.proofs.Common.{IsLeastDependency, IsLeastTopological, IsNext, IsPlacement}
+use Rattle.pl_graph.proofs.Common.{IsReady, IsTopological, KeepsItself, Less, List, Ordering}
+use Rattle.pl_graph.proofs.Common.{PlacesLeast, Remains, [], append-nil, append_assoc, arith}
+use Rattle.pl_graph.proofs.Common.{exact_unsigned, false, false≢true, joins, nat_cmp, nat_tests}
+use Rattle.pl_graph.proofs.Common.{ordering_then, refl, slice_index, subst, sym, true, ◌++◌, ◌<◌}
+use Rattle.pl_graph.proofs.Common.{◌↔◌, ◌∙◌, ◌∷◌, ◌≡◌, ◌≢◌, ◌≤◌, ℕ, ⊎_elim}
+use Rattle.std.specs.Cmp.Lexicographic.{slice_cmp}
+use Rattle.pl_graph.proofs.Lists.{Contains-cases, Contains-head, Contains-here, Contains-same}
+use Rattle.pl_graph.proofs.Lists.{all_in_turn, closed_weaker, decided, goes_on, leads_weaker}
+use Rattle.pl_graph.proofs.Lists.{once_before, once_in_turn, turn_weaker}
+use Rattle.pl_graph.proofs.Members.{next_or_none, waits, waits_is}
+use Rattle.pl_graph.proofs.Placements.{edge_within}
 
 -- ---- the least order
 
@@ -67,164 +62,17 @@ module _ (n : ℕ) (edges : List (ℕ × ℕ)) where
         (subst (λ (z : ℕ). InTurn (Least n edges) (front ++ z ∷ []) xs) same least.1)
         (whole ∙ sym (append_assoc front (y ∷ []) ys)) after.1)
 
-  pub least_topological : (placed : List ℕ) → PlacesLeast n edges placed → EachOnce placed →
+  pub least_topological : (placed : List ℕ) → PlacesLeast n edges placed →
       ((x : ℕ) → Contains placed x ↔ (x < n)) → IsLeastTopological n edges placed
-  least_topological placed least once members = record {
-    topological = record { members = members; once = once; after = in_order placed least };
+  least_topological placed least members = record {
+    topological = record {
+      members = members;
+      once = once_in_turn [] placed (λ i j d before below. absurd (omega arith))
+          (turn_weaker (Least n edges) _ (λ before x ready. ready.0.unplaced) [] placed least);
+      after = in_order placed least;
+    };
     least = λ others order. not_greater others order [] placed others least refl order.after;
   }
-
--- ---- placing
-
-pub record IsPlacing (n : ℕ) (edges : List (ℕ × ℕ)) (placed : List ℕ) (left : BTreeSet ℕ)
-    (missing : List (BTreeSet ℕ)) (ready : BTreeSet ℕ) : Type 0 where
-  pub least : PlacesLeast n edges placed
-  pub taken : AreLeft n placed left
-  pub len : length missing ≡ n
-  pub missed : AreMissing edges left missing
-  pub ready_is : (x : ℕ) →
-      (has ready x ≡ true) ↔ ((has left x ≡ true) × MissesNone missing x)
-
-pub edge_within : (n : ℕ) (edges : List (ℕ × ℕ)) (a b : ℕ) → AreEdges n edges →
-    DependsOn edges a b → (a < n) × (b < n)
-edge_within n edges a b are h =
-    All-contains (λ edge. (edge.0 < n) × (edge.1 < n)) edges (a, b) are h
-
-pub reversed_edges : (n : ℕ) (edges : List (ℕ × ℕ)) → AreEdges n edges →
-    AreEdges n (reversed_of edges)
-reversed_edges n edges are =
-    All-map (λ edge. (edge.0 < n) × (edge.1 < n)) (λ edge. (edge.1, edge.0)) edges
-    (All-weaker (λ edge. (edge.0 < n) × (edge.1 < n)) (λ edge. (edge.1 < n) × (edge.0 < n))
-    (λ edge h. (h.1, h.0)) edges are)
-
-pub neighbor_list : {n : ℕ} {edges : List (ℕ × ℕ)} {sets : List (BTreeSet ℕ)} {a : ℕ}
-    {nodes : List ℕ} → AreNeighbors n edges sets → IsListOf (set_of sets a) nodes → (b : ℕ) →
-    Contains nodes b ↔ DependsOn edges a b
-neighbor_list {a = a} are list b =
-    let member = list.each b in let each = are.each a b in (
-      λ h. each.0 (member.0 h),
-      λ h. member.1 (each.1 h),
-    )
-
--- nodes in a list are below n, where each that it contains is
-pub all_below : (n : ℕ) (nodes : List ℕ) → ((x : ℕ) → Contains nodes x → x < n) →
-    All (λ x. x < n) nodes
-all_below n nodes below k d within = below _ (Contains-get_or nodes k d within)
-
-pub placing_none : {n : ℕ} {edges : List (ℕ × ℕ)} {nodes : List ℕ} {left ready new : BTreeSet ℕ}
-    {missing : List (BTreeSet ℕ)} → AreEdges n edges → AreLeft n [] left →
-    AreNeighbors n edges missing → IsListOf left nodes → keys ready ≡ [] →
-    MakesReady missing nodes ready new → IsPlacing n edges [] left missing new
-placing_none {n = n} {edges = edges} {ready = ready} edges_are a are list empty makes = record {
-  least = tt;
-  taken = a;
-  len = are.len;
-  missed = record {
-    each = λ x b.
-        let within = edge_within n edges x b edges_are in
-        let there = are.each x b in let all = a.each b in
-        let none : Contains [] b → ⊥ = λ (k, below, at). omega arith in grind arith;
-    waits = λ x b h.
-        let within = edge_within n edges x b edges_are in
-        let there = are.each x b in let all = a.each x in
-        let none : Contains [] x → ⊥ = λ (k, below, at). omega arith in grind arith;
-  };
-  ready_is = λ x.
-      let absent = none_has ready x empty in let made = makes.each x in
-      let member = list.each x in grind arith;
-}
-
-pub placing_within : {n : ℕ} {edges : List (ℕ × ℕ)} {placed : List ℕ} {left ready : BTreeSet ℕ}
-    {missing : List (BTreeSet ℕ)} (node : ℕ) → IsPlacing n edges placed left missing ready →
-    has ready node ≡ true → node < n
-placing_within node p had = (p.taken.each node).0 (inr ((p.ready_is node).0 had).0)
-
--- a node is ready afterwards where it is left then and misses nothing (B), if it was ready before
--- where it was left and missed nothing (A); D: it depends on the node that was placed, E: it is that
-ready_next : (A B D E : Type 0) (was then now left left_now missed : Bool) →
-    ((E × (then ≡ false)) ⊎ ((E → ⊥) × (then ≡ was))) →
-    ((E × (left_now ≡ false)) ⊎ ((E → ⊥) × (left_now ≡ left))) →
-    (was ≡ true) ↔ ((left ≡ true) × A) → (now ≡ true) ↔ ((then ≡ true) ⊎ (D × B)) →
-    (missed ≡ true) ↔ D → (missed ≡ true → left ≡ true) → (E → missed ≡ false) → (A → B) →
-    (missed ≡ false → B → A) → (now ≡ true) ↔ ((left_now ≡ true) × B)
-ready_next A B D E was then now left left_now true popped took ready makes depends waits none keeps
-    back =
-    grind arith
-ready_next A B D E was then now left left_now false popped took ready makes depends waits none keeps
-    back =
-    grind arith
-
-module _ {n : ℕ} {edges : List (ℕ × ℕ)} {placed : List ℕ} {left ready : BTreeSet ℕ}
-    {missing : List (BTreeSet ℕ)} (node : ℕ) (are : AreEdges n edges)
-    (p : IsPlacing n edges placed left missing ready) (had : has ready node ≡ true)
-    (low : (x : ℕ) → has ready x ≡ true → node ≤ x) where
-  none_missed : MissesNone missing node
-  none_missed = ((p.ready_is node).0 had).1
-
-  here : has left node ≡ true
-  here = ((p.ready_is node).0 had).0
-
-  least : IsLeast (IsReady n edges placed) node
-  least = (
-    record {
-      node = (p.taken.each node).0 (inr here);
-      unplaced = λ h. false≢true (sym (p.taken.apart node h) ∙ here);
-      after = λ b depends.
-          let within = (edge_within n edges node b are depends).1 in
-          let stands = (p.taken.each b).1 within in
-          let missed = p.missed.each node b in
-          let none = none_missed b in grind arith;
-    },
-    λ y ready. low y ((p.ready_is y).1 (
-      ⊎_elim (λ h. absurd (ready.unplaced h)) (λ h. h) ((p.taken.each y).1 ready.node),
-      λ b.
-          let missed = p.missed.each y b in
-          let after = ready.after b in
-          let apart = p.taken.apart b in grind arith,
-    )),
-  )
-
-  module _ (nodes : List ℕ) (left_now ready_then ready_now : BTreeSet ℕ) (now : List (BTreeSet ℕ))
-      (pops : Updates nat_cmp ready ready_then node false)
-      (takes : Updates nat_cmp left left_now node false)
-      (removed : Bool) (was : removed ≡ has left node)
-      (len : btree_set_len left_now + cond removed 1 0 ≡ btree_set_len left)
-      (depends : (x : ℕ) → Contains nodes x ↔ DependsOn edges x node)
-      (f : Forgets node nodes missing now) (m : MakesReady now nodes ready_then ready_now) where
-    pub placing_more : IsPlacing n edges (placed ++ node ∷ []) left_now now ready_now
-    placing_more = record {
-      least = turn_push (λ before. IsLeast (IsReady n edges before)) [] placed node p.least least;
-      taken = left_take node removed p.taken here takes was len;
-      len = f.len ∙ p.len;
-      missed = record {
-        each = λ x b.
-            let forgets = f.each x b in let missed = p.missed.each x b in
-            let dependent = depends x in let after = updated left left_now node false b takes in
-            let same : node ≡ b → DependsOn edges x b → DependsOn edges x node = λ e h. rw e h in
-            grind arith;
-        waits = λ x b h.
-            let forgets = f.each x b in let waits = p.missed.waits x b in
-            let after = updated left left_now node false x takes in
-            let none = none_missed b in
-            let same : node ≡ x → has (set_of missing node) b ≡ has (set_of missing x) b =
-            ap (λ z. has (set_of missing z) b) in
-            grind arith;
-      };
-      ready_is = λ x.
-          let missed = p.missed.each x node in
-          let same : node ≡ x → has (set_of missing node) node ≡ has (set_of missing x) node =
-          ap (λ z. has (set_of missing z) node) in
-          ready_next (MissesNone missing x) (MissesNone now x) (Contains nodes x) (node ≡ x) _ _ _ _
-          _ _
-          (updated ready ready_then node false x pops) (updated left left_now node false x takes)
-          (p.ready_is x) (m.each x)
-          (λ h. (depends x).1 (missed.0 h).0, λ h. missed.1 ((depends x).0 h, here))
-          (p.missed.waits x node) (λ e. sym (same e) ∙ none_missed node)
-          (λ misses b. let forgets = f.each x b in let none = misses b in grind arith)
-          (λ absent misses b. let forgets = f.each x b in let none = misses b in
-          let same : b ≡ node → has (set_of missing x) b ≡ has (set_of missing x) node =
-          ap (has (set_of missing x)) in grind arith);
-    }
 
 -- ---- what remains
 
@@ -251,62 +99,65 @@ none_remains n edges order x after had (set, keeps, kept) =
     none_in_turn edges (λ y. set y ≡ true) (λ y h. (keeps y h).1) [] order
     (λ b (k, below, is). absurd (omega arith)) after x had kept
 
-module _ {n : ℕ} {edges : List (ℕ × ℕ)} {placed : List ℕ} {left : BTreeSet ℕ}
-    {missing : List (BTreeSet ℕ)} (p : IsPlacement n edges placed left missing) where
-  -- a node that is left, and one that it misses
-  left_keeps : KeepsItself n edges (has left)
-  left_keeps x h = (
-    (p.taken.each x).0 (inr h),
-    ⊎_elim (λ empty. absurd (p.waiting x h (λ b. none_has (set_of missing x) b empty)))
-        (λ (b, had). let (depends, stays) = (p.missed.each x b).0 had in (b, depends, stays))
-        (some_or_none (set_of missing x) (keys (set_of missing x)) refl),
-  )
+module _ {n : ℕ} {edges : List (ℕ × ℕ)} {placed : List ℕ} {missing : BTreeSet (ℕ × ℕ)}
+    (p : IsPlacement n edges placed missing) where
+  -- a node that isn't placed misses one
+  goes : (x : ℕ) → x < n → (Contains placed x → ⊥) → GoesOn missing x
+  goes x within unplaced =
+      ⊎_elim (λ h. h) (λ none. absurd (false≢true (sym (p.none x)
+      ∙ (p.placing.ready_is x).1 (within, unplaced, none)))) (next_or_none missing x)
 
-  pub left_remain : (x : ℕ) → (has left x ≡ true) ↔ Remains n edges x
-  left_remain x = (
-    λ h. (has left, left_keeps, h),
+  pub all_go_on : AllGoOn missing
+  all_go_on a b h =
+      let (depends, unplaced) = p.placing.missed a b h in
+      goes b (edge_within n edges a b p.placing.edges_are depends).1 unplaced
+
+  remaining : (x : ℕ) → Remains n edges x ↔ GoesOn missing x
+  remaining x = (
     λ remains. let (set, keeps, kept) = remains in
-        ⊎_elim (λ had. absurd (none_remains n edges placed x (in_order n edges placed p.least) had
-        remains)) (λ h. h) ((p.taken.each x).1 (keeps x kept).0),
+        goes x (keeps x kept).0 (λ had. none_remains n edges placed x (in_order n edges placed
+        p.placing.least) had remains),
+    λ (b, h). (waits missing, keeps, (waits_is missing x).1 (b, h)),
   )
+    where
+      keeps : KeepsItself n edges (waits missing)
+      keeps y h =
+          let (b, joined) = (waits_is missing y).0 h in
+          let (depends, unplaced) = p.placing.missed y b joined in
+          let within = edge_within n edges y b p.placing.edges_are depends in
+          (within.0, (b, depends, (waits_is missing b).1 (all_go_on y b joined)))
 
-  -- where none is left, all are placed
-  pub all_placed : btree_set_len left ≡ 0 → IsLeastTopological n edges placed
-  all_placed none =
-      least_topological n edges placed p.least p.taken.once (λ x. (
-        λ h. (p.taken.each x).0 (inl h),
-        λ below. ⊎_elim (λ h. h) (λ h. let (k, within, at) = (has_key left x).0 h in
-            absurd (omega arith)) ((p.taken.each x).1 below),
-      ))
-
-  -- the first that is left is the least that remains
-  pub first_remains : (first : ℕ) → has left first ≡ true →
-      ((x : ℕ) → has left x ≡ true → first ≤ x) → IsLeast (Remains n edges) first
-  first_remains first had low =
-      ((left_remain first).0 had, λ x remains. low x ((left_remain x).1 remains))
+  pub first_remains : (a b : ℕ) → joins missing a b ≡ true →
+      ((x y : ℕ) → joins missing x y ≡ true → a ≤ x) → IsLeast (Remains n edges) a
+  first_remains a b h low =
+      ((remaining a).1 (b, h), λ x remains. let (y, on) = (remaining x).0 remains in low x y on)
 
   next_is : (a b : ℕ) → IsNext missing a b → IsLeastDependency n edges a b
-  next_is a b (had, least) =
-      let (depends, stays) = (p.missed.each a b).0 had in (
-        (depends, (left_remain b).0 stays),
-        λ y (depends, remains). least y ((p.missed.each a y).1 (
-          depends,
-          (left_remain y).1 remains,
-        )),
-      )
+  next_is a b (had, least) = (
+    ((p.placing.missed a b had).0, (remaining b).1 (all_go_on a b had)),
+    λ y (depends, remains). least y (⊎_elim (λ h. h) (λ on. absurd (none_remains n edges placed y
+        (in_order n edges placed p.placing.least) on remains)) (p.placing.kept a y depends)),
+  )
 
-  pub left_goes_on : GoesOn n missing
-  left_goes_on a b h =
-      let (depends, stays) = (p.missed.each a b).0 h in
-      ((p.taken.each b).0 (inr stays), p.waiting b stays)
+  -- where none is missed, all are placed
+  pub all_placed : ((a b : ℕ) → joins missing a b ≡ false) → IsLeastTopological n edges placed
+  all_placed none =
+      least_topological n edges placed p.placing.least (λ x. (
+        all_in_turn (λ y. y < n) [] placed
+            (turn_weaker (Least n edges) _ (λ before y ready. ready.0.node) [] placed
+            p.placing.least) x,
+        λ within. ⊎_elim (λ h. h) (λ out. let (b, h) = goes x within out in
+            absurd (false≢true (sym (none x b) ∙ h))) (decided placed x),
+      ))
 
   -- the walk from the least that remains leads to the canonical cycle
   pub cycle_is : (first : ℕ) (cycle : List ℕ) → IsLeast (Remains n edges) first →
-      IsCycleFrom missing first cycle → IsCanonicalCycle n edges cycle
-  cycle_is first cycle least c = record {
+      IsCycleFrom missing first cycle → All (λ x. slice_index cycle 0 ≤ x) cycle →
+      IsCanonicalCycle n edges cycle
+  cycle_is first cycle least c low = record {
     once = c.once;
     closed = closed_weaker (IsNext missing) (IsLeastDependency n edges) next_is cycle c.closed;
-    least = c.least;
+    least = low;
     start = first;
     from = least;
     node = c.node;
@@ -317,9 +168,9 @@ module _ {n : ℕ} {edges : List (ℕ × ℕ)} {placed : List ℕ} {left : BTree
 -- a graph has not both a topological order and a cycle
 pub not_both : (n : ℕ) (edges : List (ℕ × ℕ)) (order cycle : List ℕ) → AreEdges n edges →
     IsTopological n edges order → IsCycle edges cycle → ⊥
-not_both n edges order [] are is goes = goes.closed
-not_both n edges order (x ∷ xs) are is goes =
-    let keeps = λ (y : ℕ). goes_on (DependsOn edges) (x ∷ xs) y goes.closed in
+not_both n edges order [] are is cycle = cycle.closed
+not_both n edges order (x ∷ xs) are is cycle =
+    let keeps = λ (y : ℕ). goes_on (DependsOn edges) (x ∷ xs) y cycle.closed in
     let (b, depends, on) = keeps x (Contains-head x xs) in
     none_in_turn edges (Contains (x ∷ xs)) keeps [] order
     (λ b (k, below, is). absurd (omega arith)) is.after x

@@ -1,147 +1,93 @@
--- A search from a node.
-use Rattle.pl_graph.proofs.Common.{◌≡◌, ℕ, zero, suc, ◌+◌, ◌<◌, ◌≤◌, ◌⊎◌, inl, inr, ⊎_elim, Bool}
-use Rattle.pl_graph.proofs.Common.{true, false, cond, List, [], ◌∷◌, ◌++◌, length, refl, sym, ap}
-use Rattle.pl_graph.proofs.Common.{◌∙◌, arith, ◌↔◌, Contains, nat_cmp, BTreeSet, IsOrdered, Updates}
-use Rattle.pl_graph.proofs.Common.{btree_set_len, keys, cases_Bool, false≢true, length_push}
-use Rattle.pl_graph.proofs.Common.{All-from_get_or, Contains-get_or, length-le_from_below}
-use Rattle.std.proofs.Common.{not}
-use Rattle.pl_graph.proofs.Nodes.{has_key, none_has, pushed, updated}
-use Rattle.pl_graph.proofs.Orders.{edge_within}
-use Rattle.pl_graph.specs.Graph.{AreEdges, DependsOn, DependsTransitively, Walk}
-use Rattle.pl_graph.specs.Sets.{FindsMore, has}
+-- Edges followed from a node, one after the other.
+use Rattle.pl_graph.proofs.Common.{BTreeSet, DependsOn, DependsTransitively, HasNone, List, Updates}
+use Rattle.pl_graph.proofs.Common.{Walk, arith, btree_set_len, edge_cmp, false, false≢true, has}
+use Rattle.pl_graph.proofs.Common.{inl, inr, joins, nat_cmp, refl, suc, sym, true, zero, ◌↔◌, ◌∙◌}
+use Rattle.pl_graph.proofs.Common.{◌≡◌, ◌⊎◌, ℕ, ⊎_elim}
+use Rattle.pl_graph.proofs.Members.{changed, none_has, updated}
 
-pub finds_none : (found : BTreeSet ℕ) (todo : List ℕ) → FindsMore found todo [] found todo
-finds_none found todo = record {
-  each = λ x. let none : Contains [] x → ⊥ = λ (k, below, at). omega arith in grind arith;
-  opened = λ x. let none : Contains [] x → ⊥ = λ (k, below, at). omega arith in grind arith;
-  len = refl;
-  ordered = λ h. h;
+-- what is found is reached from the start, and so are the node whose edges are followed and those
+-- to do. An edge is left or leads to what is found; each edge from another node that is reached does
+pub record IsReach (edges : List (ℕ × ℕ)) (start from : ℕ) (rest : BTreeSet (ℕ × ℕ))
+    (found todo : BTreeSet ℕ) : Type 0 where
+  pub sound : (b : ℕ) → has found b ≡ true → DependsTransitively edges start b
+  pub rest_is : (a b : ℕ) → joins rest a b ≡ true → DependsOn edges a b
+  pub left : (a b : ℕ) → DependsOn edges a b → (joins rest a b ≡ true) ⊎ (has found b ≡ true)
+  pub reached : (a : ℕ) → (from ≡ a) ⊎ (has todo a ≡ true) → (a ≡ start) ⊎ (has found a ≡ true)
+  pub closed : (a b : ℕ) → (a ≡ start) ⊎ (has found a ≡ true) → DependsOn edges a b →
+      (has found b ≡ true) ⊎ ((from ≡ a) ⊎ (has todo a ≡ true))
+
+pub reach_none : {edges : List (ℕ × ℕ)} {start : ℕ} {rest : BTreeSet (ℕ × ℕ)} (found todo : BTreeSet ℕ) →
+    ((a b : ℕ) → (joins rest a b ≡ true) ↔ DependsOn edges a b) → btree_set_len found ≡ 0 →
+    btree_set_len todo ≡ 0 → IsReach edges start start rest found todo
+reach_none {start = start} found todo all none empty = record {
+  sound = λ b h. absurd (false≢true (sym (none_has found b none) ∙ h));
+  rest_is = λ a b. (all a b).0;
+  left = λ a b h. inl ((all a b).1 h);
+  reached = λ a h. let no = none_has todo a empty in grind arith;
+  closed = λ a b h depends. let no = none_has found a none in grind arith;
 }
 
-opened_next : (Todo Nodes Now More New Here : Type 0) (was now added : Bool) →
-    Now ↔ (Todo ⊎ (Nodes × (was ≡ false))) → More ↔ (Nodes ⊎ Here) →
-    New ↔ (Now ⊎ (Here × (added ≡ true))) → (now ≡ true) ↔ ((was ≡ true) ⊎ Nodes) →
-    (Here → added ≡ not now) → New ↔ (Todo ⊎ (More × (was ≡ false)))
-opened_next Todo Nodes Now More New Here was now true opened push more each here = grind arith
-opened_next Todo Nodes Now More New Here was now false opened push more each here = grind arith
-
-todo_next : (added : Bool) (todo : List ℕ) (x y : ℕ) →
-    Contains (cond added (todo ++ x ∷ []) todo) y ↔ (Contains todo y ⊎ ((x ≡ y) × (added ≡ true)))
-todo_next true todo x y = let push = pushed todo x y in grind arith
-todo_next false todo x y =
-    (λ h. inl h, ⊎_elim (λ h. h) (λ h. absurd (false≢true h.1)))
-
-todo_length : (added : Bool) (todo : List ℕ) (x : ℕ) →
-    length (cond added (todo ++ x ∷ []) todo) ≡ length todo + cond added 1 0
-todo_length true todo x = length_push todo x
-todo_length false todo x = omega arith
-
--- one node more: it is to be done where it had not been found
-pub finds_more : {found now : BTreeSet ℕ} {todo nodes now_todo : List ℕ} (new : BTreeSet ℕ) (x : ℕ)
-    (added : Bool) → FindsMore found todo nodes now now_todo → added ≡ not (has now x) →
-    Updates nat_cmp now new x true → btree_set_len new ≡ btree_set_len now + cond added 1 0 →
-    IsOrdered nat_cmp new →
-    FindsMore found todo (nodes ++ x ∷ []) new (cond added (now_todo ++ x ∷ []) now_todo)
-finds_more {found = found} {now = now} {nodes = nodes} {now_todo = now_todo} new x added f was is
-    len
-    ordered = record {
-      each = λ y.
-          let push = pushed nodes x y in let after = updated now new x true y is in
-          let each = f.each y in grind arith;
-      opened = λ y.
-          opened_next _ _ _ _ _ (x ≡ y) (has found y) (has now y) added (f.opened y) (pushed nodes x y)
-          (todo_next added now_todo x y) (f.each y) (λ e. was ∙ ap (λ z. not (has now z)) e);
-      len = omega (arith, f.len, todo_length added now_todo x);
-      ordered = λ h. ordered;
-    }
-
-pub record IsReach (edges : List (ℕ × ℕ)) (node : ℕ) (found : BTreeSet ℕ) (todo : List ℕ) :
-    Type 0 where
-  pub sound : (b : ℕ) → has found b ≡ true → DependsTransitively edges node b
-  pub first : (b : ℕ) → DependsOn edges node b → has found b ≡ true
-  pub within : (a : ℕ) → Contains todo a → has found a ≡ true
-  pub closed : (a b : ℕ) → has found a ≡ true → DependsOn edges a b →
-      Contains todo a ⊎ (has found b ≡ true)
-
-module _ {edges : List (ℕ × ℕ)} {node : ℕ} where
-  -- the node's own neighbors come first
-  pub reach_first : {none found : BTreeSet ℕ} {nodes todo : List ℕ} → keys none ≡ [] →
-      ((b : ℕ) → Contains nodes b ↔ DependsOn edges node b) →
-      FindsMore none [] nodes found todo → IsReach edges node found todo
-  reach_first {none = none} empty are f = record {
-    sound = λ b h.
-        let absent = none_has none b empty in let each = f.each b in
-        (0, (are b).0 (grind arith));
-    first = λ b h. (f.each b).1 (inr ((are b).1 h));
-    within = λ a h.
-        let absent : Contains [] a → ⊥ = λ (k, below, at). omega arith in
-        let each = f.each a in let opened = f.opened a in grind arith;
-    closed = λ a b h depends.
-        let absent = none_has none a empty in
-        let each = f.each a in let opened = f.opened a in grind arith;
-  }
-
-  -- the neighbors of one find more
-  pub reach_more : {found new : BTreeSet ℕ} {nodes todo new_todo : List ℕ} (x : ℕ) →
-      IsReach edges node found (todo ++ x ∷ []) →
-      ((b : ℕ) → Contains nodes b ↔ DependsOn edges x b) →
-      FindsMore found todo nodes new new_todo → IsReach edges node new new_todo
-  reach_more {found = found} {todo = todo} x r are f =
-      let last = pushed todo x x in
-      let here = r.within x (last.1 (inr refl)) in
-      record {
-        sound = λ b h. ⊎_elim (r.sound b)
-            (λ h. let (m, walk) = r.sound x here in (suc m, (x, walk, (are b).0 h)))
-            ((f.each b).0 h);
-        first = λ b h. (f.each b).1 (inl (r.first b h));
-        within = λ a h.
-            let push = pushed todo x a in let within = r.within a in
-            let each = f.each a in let opened = f.opened a in grind arith;
-        closed = λ a b h depends.
-            ⊎_elim
-            (λ had. ⊎_elim (λ on. ⊎_elim (λ h. inl ((f.opened a).1 (inl h)))
-            (λ e. inr ((f.each b).1 (inr ((are b).1 (rw e depends))))) ((pushed todo x a).0 on))
-            (λ h. inr ((f.each b).1 (inl h))) (r.closed a b had depends))
-            (λ none. inl ((f.opened a).1 (inr (
-              ⊎_elim (λ h. absurd (false≢true (sym none ∙ h)))
-                  (λ h. h) ((f.each a).0 h),
-              none,
-            ))))
-            (cases_Bool (has found a));
+module _ {edges : List (ℕ × ℕ)} {start from : ℕ} {rest : BTreeSet (ℕ × ℕ)} {found todo : BTreeSet ℕ}
+    (r : IsReach edges start from rest found todo) where
+  -- an edge is followed
+  pub follow_one : (b : ℕ) (rest_now : BTreeSet (ℕ × ℕ)) (found_now todo_now : BTreeSet ℕ) →
+      joins rest from b ≡ true → Updates edge_cmp rest rest_now (from, b) false →
+      Updates nat_cmp found found_now b true → Updates nat_cmp todo todo_now b true →
+      IsReach edges start from rest_now found_now todo_now
+  follow_one b rest_now found_now todo_now had cut put queue =
+      let edge = r.rest_is from b had in
+      let here : DependsTransitively edges start b =
+      ⊎_elim (λ e. (0, rw e at edge)) (λ h. let (m, walk) = r.sound from h in
+      (suc m, (from, walk, edge))) (r.reached from (inl refl)) in record {
+        sound = λ c h. ⊎_elim (λ (e, is). rw e at here)
+            (λ (ne, is). r.sound c (sym is ∙ h)) (updated found found_now b true c put);
+        rest_is = λ a c h.
+            let was = r.rest_is a c in let after = changed rest rest_now from b false a c cut in
+            grind arith;
+        left = λ a c h.
+            let was = r.left a c h in let after = changed rest rest_now from b false a c cut in
+            let also = updated found found_now b true c put in grind arith;
+        reached = λ a h.
+            let was = r.reached a in let after = updated found found_now b true a put in
+            let also = updated todo todo_now b true a queue in grind arith;
+        closed = λ a c h depends.
+            let was = r.closed a c in let after = updated found found_now b true a put in
+            let also = updated todo todo_now b true a queue in
+            let end = updated found found_now b true c put in grind arith;
       }
 
-  -- once nothing is to be done, all is found
-  whole_walk : {found : BTreeSet ℕ} {todo : List ℕ} → IsReach edges node found todo →
-      length todo ≡ 0 → (b m : ℕ) → Walk edges node b m → has found b ≡ true
-  whole_walk r done b zero h = r.first b h
-  whole_walk r done b (suc m) (c, before, last) =
-      ⊎_elim (λ (k, below, at). absurd (omega arith)) (λ h. h)
-      (r.closed c b (whole_walk r done c m before) last)
+  -- once no edge from it is left, another node is taken
+  module _ (none : HasNone rest from) where
+    followed : (a b : ℕ) → (a ≡ start) ⊎ (has found a ≡ true) → DependsOn edges a b →
+        (has found b ≡ true) ⊎ (has todo a ≡ true)
+    followed a b h depends =
+        let was = r.closed a b h depends in let left = r.left a b depends in
+        let gone : from ≡ a → joins rest a b ≡ false = λ e. rw e at (none b) in grind arith
 
-  pub reach_whole : {found : BTreeSet ℕ} {todo : List ℕ} → IsReach edges node found todo →
-      length todo ≡ 0 → (b : ℕ) → (has found b ≡ true) ↔ DependsTransitively edges node b
-  reach_whole r done b = (r.sound b, λ (m, walk). whole_walk r done b m walk)
+    pub take_next : (next : ℕ) (popped : BTreeSet ℕ) → has todo next ≡ true →
+        Updates nat_cmp todo popped next false → IsReach edges start next rest found popped
+    take_next next popped had pops = record {
+      sound = r.sound;
+      rest_is = r.rest_is;
+      left = r.left;
+      reached = λ a h.
+          let was = r.reached a in let after = updated todo popped next false a pops in
+          let here : next ≡ a → has todo a ≡ true = λ e. rw e at had in grind arith;
+      closed = λ a b h depends.
+          let was = followed a b h depends in
+          let after = updated todo popped next false a pops in grind arith;
+    }
 
-transitive_within : (n : ℕ) (edges : List (ℕ × ℕ)) (a b : ℕ) → AreEdges n edges →
-    DependsTransitively edges a b → b < n
-transitive_within n edges a b are (zero, h) = (edge_within n edges a b are h).1
-transitive_within n edges a b are (suc m, (c, before, last)) = (edge_within n edges c b are last).1
+    -- where none is to do any more, all is found
+    module _ (done : btree_set_len todo ≡ 0) where
+      leads : (a b : ℕ) → (a ≡ start) ⊎ (has found a ≡ true) → DependsOn edges a b →
+          has found b ≡ true
+      leads a b h depends =
+          let was = followed a b h depends in let no = none_has todo a done in grind arith
 
--- what is found is below n, and so no more is found than there is
-pub reach_within : {n : ℕ} {edges : List (ℕ × ℕ)} {node : ℕ} {found : BTreeSet ℕ} {todo : List ℕ} →
-    AreEdges n edges → IsReach edges node found todo → (b : ℕ) → has found b ≡ true → b < n
-reach_within {n = n} {edges = edges} {node = node} are r b h =
-    transitive_within n edges node b are (r.sound b h)
+      whole_walk : (b m : ℕ) → Walk edges start b m → has found b ≡ true
+      whole_walk b zero h = leads start b (inl refl) h
+      whole_walk b (suc m) (c, before, last) = leads c b (inr (whole_walk c m before)) last
 
-pub next_within : {n : ℕ} {edges : List (ℕ × ℕ)} {node : ℕ} {found : BTreeSet ℕ} (todo : List ℕ)
-    (x : ℕ) → AreEdges n edges → IsReach edges node found (todo ++ x ∷ []) → x < n
-next_within todo x are r =
-    reach_within are r x (r.within x ((pushed todo x x).1 (inr refl)))
-
-pub reach_length : {n : ℕ} {edges : List (ℕ × ℕ)} {node : ℕ} {found : BTreeSet ℕ} {todo : List ℕ} →
-    AreEdges n edges → IsReach edges node found todo → IsOrdered nat_cmp found →
-    btree_set_len found ≤ n
-reach_length {n = n} {found = found} are r ordered =
-    length-le_from_below n (keys found) ordered (All-from_get_or (λ b. b < n) (keys found) 0
-    (λ k below. reach_within are r _ ((has_key found _).1 (Contains-get_or (keys found) k 0
-    below))))
+      pub reach_whole : (b : ℕ) → (has found b ≡ true) ↔ DependsTransitively edges start b
+      reach_whole b = (r.sound b, λ (m, walk). whole_walk b m walk)

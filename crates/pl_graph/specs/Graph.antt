@@ -1,7 +1,8 @@
 -- Nodes are the numbers below n. An edge (a, b) says that the node a depends on the node b. An edge
 -- may come twice.
-use Rattle.std.specs.Prelude.{◌≡◌, ◌≢◌, ℕ, zero, suc, ◌<◌, ◌≤◌, ◌==◌, ◌↔◌, Bool, true, List, []}
-use Rattle.std.specs.Prelude.{◌∷◌, ◌++◌, All, Contains, count_by, slice_index}
+use Rattle.std.specs.Prelude.{◌≡◌, ◌≢◌, ℕ, zero, suc, ◌<◌, ◌≤◌, ◌↔◌, Bool, true, List, []}
+use Rattle.std.specs.Prelude.{◌∷◌, ◌++◌, All, Contains, slice_index}
+use Rattle.std.specs.List.{AllPairs}
 use Rattle.std.specs.Ordering.{nat_cmp}
 use Rattle.std.specs.Cmp.Lexicographic.{slice_cmp}
 use Rattle.std.specs.List.Sorted.{IsStrictlyIncreasing}
@@ -33,7 +34,7 @@ pub record AreAncestors (edges : List (ℕ × ℕ)) (node : ℕ) (nodes : List �
 
 -- no node comes twice
 abbrev pub EachOnce : List ℕ → Type 0
-EachOnce nodes = (x : ℕ) → count_by (λ y. y == x) nodes ≤ 1
+EachOnce nodes = AllPairs (λ x y. x ≢ y) nodes
 
 -- a fact about each node and those before it
 abbrev pub InTurn : (List ℕ → ℕ → Type 0) → List ℕ → List ℕ → Type 0

@@ -1,46 +1,41 @@
--- What the functions inside say of sets of nodes.
-use Rattle.std.specs.Prelude.{◌≡◌, ℕ, ◌+◌, ◌<◌, ◌↔◌, ◌⊎◌, Bool, true, false, List, [], All}
-use Rattle.std.specs.Prelude.{Contains, length, slice_index_or}
-use Rattle.std.specs.List.Sorted.{IsStrictlyIncreasing}
-use Rattle.std.specs.Ordering.{nat_cmp}
-use Rattle.std.specs.BTreeSet.{BTreeSet, IsOrdered, btree_set_len, contains, keys}
-use Rattle.pl_graph.specs.Graph.{DependsOn, EachOnce}
+-- What the functions inside say of sets of nodes and of edges.
+use Rattle.std.specs.Prelude.{◌≡◌, ℕ, ◌+◌, Bool, true, false, List, Option, Some, None, map}
+use Rattle.std.specs.BTreeSet.{BTreeSet, Updates, btree_set_len, contains}
+use Rattle.std.specs.Ordering.{nat_cmp, ordering_then}
+use Rattle.std.specs.declared.cmp.Ordering.{Ordering}
+use Rattle.pl_graph.specs.Graph.{IsLeast}
 
 -- whether the set has the node
 abbrev pub has : BTreeSet ℕ → ℕ → Bool
 has set x = contains nat_cmp set x
 
--- the set of a node, among the sets of all nodes
-abbrev pub set_of : List (BTreeSet ℕ) → ℕ → BTreeSet ℕ
-set_of sets a = slice_index_or sets a (record { keys = [] })
+-- edges by their first node, and then by their second
+abbrev pub edge_cmp : ℕ × ℕ → ℕ × ℕ → Ordering
+edge_cmp x y = ordering_then (nat_cmp x.0 y.0) (nat_cmp x.1 y.1)
 
--- the members of the set, ascending
-pub record IsListOf (set : BTreeSet ℕ) (nodes : List ℕ) : Type 0 where
-  pub each : (x : ℕ) → Contains nodes x ↔ (has set x ≡ true)
-  pub ascending : IsStrictlyIncreasing nodes
+-- whether the set has the edge from a to b
+abbrev pub joins : BTreeSet (ℕ × ℕ) → ℕ → ℕ → Bool
+joins edges a b = contains edge_cmp edges (a, b)
 
--- of the nodes below n, those in the list were taken, each once, and those in the set are left
-pub record AreLeft (n : ℕ) (taken : List ℕ) (left : BTreeSet ℕ) : Type 0 where
-  pub each : (x : ℕ) → (Contains taken x ⊎ (has left x ≡ true)) ↔ (x < n)
-  pub apart : (x : ℕ) → Contains taken x → has left x ≡ false
-  pub once : EachOnce taken
-  pub len : length taken + btree_set_len left ≡ n
+-- no edge leads from a
+abbrev pub HasNone : BTreeSet (ℕ × ℕ) → ℕ → Type 0
+HasNone edges a = (b : ℕ) → joins edges a b ≡ false
 
--- so many sets without a node
-pub record AreEmpty (n : ℕ) (sets : List (BTreeSet ℕ)) : Type 0 where
-  pub len : length sets ≡ n
-  pub each : All (λ set. keys set ≡ []) sets
+-- b is the least node to which an edge leads from a
+abbrev pub IsNext : BTreeSet (ℕ × ℕ) → ℕ → ℕ → Type 0
+IsNext edges a b = IsLeast (λ d. joins edges a d ≡ true) b
 
--- a set for each node: the nodes on which it depends
-pub record AreNeighbors (n : ℕ) (edges : List (ℕ × ℕ)) (sets : List (BTreeSet ℕ)) : Type 0 where
-  pub len : length sets ≡ n
-  pub each : (a b : ℕ) → (has (set_of sets a) b ≡ true) ↔ DependsOn edges a b
+-- the least node to which an edge leads from a, if there is one
+abbrev pub IsFirst : BTreeSet (ℕ × ℕ) → ℕ → Option ℕ → Type 0
+IsFirst edges a (Some b) = IsNext edges a b
+IsFirst edges a None = HasNone edges a
 
--- the nodes that had not been found are found, and their own neighbors are to be found
-pub record FindsMore (found : BTreeSet ℕ) (todo nodes : List ℕ) (new : BTreeSet ℕ)
-    (new_todo : List ℕ) : Type 0 where
-  pub each : (x : ℕ) → (has new x ≡ true) ↔ ((has found x ≡ true) ⊎ Contains nodes x)
-  pub opened : (x : ℕ) →
-      Contains new_todo x ↔ (Contains todo x ⊎ (Contains nodes x × (has found x ≡ false)))
-  pub len : length new_todo + btree_set_len found ≡ length todo + btree_set_len new
-  pub ordered : IsOrdered nat_cmp found → IsOrdered nat_cmp new
+-- an edge from a is taken out, if there is one
+abbrev pub Takes : ℕ → BTreeSet (ℕ × ℕ) → Option ℕ → BTreeSet (ℕ × ℕ) → Type 0
+Takes a edges (Some b) rest = (joins edges a b ≡ true) × Updates edge_cmp edges rest (a, b) false
+    × (btree_set_len rest + 1 ≡ btree_set_len edges)
+Takes a edges None rest = HasNone edges a × (rest ≡ edges)
+
+-- edges turned round
+abbrev pub turned_of : List (ℕ × ℕ) → List (ℕ × ℕ)
+turned_of edges = map (λ edge. (edge.1, edge.0)) edges

@@ -2,9 +2,9 @@
 //! the cycle that leaves none, and all that a node depends on.
 #![tactic(auto)]
 
+mod edges;
 mod fault;
 mod placing;
-mod sets;
 mod topological;
 mod transitive;
 mod walking;

@@ -1,76 +1,76 @@
-ghost use Rattle.std.specs.Prelude.{◌≡◌, ◌<◌, [], All, IfOk, OnOk, length};
+ghost use Rattle.std.specs.Prelude.{◌≡◌, ◌+◌, ◌<◌, ◌≤◌, ◌↔◌, IfOk, OnOk, true, ℕ};
+ghost use Rattle.std.specs.BTreeSet.{btree_set_len};
 ghost use Rattle.pl_graph.specs.Graph.{AreEdges};
-ghost use Rattle.pl_graph.specs.Placing.{Forgets, IsPlacement, MakesReady, reversed_of};
+ghost use Rattle.pl_graph.specs.Placing.{AreMirrored, IsPlacement, Releases};
+ghost use Rattle.pl_graph.specs.Sets.{HasNone, has};
 
-use crate::sets::{all_nodes, members, neighbors, neighbors_of};
+use crate::edges::{edge_set, first_neighbor, take_edge, turned_edges};
 use pl_base::Memory;
 use std::alloc::Global;
 use std::collections::BTreeSet;
 
-/// The nodes that were placed while any was ready, those that are left, and for each node those
-/// among them on which it depends.
+/// Nodes that were placed, and what each other node misses.
 #[derive(Drop)]
 pub struct Placement {
+    /// The nodes in the order in which they were placed.
     pub placed: Vec<u32>,
-    pub left: BTreeSet<u32>,
-    pub missing: Vec<BTreeSet<u32>>,
+    /// The edges to nodes that aren't placed.
+    pub missing: BTreeSet<(u32, u32)>,
 }
 
-/// Places the least node whose dependencies are all placed, as long as there is one.
+/// Places node after node: of those whose dependencies are all placed the least, while there is any.
 pub fn place_nodes(alloc: Global, n: u32, edges: &[(u32, u32)]) -> Result<Placement, Memory>
     requires { AreEdges n edges.now }
     ensures { IfOk result (λ placement. IsPlacement n edges.now
-        placement.placed.items placement.left placement.missing.items) }
+        placement.placed.items placement.missing) }
 {
-    let dependents = neighbors(alloc, n, &reversed(alloc, edges)?)?;
-    let mut missing = neighbors(alloc, n, edges)?;
-    let mut left = all_nodes(alloc, n)?;
-    let mut ready = BTreeSet::new(alloc);
+    let mut dependents = turned_edges(alloc, edges)?;
+    let mut missing = edge_set(alloc, edges)?;
+    let mut ready = first_ready(alloc, n, &missing)?;
     let mut placed = Vec::new(alloc);
-    make_ready(&mut ready, &missing, &members(alloc, &left)?)?;
     while let Some(node) = ready.pop_first() {
         placed.push(node)?;
-        left.remove(&node);
-        let released = neighbors_of(alloc, &dependents, node)?;
-        forget(&mut missing, node, &released);
-        make_ready(&mut ready, &missing, &released)?;
+        release(&mut dependents, &mut missing, &mut ready, node)?;
     }
-    Ok(Placement {
-        placed,
-        left,
-        missing,
-    })
+    Ok(Placement { placed, missing })
 }
 
-/// The edges the other way round.
-fn reversed(alloc: Global, edges: &[(u32, u32)]) -> Result<Vec<(u32, u32)>, Memory>
-    ensures { IfOk result (λ reversed. reversed.items ≡ reversed_of edges.now) }
+/// The nodes that miss none.
+fn first_ready(
+    alloc: Global,
+    n: u32,
+    missing: &BTreeSet<(u32, u32)>,
+) -> Result<BTreeSet<u32>, Memory>
+    ensures { IfOk result (λ ready. (x : ℕ) →
+        (has ready x ≡ true) ↔ ((x < n) × HasNone missing.now x)) }
 {
-    Ok(edges.iter().map(|edge| (edge.1, edge.0)).collect(alloc)?)
-}
-
-/// None of the nodes misses the placed one any longer.
-fn forget(missing: &mut Vec<BTreeSet<u32>>, placed: u32, nodes: &[u32])
-    requires { All (λ x. x < length missing.old.items) nodes.now }
-    ensures { Forgets placed nodes.now missing.old.items missing.new.items }
-{
-    for node in nodes {
-        missing[*node as usize].remove(&placed);
+    let mut ready = BTreeSet::new(alloc);
+    for node in 0..n {
+        if first_neighbor(missing, node).is_none() {
+            ready.insert(node)?;
+        }
     }
+    Ok(ready)
 }
 
-/// Those of the nodes that miss nothing are ready as well.
-fn make_ready(
+/// Takes a placed node from what its dependents miss; those that then miss none are ready.
+fn release(
+    dependents: &mut BTreeSet<(u32, u32)>,
+    missing: &mut BTreeSet<(u32, u32)>,
     ready: &mut BTreeSet<u32>,
-    missing: &[BTreeSet<u32>],
-    nodes: &[u32],
+    node: u32,
 ) -> Result<(), Memory>
-    requires { All (λ x. x < length missing.now) nodes.now }
-    ensures { OnOk result (MakesReady missing.now nodes.now ready.old ready.new) }
+    requires { AreMirrored dependents.old missing.old }
+    ensures released { OnOk result (HasNone dependents.new node) }
+    ensures releases { OnOk result (Releases node missing.old ready.old
+        dependents.new missing.new ready.new) }
+    ensures len { OnOk result (btree_set_len missing.new + btree_set_len ready.new
+        ≤ btree_set_len missing.old + btree_set_len ready.old) }
 {
-    for node in nodes {
-        if missing[*node as usize].is_empty() {
-            ready.insert(*node)?;
+    while let Some(dependent) = take_edge(dependents, node) {
+        missing.remove(&(dependent, node));
+        if first_neighbor(missing, dependent).is_none() {
+            ready.insert(dependent)?;
         }
     }
     Ok(())

@@ -29,15 +29,11 @@ pub fn order(alloc: Global, n: u32, edges: &List<(u32, u32)>) -> Result<List<u32
     ensures canonical { IfErr result (λ fault.
         OnCycle fault (λ nodes. IsCanonicalCycle n edges.now nodes)) }
 {
-    let Placement {
-        placed,
-        left,
-        missing,
-    } = place_nodes(alloc, n, edges.as_slice())?;
-    match left.first() {
+    let Placement { placed, missing } = place_nodes(alloc, n, edges.as_slice())?;
+    match missing.first() {
         None => Ok(List::from_vec(placed)),
-        Some(first) => {
-            let cycle = canonical_cycle(alloc, n, &missing, *first)?;
+        Some(edge) => {
+            let cycle = canonical_cycle(alloc, &missing, edge.0)?;
             Err(GraphFault::Cycle(cycle))
         }
     }

@@ -1,8 +1,8 @@
-ghost use Rattle.std.specs.Prelude.{◌≡◌, ◌<◌, ◌↔◌, true, ℕ, IfOk, OnOk};
-ghost use Rattle.pl_graph.specs.Graph.{AreEdges, AreAncestors, DependsTransitively};
-ghost use Rattle.pl_graph.specs.Sets.{FindsMore, has};
+ghost use Rattle.std.specs.Prelude.{◌≡◌, ◌<◌, ◌↔◌, true, ℕ, IfOk};
+ghost use Rattle.pl_graph.specs.Graph.{AreAncestors, AreEdges, DependsTransitively};
+ghost use Rattle.pl_graph.specs.Sets.{has};
 
-use crate::sets::{members, neighbors, neighbors_of};
+use crate::edges::{edge_set, take_edge};
 use pl_base::{List, Memory};
 use std::alloc::Global;
 use std::collections::BTreeSet;
@@ -21,38 +21,27 @@ pub fn ancestors(
     requires node { node < n }
     ensures { IfOk result (λ nodes. AreAncestors edges.now node nodes) }
 {
-    let found = reach(alloc, n, edges.as_slice(), node)?;
-    Ok(List::from_vec(members(alloc, &found)?))
+    let found = reach(alloc, edges.as_slice(), node)?;
+    Ok(List::from_vec(found.iter().copied().collect(alloc)?))
 }
 
-/// The transitive dependencies of a node.
-fn reach(alloc: Global, n: u32, edges: &[(u32, u32)], node: u32) -> Result<BTreeSet<u32>, Memory>
-    requires edges { AreEdges n edges.now }
-    requires node { node < n }
+/// The nodes to which walks lead from the node.
+fn reach(alloc: Global, edges: &[(u32, u32)], node: u32) -> Result<BTreeSet<u32>, Memory>
     ensures { IfOk result (λ found. (b : ℕ) →
         (has found b ≡ true) ↔ DependsTransitively edges.now node b) }
 {
-    let dependencies = neighbors(alloc, n, edges)?;
+    let mut rest = edge_set(alloc, edges)?;
     let mut found = BTreeSet::new(alloc);
-    let mut todo = Vec::new(alloc);
-    let first = neighbors_of(alloc, &dependencies, node)?;
-    find_more(&mut found, &mut todo, &first)?;
-    while let Some(next) = todo.pop() {
-        let more = neighbors_of(alloc, &dependencies, next)?;
-        find_more(&mut found, &mut todo, &more)?;
-    }
-    Ok(found)
-}
-
-/// Those of the nodes that had not been found are found, and their own neighbors are to be found.
-fn find_more(found: &mut BTreeSet<u32>, todo: &mut Vec<u32>, nodes: &[u32]) -> Result<(), Memory>
-    ensures { OnOk result (FindsMore found.old todo.old.items nodes.now
-        found.new todo.new.items) }
-{
-    for node in nodes {
-        if found.insert(*node)? {
-            todo.push(*node)?;
+    let mut todo = BTreeSet::new(alloc);
+    let mut from = node;
+    loop {
+        if let Some(to) = take_edge(&mut rest, from) {
+            found.insert(to)?;
+            todo.insert(to)?;
+        } else if let Some(next) = todo.pop_first() {
+            from = next;
+        } else {
+            return Ok(found);
         }
     }
-    Ok(())
 }

@@ -1,65 +1,51 @@
 ghost use Rattle.std.specs.Prelude.{◌≡◌, ◌<◌, ◌≤◌, ℕ, All, Contains, IfOk, length, slice_index};
-ghost use Rattle.pl_graph.specs.Placing.{MissesNone};
-ghost use Rattle.pl_graph.specs.Walking.{GoesOn, IsCycleFrom, IsNext, IsTurned, IsWalk};
+ghost use Rattle.pl_graph.specs.Sets.{IsNext};
+ghost use Rattle.pl_graph.specs.Walking.{AllGoOn, GoesOn, IsCycleFrom, IsTurned};
 
-use crate::sets::all_nodes;
+use crate::edges::first_neighbor;
 use pl_base::{List, Memory};
 use std::alloc::Global;
 use std::collections::BTreeSet;
 
-/// A walk that comes back to its node at the place `start`.
-#[derive(Drop)]
-struct Walk {
-    nodes: Vec<u32>,
-    start: usize,
-}
-
-/// The cycle to which the walk from the first node along the least missed nodes leads, turned to
+/// The cycle to which the walk from the first node leads, always to the least next node, turned to
 /// begin with its least node.
 pub fn canonical_cycle(
     alloc: Global,
-    n: u32,
-    missing: &[BTreeSet<u32>],
+    edges: &BTreeSet<(u32, u32)>,
     first: u32,
 ) -> Result<List<u32>, Memory>
-    requires len { length missing.now ≡ n }
-    requires goes_on { GoesOn n missing.now }
-    requires first { first < n }
-    requires waits { MissesNone missing.now first → ⊥ }
-    ensures { IfOk result (IsCycleFrom missing.now first) }
+    requires goes_on { AllGoOn edges.now }
+    requires goes { GoesOn edges.now first }
+    ensures cycle { IfOk result (IsCycleFrom edges.now first) }
+    ensures least { IfOk result (λ cycle. All (λ x. slice_index cycle 0 ≤ x) cycle) }
 {
-    let walk = walk_from(alloc, n, missing, first)?;
-    let (_, around) = walk.nodes.as_slice().split_at(walk.start);
-    let cycle = turned(alloc, around)?;
-    Ok(List::from_vec(cycle))
+    let cycle = cycle_from(alloc, edges, first)?;
+    Ok(List::from_vec(turned(alloc, &cycle)?))
 }
 
-/// The walk from the first node along the least missed nodes, until a node repeats.
-fn walk_from(alloc: Global, n: u32, missing: &[BTreeSet<u32>], first: u32) -> Result<Walk, Memory>
-    requires len { length missing.now ≡ n }
-    requires goes_on { GoesOn n missing.now }
-    requires first { first < n }
-    requires waits { MissesNone missing.now first → ⊥ }
-    ensures { IfOk result (λ walk. IsWalk missing.now first walk.nodes.items walk.start) }
+/// The cycle to which the walk from the first node leads, from the node at which it comes to it.
+fn cycle_from(alloc: Global, edges: &BTreeSet<(u32, u32)>, first: u32) -> Result<Vec<u32>, Memory>
+    requires goes_on { AllGoOn edges.now }
+    requires goes { GoesOn edges.now first }
+    ensures { IfOk result (λ cycle. IsCycleFrom edges.now first cycle.items) }
 {
-    let mut unseen = all_nodes(alloc, n)?;
+    let mut seen = BTreeSet::new(alloc);
     let mut nodes = Vec::new(alloc);
     let mut node = first;
-    while unseen.remove(&node) {
+    while seen.insert(node)? {
         nodes.push(node)?;
-        node = least_missed(missing, node);
+        node = next_of(edges, node);
     }
     let start = place_of(&nodes, node);
-    Ok(Walk { nodes, start })
+    Ok(nodes.split_off(start)?)
 }
 
-/// The least node that a node misses.
-fn least_missed(missing: &[BTreeSet<u32>], node: u32) -> u32
-    requires within { node < length missing.now }
-    requires waits { MissesNone missing.now node → ⊥ }
-    ensures { IsNext missing.now node result }
+/// The least node to which an edge leads from the node.
+fn next_of(edges: &BTreeSet<(u32, u32)>, node: u32) -> u32
+    requires { GoesOn edges.now node }
+    ensures { IsNext edges.now node result }
 {
-    missing[node as usize].first().copied().unwrap_or(node)
+    first_neighbor(edges, node).unwrap_or(node)
 }
 
 /// The first place of a node that is among the nodes.

@@ -1,5 +1,6 @@
 -- What a call gives, by what is meant.
-use Rattle.std.specs.Prelude.{◌≡◌, Result, Ok, Err}
+use Rattle.std.specs.Prelude.{◌≡◌, Result, Ok, Err, Option, Some, None}
+use Rattle.pl_reading.specs.Answers as answers
 use Rattle.pl_base.specs.declared.place.Place.{Place}
 use Rattle.pl_schema_parts.specs.declared.fault.SchemaCode.{SchemaCode}
 use Rattle.pl_schema_parts.specs.declared.fault.SchemaFault.{SchemaFault}
@@ -9,15 +10,18 @@ use Rattle.pl_schema_parts.specs.declared.fault.SchemaFault.TheVariants.{Refused
 abbrev pub Fault : Type 0
 Fault = SchemaCode × Place
 
+-- what a refusal tells; want of memory tells nothing
+abbrev pub told : SchemaFault → Option Fault
+told Memory = None
+told (Refused code place) = Some (code, place)
+
 -- a refusal is the fault that is meant, and want of memory is free
 abbrev pub Refuses : {X : Type 0} → SchemaFault → Result X Fault → Type 0
-Refuses Memory meant = Unit {0}
-Refuses (Refused code place) meant = meant ≡ Err (code, place)
+Refuses fault meant = answers.Tells (told fault) meant
 
 -- a value is what is meant
 abbrev pub Gives : {X : Type 0} → Result X SchemaFault → Result X Fault → Type 0
-Gives (Ok value) meant = meant ≡ Ok value
-Gives (Err fault) meant = Refuses fault meant
+Gives answer meant = answers.Gives told (λ value. value) answer meant
 
 -- what was changed is what is meant
 abbrev pub Makes : {X U : Type 0} → Result U SchemaFault → X → Result X Fault → Type 0

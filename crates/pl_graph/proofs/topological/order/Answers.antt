@@ -1,40 +1,41 @@
-use Rattle.pl_graph.proofs.Common.{arith, nat_tests}
-use Rattle.pl_graph.proofs.Orders.{all_placed, cycle_is, first_remains, not_both}
+use Rattle.pl_graph.proofs.Common.{arith}
+use Rattle.pl_graph.proofs.Lists.{once_length}
+use Rattle.pl_graph.proofs.Members.{edge_le, none_join}
+use Rattle.pl_graph.proofs.Orders.{all_go_on, all_placed, cycle_is, first_remains, not_both}
 use Rattle.pl_graph.proofs.Walks.{canonical_is_cycle}
-use Rattle.pl_graph.specs.Graph.{IsCanonicalCycle, IsLeastTopological}
 use Rattle.pl_graph.proofs.topological.order.Goals as goal
-use Rattle.pl_graph.proofs.topological.order.Goals.{In-None, In_ok-cycle-in-Some}
 
-ordered : (c : In-None) → IsLeastTopological c.args.n c.args.edges.now
-    c.in_ok-placed.field-0.placed.items
-ordered c =
-    all_placed (rw c.as_slice.ensures at c.in_ok-placed.ensures)
-    (let some = c.in-None.ensures.variant in grind arith)
+pub canonical_cycle-requires-clause-goes_on : goal.canonical_cycle-requires-clause-goes_on
+canonical_cycle-requires-clause-goes_on c =
+    all_go_on (rw c.as_slice.ensures at c.in_ok-placed.ensures)
 
-canonical : (c : In_ok-cycle-in-Some) → IsCanonicalCycle c.args.n c.args.edges.now
-    c.in_ok-cycle-in-Some.cycle
-canonical c =
+pub canonical_cycle-requires-clause-goes : goal.canonical_cycle-requires-clause-goes
+canonical_cycle-requires-clause-goes c = (c.in-Some.edge.now.1, c.in-Some.ensures.member)
+
+pub returns-in-None : goal.returns-in-None
+returns-in-None c =
+    let is = all_placed (rw c.as_slice.ensures at c.in_ok-placed.ensures)
+    (λ a b. none_join _ a b (let some = c.in-None.ensures.variant in grind arith)) in
+    rw c.from_vec.ensures (record {
+      order = is;
+      len = once_length _ _ is.topological.once is.topological.members;
+      acyclic = λ nodes. not_both c.args.n c.args.edges.now _ nodes c.requires is.topological;
+      cycle = tt;
+      canonical = tt;
+    })
+
+pub returns-in_ok-cycle-in-Some : goal.returns-in_ok-cycle-in-Some
+returns-in_ok-cycle-in-Some c =
     let p = rw c.as_slice.ensures at c.in_ok-placed.ensures in
-    let first = first_remains p c.in-Some.first.now c.in-Some.ensures.member
-    (λ x h. let low = c.in-Some.ensures.least x h in grind (arith, nat_tests)) in
-    cycle_is p c.in-Some.first.now c.in_ok-cycle-in-Some.cycle first
-    (rw c.deref.ensures.value at c.in_ok-cycle-in-Some.ensures)
-
-pub returns-in-None-clause-order : goal.returns-in-None-clause-order
-returns-in-None-clause-order c =
-    rw c.from_vec.ensures (ordered (goal.at.returns-in-None-clause-order c).In-None)
-
-pub returns-in-None-clause-acyclic : goal.returns-in-None-clause-acyclic
-returns-in-None-clause-acyclic c = λ nodes cycle.
-    not_both c.args.n c.args.edges.now _ nodes c.requires
-    (ordered (goal.at.returns-in-None-clause-acyclic c).In-None).topological cycle
-
-pub returns-in_ok-cycle-in-Some-clause-cycle : goal.returns-in_ok-cycle-in-Some-clause-cycle
-returns-in_ok-cycle-in-Some-clause-cycle c =
-    canonical_is_cycle c.args.n c.args.edges.now c.in_ok-cycle-in-Some.cycle
-    (canonical (goal.at.returns-in_ok-cycle-in-Some-clause-cycle c).In_ok-cycle-in-Some)
-
-pub returns-in_ok-cycle-in-Some-clause-canonical :
-    goal.returns-in_ok-cycle-in-Some-clause-canonical
-returns-in_ok-cycle-in-Some-clause-canonical c =
-    canonical (goal.at.returns-in_ok-cycle-in-Some-clause-canonical c).In_ok-cycle-in-Some
+    let edge = c.in-Some.edge.now in
+    let first = first_remains p edge.0 edge.1 c.in-Some.ensures.member
+    (λ x y h. let low = (edge_le edge (x, y)).0 (c.in-Some.ensures.least (x, y) h) in grind arith) in
+    let is = cycle_is p edge.0 c.in_ok-cycle-in-Some.cycle first
+    c.in_ok-cycle-in-Some.ensures.cycle c.in_ok-cycle-in-Some.ensures.least in
+    record {
+      order = tt;
+      len = tt;
+      acyclic = tt;
+      cycle = canonical_is_cycle _ _ _ is;
+      canonical = is;
+    }

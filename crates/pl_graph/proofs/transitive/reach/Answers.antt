@@ -1,55 +1,25 @@
-use Rattle.pl_graph.proofs.Common.{◌≡◌, ◌++◌, ◌∷◌, [], arith, length, rules}
-use Rattle.pl_graph.proofs.Orders.{neighbor_list}
-use Rattle.pl_graph.proofs.Searches.{IsReach, next_within, reach_first, reach_length, reach_more}
-use Rattle.pl_graph.proofs.Searches.{reach_whole}
+use Rattle.pl_graph.proofs.Common.{arith}
+use Rattle.pl_graph.proofs.Members.{are_in}
+use Rattle.pl_graph.proofs.Searches.{follow_one, reach_none, reach_whole, take_next}
 use Rattle.pl_graph.proofs.transitive.reach.Goals as goal
-use Rattle.pl_graph.proofs.transitive.reach.Goals.{In-Some, In_ok-find_more-2}
 
-pub loop-next-init : goal.loop-next-init
-loop-next-init c =
-    let list = rw c.deref.ensures.value at c.in_ok-first.ensures in
-    let f = rw (c.new-todo.ensures.items, c.deref-2.ensures.value) at c.in_ok-find_more.ensures in
-    record {
-      reach = reach_first c.new-found.ensures.empty
-          (neighbor_list c.in_ok-dependencies.ensures list) f;
-      ordered = f.ordered c.new-found.ensures.ordered;
-    }
+pub loop-to-init : goal.loop-to-init
+loop-to-init c =
+    reach_none _ _ (are_in _ _ c.in_ok-rest.ensures) c.new-found.ensures.len c.new-todo.ensures.len
 
-popped : (c : In-Some) → IsReach c.args.edges.now c.args.node c.loop-next.found
-    (c.pop.new.self.items ++ c.in-Some.next ∷ [])
-popped c = rw c.in-Some.ensures.items at c.loop-next.invariant.reach
+pub loop-to-preserved-in_ok-insert-2 : goal.loop-to-preserved-in_ok-insert-2
+loop-to-preserved-in_ok-insert-2 c =
+    let (had, cut, less) = c.in-Some.ensures in
+    follow_one c.loop-to.invariant c.in-Some.to _ _ _ had cut c.in_ok-insert.ensures.updates
+    c.in_ok-insert-2.ensures.updates
 
-pub neighbors_of-requires-in-Some : goal.neighbors_of-requires-in-Some
-neighbors_of-requires-in-Some c =
-    let within =
-    next_within _ _ c.requires.edges (popped (goal.at.neighbors_of-requires-in-Some c).In-Some) in
-    let len = c.in_ok-dependencies.ensures.len in
-    rw c.deref-in-Some.ensures.value (omega arith)
+pub loop-to-preserved : goal.loop-to-preserved
+loop-to-preserved c =
+    let (none, same) = c.in_default.ensures in
+    rw same (take_next c.loop-to.invariant none c.in-Some-pop_first.next _
+    c.in-Some-pop_first.ensures.member c.in-Some-pop_first.ensures.updates)
 
-more : (c : In_ok-find_more-2) → IsReach c.args.edges.now c.args.node
-    c.find_more-in-Some.new.found c.find_more-in-Some.new.todo.items
-more c =
-    let list = rw c.deref-in-Some.ensures.value at c.in_ok-more.ensures in
-    let f = rw c.deref-in-Some-2.ensures.value at c.in_ok-find_more-2.ensures in
-    reach_more c.in-Some.next (rw c.in-Some.ensures.items at c.loop-next.invariant.reach)
-    (neighbor_list c.in_ok-dependencies.ensures list) f
-
-pub loop-next-smaller : goal.loop-next-smaller
-loop-next-smaller c =
-    let f = c.in_ok-find_more-2.ensures in
-    let was = reach_length c.requires.edges c.loop-next.invariant.reach
-    c.loop-next.invariant.ordered in
-    let now = reach_length c.requires.edges (more (goal.at.loop-next-smaller c).In_ok-find_more-2)
-    (f.ordered c.loop-next.invariant.ordered) in
-    omega (arith, f.len, c.in-Some.ensures.len)
-
-pub loop-next-preserved : goal.loop-next-preserved
-loop-next-preserved c = record {
-  reach = more (goal.at.loop-next-preserved c).In_ok-find_more-2;
-  ordered = c.in_ok-find_more-2.ensures.ordered c.loop-next.invariant.ordered;
-}
-
-pub returns : goal.returns
-returns c =
-    let none : length c.loop-next.todo.items ≡ 0 = search rules in
-    reach_whole c.loop-next.invariant.reach none
+pub returns-in_default-pop_first : goal.returns-in_default-pop_first
+returns-in_default-pop_first c =
+    let (none, same) = c.in_default.ensures in
+    reach_whole c.loop-to.invariant none (let some = c.in_default-pop_first.ensures.variant in grind arith)

@@ -1,4 +1,4 @@
-use Rattle.pl_graph.proofs.Common.{◌<◌, ◌≤◌, ℕ, get_or, length}
+use Rattle.pl_graph.proofs.Common.{get_or, length, ◌<◌, ◌≤◌, ℕ}
 use Rattle.pl_graph.proofs.walking.place_of_least.Given as goal
 
 abbrev pub invariant-loop-place : goal.invariant-loop-place

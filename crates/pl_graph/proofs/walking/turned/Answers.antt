@@ -1,4 +1,4 @@
-use Rattle.pl_graph.proofs.Common.{◌≡◌, ◌++◌, drop, take, rules}
+use Rattle.pl_graph.proofs.Common.{drop, rules, take, ◌++◌, ◌≡◌}
 use Rattle.pl_graph.proofs.Walks.{turned_at}
 use Rattle.pl_graph.proofs.walking.turned.Goals as goal
 
