@@ -3,15 +3,14 @@ pub use Rattle.pl_graph.specs.Graph.{AreEdges, Chain, ClosedChain, DependsOn, De
 pub use Rattle.pl_graph.specs.Graph.{EachOnce, InTurn, IsCanonicalCycle, IsCycle, IsLeast}
 pub use Rattle.pl_graph.specs.Graph.{IsLeastDependency, IsLeastTopological, IsTopological}
 pub use Rattle.pl_graph.specs.Graph.{KeepsItself, Leads, Remains, Walk}
-pub use Rattle.pl_graph.specs.Placing.{AreMirrored, IsPlacement, IsPlacing, IsReady, PlacesLeast}
-pub use Rattle.pl_graph.specs.Placing.{Releases}
+pub use Rattle.pl_graph.specs.Placing.{IsPlacement, IsReady, PlacesLeast}
 pub use Rattle.pl_graph.specs.Sets.{HasNone, IsFirst, IsNext, edge_cmp, has, joins, turned_of}
 pub use Rattle.pl_graph.specs.Walking.{AllGoOn, GoesOn, IsCycleFrom, IsTurned}
 pub use Rattle.std.proofs.Common.{Bool, List, None, Option, Ordering, Some, [], ap, append_assoc}
-pub use Rattle.std.proofs.Common.{arith, cond, drop, eqb, false, get_or, inl, inr, is_some, length}
-pub use Rattle.std.proofs.Common.{refl, rules, slice_index, subst, suc, sym, take, true, zero, ◌++◌}
-pub use Rattle.std.proofs.Common.{◌+◌, ◌-◌, ◌<◌, ◌∙◌, ◌∷◌, ◌≡◌, ◌≢◌, ◌≤◌, ◌⊎◌, ℕ, ⊎_elim}
-pub use Rattle.std.proofs.lemmas.Bool.{cases_Bool, eq-eqb, false≢true}
+pub use Rattle.std.proofs.Common.{arith, drop, eqb, false, get_or, inl, inr, is_some, length, refl}
+pub use Rattle.std.proofs.Common.{rules, slice_index, subst, suc, sym, take, true, zero, ◌++◌, ◌+◌}
+pub use Rattle.std.proofs.Common.{◌-◌, ◌<◌, ◌∙◌, ◌∷◌, ◌≡◌, ◌≢◌, ◌≤◌, ◌⊎◌, ℕ, ⊎_elim}
+pub use Rattle.std.proofs.lemmas.Bool.{cases_Bool, cases_eq, eq-eqb, false≢true}
 pub use Rattle.std.proofs.lemmas.Bool.Decides.{Decides-eqb, nat_tests}
 pub use Rattle.std.proofs.lemmas.List.{append-nil, drop_more, get_or-append-add, get_or-map}
 pub use Rattle.std.proofs.lemmas.List.{get_or_append_left, get_or_default, length-append}

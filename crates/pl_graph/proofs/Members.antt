@@ -1,17 +1,16 @@
 -- Sets of nodes and of edges: what they have, before and after a change.
-use Rattle.pl_graph.proofs.Common.{AreMirrored, BTreeSet, Bool, CmpEqualImpliesEq, Contains}
-use Rattle.pl_graph.proofs.Common.{DependsOn, Equal, GoesOn, Greater, HasNone, IsFirst}
-use Rattle.pl_graph.proofs.Common.{IsFromIterResult, IsKeyRangeOf, IsNext, Less, List, None, Option}
-use Rattle.pl_graph.proofs.Common.{Ordering, Some, Updates, [], ap, arith, btree_set_len}
-use Rattle.pl_graph.proofs.Common.{cases_Bool, contains, edge_cmp, eq-eqb, eqb, exact_pairs}
-use Rattle.pl_graph.proofs.Common.{exact_unsigned, false, false≢true, get_or-map, has, inl, inr}
-use Rattle.pl_graph.proofs.Common.{is_eq, is_gt, is_some, joins, keys, length, length-map, list_any}
-use Rattle.pl_graph.proofs.Common.{nat_cmp, nat_tests, ordering_then, refl, subst, sym, true}
-use Rattle.pl_graph.proofs.Common.{turned_of, ◌<◌, ◌↔◌, ◌∙◌, ◌∷◌, ◌≡◌, ◌≤◌, ◌⊎◌, ℕ, ⊎_elim}
-use Rattle.std.proofs.lemmas.Cmp.{eq_by_cmp_equiv, nat_cmp_total, on_total, then_total}
+use Rattle.pl_graph.proofs.Common.{BTreeSet, Bool, CmpEqualImpliesEq, Contains, DependsOn, Equal}
+use Rattle.pl_graph.proofs.Common.{GoesOn, Greater, HasNone, IsFirst, IsFromIterResult}
+use Rattle.pl_graph.proofs.Common.{IsKeyRangeOf, IsNext, Less, List, None, Option, Ordering, Some}
+use Rattle.pl_graph.proofs.Common.{Updates, [], ap, arith, btree_set_len, cases_Bool, contains}
+use Rattle.pl_graph.proofs.Common.{edge_cmp, eq-eqb, eqb, exact_pairs, exact_unsigned, false}
+use Rattle.pl_graph.proofs.Common.{false≢true, get_or-map, has, inl, inr, is_eq, is_gt, is_some}
+use Rattle.pl_graph.proofs.Common.{joins, keys, length, length-map, list_any, nat_cmp, nat_tests}
+use Rattle.pl_graph.proofs.Common.{ordering_then, refl, sym, true, turned_of, ◌<◌, ◌↔◌, ◌∙◌, ◌∷◌}
+use Rattle.pl_graph.proofs.Common.{◌≡◌, ◌≤◌, ◌⊎◌, ℕ, ⊎_elim}
+use Rattle.std.proofs.lemmas.Cmp.{nat_cmp_total, on_total, then_total}
 use Rattle.std.proofs.lemmas.List.Folds.{Any-from_list_any, list_any_at}
 use Rattle.std.proofs.lemmas.Map.Views.{btree_set_contains_from_list, btree_set_contains_iff}
-use Rattle.std.specs.BTreeMap.{is_at}
 use Rattle.std.specs.BTreeMap.Range.{IsInRange, IsLeBy}
 use Rattle.std.specs.Cmp.{IsTotalOrder}
 use Rattle.std.specs.declared.ops.Bound.TheVariants.{Included, Unbounded}
@@ -40,37 +39,27 @@ none_join edges a b empty =
     ⊎_elim (λ h. let (k, below, is) = (joins_is edges a b).0 h in absurd (omega arith)) (λ h. h)
     (cases_Bool (joins edges a b))
 
-at_equal : (o : Ordering) → is_eq o ≡ true → o ≡ Equal
-at_equal Less e = cc
-at_equal Equal e = refl
-at_equal Greater e = cc
-
--- what a set has after one was put in or taken out
-module _ {K : Type 0} {cmp : K → K → Ordering} (total : IsTotalOrder cmp)
-    (exact : CmpEqualImpliesEq cmp) where
-  one_changed : (old new : BTreeSet K) (k : K) (here : Bool) (x : K) → Updates cmp old new k here →
-      ((k ≡ x) × (contains cmp new x ≡ here)) ⊎ ((k ≡ x → ⊥) × (contains cmp new x ≡ contains cmp old x))
-  one_changed old new k here x is =
-      ⊎_elim (λ at. let e = exact k x (at_equal _ at) in inl (e, rw (← e) is.1))
-      (λ other. inr (
-        λ e. false≢true (sym other ∙ subst (λ (z : K).
-            is_at (cmp k) z ≡ true) e ((eq_by_cmp_equiv total).refl k)),
-        is.2 x other,
-      ))
-      (cases_Bool (is_at (cmp k) x))
-
-pub updated : (old new : BTreeSet ℕ) (k : ℕ) (here : Bool) (x : ℕ) → Updates nat_cmp old new k here →
+-- what a set of nodes has after one was put in or taken out
+pub updated : (old new : BTreeSet ℕ) (k : ℕ) (here : Bool) (x : ℕ) →
+    Updates nat_cmp old new k here →
     ((k ≡ x) × (has new x ≡ here)) ⊎ ((k ≡ x → ⊥) × (has new x ≡ has old x))
-updated = one_changed nat_cmp_total exact_unsigned
+updated old new k here x is = let after = is.0 x in grind (arith, nat_tests)
 
+edge_at : (o p : Ordering) → (is_eq (ordering_then o p) ≡ true) ↔ ((o ≡ Equal) × (p ≡ Equal))
+edge_at Less p = (λ h. cc, λ (e, f). cc)
+edge_at Equal Less = (λ h. cc, λ (e, f). cc)
+edge_at Equal Equal = (λ h. (refl, refl), λ h. refl)
+edge_at Equal Greater = (λ h. cc, λ (e, f). cc)
+edge_at Greater p = (λ h. cc, λ (e, f). cc)
+
+-- the same of edges
 pub changed : (old new : BTreeSet (ℕ × ℕ)) (k l : ℕ) (here : Bool) (a b : ℕ) →
     Updates edge_cmp old new (k, l) here →
     ((k ≡ a) × (l ≡ b) × (joins new a b ≡ here)) ⊎
     (((k ≡ a) × (l ≡ b) → ⊥) × (joins new a b ≡ joins old a b))
 changed old new k l here a b is =
-    ⊎_elim (λ (e, now). inl (ap (λ p. p.0) e, ap (λ p. p.1) e, now))
-    (λ (ne, same). inr (λ (e, f). ne (cc), same))
-    (one_changed edge_total exact_edges old new (k, l) here (a, b) is)
+    let after = is.0 (a, b) in let at = edge_at (nat_cmp k a) (nat_cmp l b) in
+    grind (arith, nat_tests)
 
 -- ---- the first edge from a node
 
@@ -115,7 +104,8 @@ pub are_in : (edges : List (ℕ × ℕ)) (set : BTreeSet (ℕ × ℕ)) → IsFro
 are_in edges set made a b =
     btree_set_contains_from_list edge_total exact_edges edges set made (a, b)
 
-turned_is : (edges : List (ℕ × ℕ)) (a b : ℕ) → DependsOn (turned_of edges) b a ↔ DependsOn edges a b
+pub turned_is : (edges : List (ℕ × ℕ)) (a b : ℕ) →
+    DependsOn (turned_of edges) b a ↔ DependsOn edges a b
 turned_is edges a b =
     let flip : ℕ × ℕ → ℕ × ℕ = λ edge. (edge.1, edge.0) in (
       λ (k, below, is). let within : k < length edges = rw length-map at below in
@@ -123,13 +113,6 @@ turned_is edges a b =
       λ (k, below, is).
           (k, rw length-map below, get_or-map flip edges k (a, b) (b, a) below ∙ ap flip is),
     )
-
-pub mirrored : (edges : List (ℕ × ℕ)) (dependents missing : BTreeSet (ℕ × ℕ)) →
-    IsFromIterResult edge_cmp (turned_of edges) dependents →
-    IsFromIterResult edge_cmp edges missing → AreMirrored dependents missing
-mirrored edges dependents missing turned made a b =
-    let one = are_in (turned_of edges) dependents turned b a in
-    let other = are_in edges missing made a b in let same = turned_is edges a b in grind arith
 
 pub none_first : (edges : BTreeSet (ℕ × ℕ)) (a : ℕ) (first : Option ℕ) → IsFirst edges a first →
     is_some first ≡ false → HasNone edges a

@@ -100,31 +100,30 @@ none_remains n edges order x after had (set, keeps, kept) =
     (λ b (k, below, is). absurd (omega arith)) after x had kept
 
 module _ {n : ℕ} {edges : List (ℕ × ℕ)} {placed : List ℕ} {missing : BTreeSet (ℕ × ℕ)}
-    (p : IsPlacement n edges placed missing) where
+    (are : AreEdges n edges) (p : IsPlacement n edges placed missing) where
   -- a node that isn't placed misses one
   goes : (x : ℕ) → x < n → (Contains placed x → ⊥) → GoesOn missing x
   goes x within unplaced =
-      ⊎_elim (λ h. h) (λ none. absurd (false≢true (sym (p.none x)
-      ∙ (p.placing.ready_is x).1 (within, unplaced, none)))) (next_or_none missing x)
+      ⊎_elim (λ h. h) (λ none. absurd (p.waiting x within unplaced none)) (next_or_none missing x)
 
   pub all_go_on : AllGoOn missing
   all_go_on a b h =
-      let (depends, unplaced) = p.placing.missed a b h in
-      goes b (edge_within n edges a b p.placing.edges_are depends).1 unplaced
+      let (depends, unplaced) = p.missed a b h in
+      goes b (edge_within n edges a b are depends).1 unplaced
 
   remaining : (x : ℕ) → Remains n edges x ↔ GoesOn missing x
   remaining x = (
     λ remains. let (set, keeps, kept) = remains in
         goes x (keeps x kept).0 (λ had. none_remains n edges placed x (in_order n edges placed
-        p.placing.least) had remains),
+        p.least) had remains),
     λ (b, h). (waits missing, keeps, (waits_is missing x).1 (b, h)),
   )
     where
       keeps : KeepsItself n edges (waits missing)
       keeps y h =
           let (b, joined) = (waits_is missing y).0 h in
-          let (depends, unplaced) = p.placing.missed y b joined in
-          let within = edge_within n edges y b p.placing.edges_are depends in
+          let (depends, unplaced) = p.missed y b joined in
+          let within = edge_within n edges y b are depends in
           (within.0, (b, depends, (waits_is missing b).1 (all_go_on y b joined)))
 
   pub first_remains : (a b : ℕ) → joins missing a b ≡ true →
@@ -134,18 +133,18 @@ module _ {n : ℕ} {edges : List (ℕ × ℕ)} {placed : List ℕ} {missing : BT
 
   next_is : (a b : ℕ) → IsNext missing a b → IsLeastDependency n edges a b
   next_is a b (had, least) = (
-    ((p.placing.missed a b had).0, (remaining b).1 (all_go_on a b had)),
+    ((p.missed a b had).0, (remaining b).1 (all_go_on a b had)),
     λ y (depends, remains). least y (⊎_elim (λ h. h) (λ on. absurd (none_remains n edges placed y
-        (in_order n edges placed p.placing.least) on remains)) (p.placing.kept a y depends)),
+        (in_order n edges placed p.least) on remains)) (p.kept a y depends)),
   )
 
   -- where none is missed, all are placed
   pub all_placed : ((a b : ℕ) → joins missing a b ≡ false) → IsLeastTopological n edges placed
   all_placed none =
-      least_topological n edges placed p.placing.least (λ x. (
+      least_topological n edges placed p.least (λ x. (
         all_in_turn (λ y. y < n) [] placed
             (turn_weaker (Least n edges) _ (λ before y ready. ready.0.node) [] placed
-            p.placing.least) x,
+            p.least) x,
         λ within. ⊎_elim (λ h. h) (λ out. let (b, h) = goes x within out in
             absurd (false≢true (sym (none x b) ∙ h))) (decided placed x),
       ))

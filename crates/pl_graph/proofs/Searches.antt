@@ -1,12 +1,12 @@
 -- Edges followed from a node, one after the other.
 use Rattle.pl_graph.proofs.Common.{BTreeSet, DependsOn, DependsTransitively, HasNone, List, Updates}
-use Rattle.pl_graph.proofs.Common.{Walk, arith, btree_set_len, edge_cmp, false, false≢true, has}
-use Rattle.pl_graph.proofs.Common.{inl, inr, joins, nat_cmp, refl, suc, sym, true, zero, ◌↔◌, ◌∙◌}
-use Rattle.pl_graph.proofs.Common.{◌≡◌, ◌⊎◌, ℕ, ⊎_elim}
-use Rattle.pl_graph.proofs.Members.{changed, none_has, updated}
+use Rattle.pl_graph.proofs.Common.{Walk, arith, btree_set_len, cases_eq, edge_cmp, false}
+use Rattle.pl_graph.proofs.Common.{false≢true, has, inl, inr, joins, nat_cmp, refl, suc, sym, true}
+use Rattle.pl_graph.proofs.Common.{zero, ◌↔◌, ◌∙◌, ◌≡◌, ◌⊎◌, ℕ, ⊎_elim}
+use Rattle.pl_graph.proofs.Members.{changed, none_has}
 
 -- what is found is reached from the start, and so are the node whose edges are followed and those
--- to do. An edge is left or leads to what is found; each edge from another node that is reached does
+-- to do. An edge is left or leads to what is found; from any other node that is reached each does
 pub record IsReach (edges : List (ℕ × ℕ)) (start from : ℕ) (rest : BTreeSet (ℕ × ℕ))
     (found todo : BTreeSet ℕ) : Type 0 where
   pub sound : (b : ℕ) → has found b ≡ true → DependsTransitively edges start b
@@ -16,7 +16,8 @@ pub record IsReach (edges : List (ℕ × ℕ)) (start from : ℕ) (rest : BTreeS
   pub closed : (a b : ℕ) → (a ≡ start) ⊎ (has found a ≡ true) → DependsOn edges a b →
       (has found b ≡ true) ⊎ ((from ≡ a) ⊎ (has todo a ≡ true))
 
-pub reach_none : {edges : List (ℕ × ℕ)} {start : ℕ} {rest : BTreeSet (ℕ × ℕ)} (found todo : BTreeSet ℕ) →
+pub reach_none : {edges : List (ℕ × ℕ)} {start : ℕ} {rest : BTreeSet (ℕ × ℕ)}
+    (found todo : BTreeSet ℕ) →
     ((a b : ℕ) → (joins rest a b ≡ true) ↔ DependsOn edges a b) → btree_set_len found ≡ 0 →
     btree_set_len todo ≡ 0 → IsReach edges start start rest found todo
 reach_none {start = start} found todo all none empty = record {
@@ -39,21 +40,21 @@ module _ {edges : List (ℕ × ℕ)} {start from : ℕ} {rest : BTreeSet (ℕ ×
       let here : DependsTransitively edges start b =
       ⊎_elim (λ e. (0, rw e at edge)) (λ h. let (m, walk) = r.sound from h in
       (suc m, (from, walk, edge))) (r.reached from (inl refl)) in record {
-        sound = λ c h. ⊎_elim (λ (e, is). rw e at here)
-            (λ (ne, is). r.sound c (sym is ∙ h)) (updated found found_now b true c put);
+        sound = λ c h. ⊎_elim (λ e. rw e at here)
+            (λ ne. r.sound c (let after = put.0 c in grind arith)) (cases_eq b c);
         rest_is = λ a c h.
             let was = r.rest_is a c in let after = changed rest rest_now from b false a c cut in
             grind arith;
         left = λ a c h.
             let was = r.left a c h in let after = changed rest rest_now from b false a c cut in
-            let also = updated found found_now b true c put in grind arith;
+            let also = put.0 c in grind arith;
         reached = λ a h.
-            let was = r.reached a in let after = updated found found_now b true a put in
-            let also = updated todo todo_now b true a queue in grind arith;
+            let was = r.reached a in let after = put.0 a in
+            let also = queue.0 a in grind arith;
         closed = λ a c h depends.
-            let was = r.closed a c in let after = updated found found_now b true a put in
-            let also = updated todo todo_now b true a queue in
-            let end = updated found found_now b true c put in grind arith;
+            let was = r.closed a c in let after = put.0 a in
+            let also = queue.0 a in
+            let end = put.0 c in grind arith;
       }
 
   -- once no edge from it is left, another node is taken
@@ -71,11 +72,11 @@ module _ {edges : List (ℕ × ℕ)} {start from : ℕ} {rest : BTreeSet (ℕ ×
       rest_is = r.rest_is;
       left = r.left;
       reached = λ a h.
-          let was = r.reached a in let after = updated todo popped next false a pops in
+          let was = r.reached a in let after = pops.0 a in
           let here : next ≡ a → has todo a ≡ true = λ e. rw e at had in grind arith;
       closed = λ a b h depends.
           let was = followed a b h depends in
-          let after = updated todo popped next false a pops in grind arith;
+          let after = pops.0 a in grind arith;
     }
 
     -- where none is to do any more, all is found

@@ -59,7 +59,8 @@ pub cut_at : {edges : BTreeSet (ℕ × ℕ)} {first node : ℕ} {nodes : List �
     get_or nodes start 0 ≡ node → IsCycleFrom edges first (drop start nodes)
 cut_at {edges = edges} {first = first} {node = node} {nodes = nodes} start w once within is =
     let after = drop (start + 1) nodes in
-    let split : drop start nodes ≡ node ∷ after = drop_more nodes start 0 within ∙ ap (λ x. x ∷ after) is in
+    let split : drop start nodes ≡ node ∷ after =
+    drop_more nodes start 0 within ∙ ap (λ x. x ∷ after) is in
     let whole : nodes ≡ take start nodes ++ node ∷ after =
     sym (take-append-drop start nodes) ∙ ap (λ z. take start nodes ++ z) split in
     let P : List ℕ → Type 0 = λ z. EachOnce z × Chain (IsNext edges) (z ++ node ∷ [])
@@ -72,7 +73,8 @@ pub turned_cycle : {edges : BTreeSet (ℕ × ℕ)} {first : ℕ} {nodes : List �
     IsCycleFrom edges first nodes → IsTurned nodes cycle → IsCycleFrom edges first cycle
 turned_cycle {edges = edges} cycle c t = record {
   once = rw t.is (once_turn t.front t.back (rw t.from at c.once));
-  closed = rw t.is (turn (IsNext edges) t.front t.back (subst (ClosedChain (IsNext edges)) t.from c.closed));
+  closed = rw t.is (turn (IsNext edges) t.front t.back
+      (subst (ClosedChain (IsNext edges)) t.from c.closed));
   node = c.node;
   leads = c.leads;
   on = rw t.is (⊎_elim (Contains-append_right t.back t.front c.node)

@@ -1,7 +1,6 @@
-ghost use Rattle.std.specs.Prelude.{◌≡◌, ◌+◌, ◌<◌, ◌≤◌, ◌↔◌, IfOk, OnOk, true, ℕ};
-ghost use Rattle.std.specs.BTreeSet.{btree_set_len};
+ghost use Rattle.std.specs.Prelude.{◌≡◌, ◌<◌, ◌↔◌, IfOk, true, ℕ};
 ghost use Rattle.pl_graph.specs.Graph.{AreEdges};
-ghost use Rattle.pl_graph.specs.Placing.{AreMirrored, IsPlacement, Releases};
+ghost use Rattle.pl_graph.specs.Placing.{IsPlacement};
 ghost use Rattle.pl_graph.specs.Sets.{HasNone, has};
 
 use crate::edges::{edge_set, first_neighbor, take_edge, turned_edges};
@@ -28,11 +27,21 @@ pub fn place_nodes(alloc: Global, n: u32, edges: &[(u32, u32)]) -> Result<Placem
     let mut missing = edge_set(alloc, edges)?;
     let mut ready = first_ready(alloc, n, &missing)?;
     let mut placed = Vec::new(alloc);
-    while let Some(node) = ready.pop_first() {
-        placed.push(node)?;
-        release(&mut dependents, &mut missing, &mut ready, node)?;
+    // The node that was placed last. At first it is none of the nodes, and no edge leads from it.
+    let mut last = n;
+    loop {
+        if let Some(dependent) = take_edge(&mut dependents, last) {
+            missing.remove(&(dependent, last));
+            if first_neighbor(&missing, dependent).is_none() {
+                ready.insert(dependent)?;
+            }
+        } else if let Some(node) = ready.pop_first() {
+            placed.push(node)?;
+            last = node;
+        } else {
+            return Ok(Placement { placed, missing });
+        }
     }
-    Ok(Placement { placed, missing })
 }
 
 /// The nodes that miss none.
@@ -51,27 +60,4 @@ fn first_ready(
         }
     }
     Ok(ready)
-}
-
-/// Takes a placed node from what its dependents miss; those that then miss none are ready.
-fn release(
-    dependents: &mut BTreeSet<(u32, u32)>,
-    missing: &mut BTreeSet<(u32, u32)>,
-    ready: &mut BTreeSet<u32>,
-    node: u32,
-) -> Result<(), Memory>
-    requires { AreMirrored dependents.old missing.old }
-    ensures released { OnOk result (HasNone dependents.new node) }
-    ensures releases { OnOk result (Releases node missing.old ready.old
-        dependents.new missing.new ready.new) }
-    ensures len { OnOk result (btree_set_len missing.new + btree_set_len ready.new
-        ≤ btree_set_len missing.old + btree_set_len ready.old) }
-{
-    while let Some(dependent) = take_edge(dependents, node) {
-        missing.remove(&(dependent, node));
-        if first_neighbor(missing, dependent).is_none() {
-            ready.insert(dependent)?;
-        }
-    }
-    Ok(())
 }

@@ -1,26 +1,40 @@
-use Rattle.pl_graph.proofs.Common.{[], arith, nat_tests}
-use Rattle.pl_graph.proofs.Lists.{Contains-here}
-use Rattle.pl_graph.proofs.Members.{are_in, mirrored}
-use Rattle.pl_graph.proofs.Placements.{place_one, placing_none, settle}
+use Rattle.pl_graph.proofs.Common.{arith, nat_tests, rules}
+use Rattle.pl_graph.proofs.Members.{none_first, some_first}
+use Rattle.pl_graph.proofs.Placements.{place_one, placed_all, placing_none, take_one}
 use Rattle.pl_graph.proofs.placing.place_nodes.Goals as goal
 
-pub loop-node-init : goal.loop-node-init
-loop-node-init c = record {
-  mirrored = mirrored _ _ _ c.in_ok-dependents.ensures c.in_ok-missing.ensures;
-  placing = rw c.new-placed.ensures.items
-      (placing_none c.requires (are_in _ _ c.in_ok-missing.ensures) c.in_ok-ready.ensures);
-}
+pub loop-dependent-init : goal.loop-dependent-init
+loop-dependent-init c =
+    rw c.new-placed.ensures.items (placing_none c.in_ok-dependents.ensures
+    c.in_ok-missing.ensures c.in_ok-ready.ensures)
 
-pub loop-node-preserved : goal.loop-node-preserved
-loop-node-preserved c =
-    let node = c.in-Some.node in
-    let one = place_one node c.loop-node.invariant.placing c.in-Some.ensures.member
-    (λ x h. let low = c.in-Some.ensures.least x h in grind (arith, nat_tests)) _
-    c.in-Some.ensures.updates in
-    let r = c.in_ok-release.ensures.releases in record {
-      mirrored = r.mirrored;
-      placing = rw c.in_ok-push.ensures.items
-          (settle node (r.placing _ _ _ _ (Contains-here c.loop-node.placed.items [] node) one)
-          (λ a. let none = c.in_ok-release.ensures.released a in let same = r.mirrored a node in
-          grind arith));
-    }
+pub loop-dependent-preserved-in_ok-insert : goal.loop-dependent-preserved-in_ok-insert
+loop-dependent-preserved-in_ok-insert c =
+    let (had, cut, less) = c.in-Some.ensures in
+    let none = none_first c.remove.new.self c.in-Some.dependent _ c.first_neighbor.ensures
+    (search rules) in
+    take_one c.requires c.loop-dependent.invariant c.in-Some.dependent _ _ had cut
+    c.remove.ensures.updates _ (λ z.
+    let put = c.in_ok-insert.ensures.updates.0 z in grind arith)
+
+pub loop-dependent-preserved-else-is_none : goal.loop-dependent-preserved-else-is_none
+loop-dependent-preserved-else-is_none c =
+    let (had, cut, less) = c.in-Some.ensures in
+    let some = some_first c.remove.new.self c.in-Some.dependent _ c.first_neighbor.ensures
+    (search rules) in
+    take_one c.requires c.loop-dependent.invariant c.in-Some.dependent _ _ had cut
+    c.remove.ensures.updates _ (λ z. grind arith)
+
+pub loop-dependent-preserved : goal.loop-dependent-preserved
+loop-dependent-preserved c =
+    let (none, same) = c.in_default.ensures in
+    rw (c.in_ok-push.ensures.items, same) (place_one c.requires c.loop-dependent.invariant none
+    c.in-Some-pop_first.node c.in-Some-pop_first.ensures.member
+    (λ x h. let low = c.in-Some-pop_first.ensures.least x h in grind (arith, nat_tests)) _
+    c.in-Some-pop_first.ensures.updates)
+
+pub returns-in_default-pop_first : goal.returns-in_default-pop_first
+returns-in_default-pop_first c =
+    let (none, same) = c.in_default.ensures in
+    placed_all c.requires c.loop-dependent.invariant none
+    (let some = c.in_default-pop_first.ensures.variant in grind arith)

@@ -7,14 +7,14 @@ use Rattle.pl_graph.proofs.topological.order.Goals as goal
 
 pub canonical_cycle-requires-clause-goes_on : goal.canonical_cycle-requires-clause-goes_on
 canonical_cycle-requires-clause-goes_on c =
-    all_go_on (rw c.as_slice.ensures at c.in_ok-placed.ensures)
+    all_go_on c.requires (rw c.as_slice.ensures at c.in_ok-placed.ensures)
 
 pub canonical_cycle-requires-clause-goes : goal.canonical_cycle-requires-clause-goes
 canonical_cycle-requires-clause-goes c = (c.in-Some.edge.now.1, c.in-Some.ensures.member)
 
 pub returns-in-None : goal.returns-in-None
 returns-in-None c =
-    let is = all_placed (rw c.as_slice.ensures at c.in_ok-placed.ensures)
+    let is = all_placed c.requires (rw c.as_slice.ensures at c.in_ok-placed.ensures)
     (λ a b. none_join _ a b (let some = c.in-None.ensures.variant in grind arith)) in
     rw c.from_vec.ensures (record {
       order = is;
@@ -28,9 +28,10 @@ pub returns-in_ok-cycle-in-Some : goal.returns-in_ok-cycle-in-Some
 returns-in_ok-cycle-in-Some c =
     let p = rw c.as_slice.ensures at c.in_ok-placed.ensures in
     let edge = c.in-Some.edge.now in
-    let first = first_remains p edge.0 edge.1 c.in-Some.ensures.member
-    (λ x y h. let low = (edge_le edge (x, y)).0 (c.in-Some.ensures.least (x, y) h) in grind arith) in
-    let is = cycle_is p edge.0 c.in_ok-cycle-in-Some.cycle first
+    let first = first_remains c.requires p edge.0 edge.1 c.in-Some.ensures.member
+    (λ x y h. let low = (edge_le edge (x, y)).0 (c.in-Some.ensures.least (x, y) h) in
+    grind arith) in
+    let is = cycle_is c.requires p edge.0 c.in_ok-cycle-in-Some.cycle first
     c.in_ok-cycle-in-Some.ensures.cycle c.in_ok-cycle-in-Some.ensures.least in
     record {
       order = tt;

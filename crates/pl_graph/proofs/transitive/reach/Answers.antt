@@ -22,4 +22,5 @@ loop-to-preserved c =
 pub returns-in_default-pop_first : goal.returns-in_default-pop_first
 returns-in_default-pop_first c =
     let (none, same) = c.in_default.ensures in
-    reach_whole c.loop-to.invariant none (let some = c.in_default-pop_first.ensures.variant in grind arith)
+    reach_whole c.loop-to.invariant none
+    (let some = c.in_default-pop_first.ensures.variant in grind arith)

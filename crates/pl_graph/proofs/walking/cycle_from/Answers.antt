@@ -1,6 +1,5 @@
-use Rattle.pl_graph.proofs.Common.{EachOnce, [], arith, length_push, true, ◌++◌, ◌∷◌}
+use Rattle.pl_graph.proofs.Common.{EachOnce, [], arith, length_push, ◌++◌, ◌∷◌}
 use Rattle.pl_graph.proofs.Lists.{once_most, once_push, pushed}
-use Rattle.pl_graph.proofs.Members.{updated}
 use Rattle.pl_graph.proofs.Walks.{cut_at, walking_more}
 use Rattle.pl_graph.proofs.walking.cycle_from.Goals as goal
 use Rattle.pl_graph.proofs.walking.cycle_from.Goals.{In_ok-push}
@@ -16,7 +15,11 @@ pub loop-nodes-smaller : goal.loop-nodes-smaller
 loop-nodes-smaller c =
     let o = (goal.at.loop-nodes-smaller c).In_ok-push in
     let most = once_most 4294967296 _ (once o) c.loop-nodes.invariant.below in
-    rw c.in_ok-push.ensures.items (omega (arith, length_push c.loop-nodes.nodes.items c.loop-nodes.node))
+    rw c.in_ok-push.ensures.items (omega (
+      arith,
+      length_push c.loop-nodes.nodes.items
+          c.loop-nodes.node,
+    ))
 
 pub loop-nodes-preserved : goal.loop-nodes-preserved
 loop-nodes-preserved c =
@@ -31,7 +34,7 @@ loop-nodes-preserved c =
       once = once o;
       seen_is = λ x.
           let was = l.invariant.seen_is x in let push = pushed l.nodes.items l.node x in
-          let after = updated l.seen c.insert.new.self l.node true x c.in_ok-insert.ensures.updates in
+          let after = c.in_ok-insert.ensures.updates.0 x in
           grind arith;
     })
 
