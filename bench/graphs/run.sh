@@ -1,6 +1,7 @@
 #!/bin/sh
-# Counts by callgrind the instructions that `pl_graph::order` and `ancestors` take together for graphs of 16,000 nodes,
-# those of making the edges left in, and measures the most memory that a run takes. Needs valgrind and GNU time. Not a part of the gate.
+# Counts by callgrind the instructions that `pl_graph::order` and `ancestors` take together for
+# graphs of 16,000 nodes, those of making the edges left in, and measures the most memory that a
+# run takes. Needs valgrind and GNU time. Not a part of the gate.
 set -e
 here=$(cd "$(dirname "$0")" && pwd)
 top=$(cd "$here/../.." && pwd)
