@@ -1,14 +1,12 @@
 -- Nodes are the numbers below n. An edge (a, b) says that the node a depends on the node b. An edge
 -- may come twice.
-use Rattle.std.specs.Prelude.{◌≡◌, ◌≢◌, ℕ, zero, suc, ◌<◌, ◌≤◌, ◌↔◌, Bool, true, List, []}
+use Rattle.std.specs.Prelude.{◌≡◌, ◌≢◌, ℕ, zero, suc, ◌<◌, ◌≤◌, ◌↔◌, ◌⊎◌, List, []}
 use Rattle.std.specs.Prelude.{◌∷◌, ◌++◌, All, Contains, slice_index}
 use Rattle.std.specs.List.{AllPairs}
 use Rattle.std.specs.Ordering.{nat_cmp}
 use Rattle.std.specs.Cmp.Lexicographic.{slice_cmp}
 use Rattle.std.specs.List.Sorted.{IsStrictlyIncreasing}
 use Rattle.std.specs.declared.cmp.Ordering.TheVariants.{Greater}
-use Rattle.pl_graph.specs.declared.fault.GraphFault.{GraphFault}
-use Rattle.pl_graph.specs.declared.fault.GraphFault.TheVariants.{Cycle, Memory}
 
 -- each edge leads from a node to a node
 abbrev pub AreEdges : ℕ → List (ℕ × ℕ) → Type 0
@@ -18,14 +16,14 @@ AreEdges n edges = All (λ edge. (edge.0 < n) × (edge.1 < n)) edges
 abbrev pub DependsOn : List (ℕ × ℕ) → ℕ → ℕ → Type 0
 DependsOn edges a b = Contains edges (a, b)
 
--- a walk of m + 1 edges leads from a to b
-abbrev pub Walk : List (ℕ × ℕ) → ℕ → ℕ → ℕ → Type 0
-Walk edges a b zero = DependsOn edges a b
-Walk edges a b (suc m) = (c : ℕ) × Walk edges a c m × DependsOn edges c b
+-- a walk of m + 1 steps, each from a node to one that it is related to, leads from a to b
+abbrev pub Walk : (ℕ → ℕ → Type 0) → ℕ → ℕ → ℕ → Type 0
+Walk R a b zero = R a b
+Walk R a b (suc m) = (c : ℕ) × Walk R a c m × R c b
 
 -- b is a transitive dependency of a
 abbrev pub DependsTransitively : List (ℕ × ℕ) → ℕ → ℕ → Type 0
-DependsTransitively edges a b = (m : ℕ) × Walk edges a b m
+DependsTransitively edges a b = (m : ℕ) × Walk (DependsOn edges) a b m
 
 -- exactly the transitive dependencies of the node, ascending
 pub record AreAncestors (edges : List (ℕ × ℕ)) (node : ℕ) (nodes : List ℕ) : Type 0 where
@@ -41,11 +39,19 @@ abbrev pub InTurn : (List ℕ → ℕ → Type 0) → List ℕ → List ℕ → 
 InTurn P before [] = Unit {0}
 InTurn P before (x ∷ rest) = P before x × InTurn P (before ++ x ∷ []) rest
 
+-- x comes after all that it depends on
+abbrev pub IsAfter : List (ℕ × ℕ) → List ℕ → ℕ → Type 0
+IsAfter edges before x = (b : ℕ) → DependsOn edges x b → Contains before b
+
+-- each node comes after all that it depends on
+abbrev pub AreInOrder : List (ℕ × ℕ) → List ℕ → Type 0
+AreInOrder edges nodes = InTurn (IsAfter edges) [] nodes
+
 -- each node below n comes once, after all that it depends on
 pub record IsTopological (n : ℕ) (edges : List (ℕ × ℕ)) (nodes : List ℕ) : Type 0 where
   pub members : (x : ℕ) → Contains nodes x ↔ (x < n)
   pub once : EachOnce nodes
-  pub after : InTurn (λ before x. (b : ℕ) → DependsOn edges x b → Contains before b) [] nodes
+  pub after : AreInOrder edges nodes
 
 -- the least of all topological orders: none of them has a smaller node at the first place where the
 -- two differ
@@ -70,15 +76,11 @@ pub record IsCycle (edges : List (ℕ × ℕ)) (nodes : List ℕ) : Type 0 where
   pub once : EachOnce nodes
   pub closed : ClosedChain (DependsOn edges) nodes
 
--- a set of nodes below n, each of which depends on one of the set
-abbrev pub KeepsItself : ℕ → List (ℕ × ℕ) → (ℕ → Bool) → Type 0
-KeepsItself n edges set = (x : ℕ) → set x ≡ true →
-    (x < n) × ((b : ℕ) × DependsOn edges x b × (set b ≡ true))
-
--- x remains when nodes without remaining dependencies are taken away while there are any: it is in
--- a set of nodes, each of which depends on one of the set
+-- x remains when nodes without remaining dependencies are taken away while there are any: however
+-- nodes are taken away, each after all that it depends on, x isn't among them
 abbrev pub Remains : ℕ → List (ℕ × ℕ) → ℕ → Type 0
-Remains n edges x = (set : ℕ → Bool) × KeepsItself n edges set × (set x ≡ true)
+Remains n edges x = (x < n) ×
+    ((taken : List ℕ) → AreInOrder edges taken → Contains taken x → ⊥)
 
 -- the least number of which a fact holds
 abbrev pub IsLeast : (ℕ → Type 0) → ℕ → Type 0
@@ -88,9 +90,9 @@ IsLeast P x = P x × ((y : ℕ) → P y → x ≤ y)
 abbrev pub IsLeastDependency : ℕ → List (ℕ × ℕ) → ℕ → ℕ → Type 0
 IsLeastDependency n edges a b = IsLeast (λ d. DependsOn edges a d × Remains n edges d) b
 
--- a chain leads from a to b
+-- b is a, or a walk leads from a to b
 abbrev pub Leads : (ℕ → ℕ → Type 0) → ℕ → ℕ → Type 0
-Leads R a b = (nodes : List ℕ) × Chain R (a ∷ nodes) × Contains (a ∷ nodes) b
+Leads R a b = (a ≡ b) ⊎ ((m : ℕ) × Walk R a b m)
 
 -- the cycle along least remaining dependencies to which they lead from the least remaining node,
 -- begun with its least node
@@ -103,8 +105,3 @@ pub record IsCanonicalCycle (n : ℕ) (edges : List (ℕ × ℕ)) (cycle : List 
   pub node : ℕ
   pub leads : Leads (IsLeastDependency n edges) start node
   pub on : Contains cycle node
-
--- a fact about the cycle of a fault; of want of memory nothing is said
-abbrev pub OnCycle : GraphFault → (List ℕ → Type 0) → Type 0
-OnCycle (Cycle nodes) P = P nodes
-OnCycle Memory P = Unit {0}

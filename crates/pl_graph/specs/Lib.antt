@@ -1,3 +1,4 @@
+pub mod Faults
 pub mod Graph
 pub mod Placing
 pub mod Sets

@@ -21,6 +21,10 @@ joins edges a b = contains edge_cmp edges (a, b)
 abbrev pub HasNone : BTreeSet (ℕ × ℕ) → ℕ → Type 0
 HasNone edges a = (b : ℕ) → joins edges a b ≡ false
 
+-- an edge leads from a
+abbrev pub GoesOn : BTreeSet (ℕ × ℕ) → ℕ → Type 0
+GoesOn edges a = (b : ℕ) × (joins edges a b ≡ true)
+
 -- b is the least node to which an edge leads from a
 abbrev pub IsNext : BTreeSet (ℕ × ℕ) → ℕ → ℕ → Type 0
 IsNext edges a b = IsLeast (λ d. joins edges a d ≡ true) b

@@ -1,6 +1,7 @@
-ghost use Rattle.std.specs.Prelude.{IfOk};
+ghost use Rattle.std.specs.Prelude.{◌≡◌, IfOk, false, true};
 ghost use Rattle.std.specs.BTreeSet.{IsFromIterResult};
-ghost use Rattle.pl_graph.specs.Sets.{IsFirst, Takes, edge_cmp, turned_of};
+ghost use Rattle.pl_graph.specs.Sets.{GoesOn, HasNone, IsFirst, Takes, edge_cmp};
+ghost use Rattle.pl_graph.specs.Sets.{turned_of};
 
 use std::alloc::{AllocError, Global};
 use std::collections::BTreeSet;
@@ -29,7 +30,16 @@ pub fn first_neighbor(edges: &BTreeSet<(u32, u32)>, node: u32) -> Option<u32>
     }
 }
 
-/// Takes the edge to that node out of the set.
+/// Whether no edge leads from the node.
+pub fn is_free(edges: &BTreeSet<(u32, u32)>, node: u32) -> bool
+    ensures free { result ≡ true → HasNone edges.now node }
+    ensures bound { result ≡ false → GoesOn edges.now node }
+{
+    first_neighbor(edges, node).is_none()
+}
+
+/// Takes the edge from the node to the least of its neighbors out of the set, and tells which that
+/// is. Where no edge leads from the node, the set stays.
 pub fn take_edge(edges: &mut BTreeSet<(u32, u32)>, node: u32) -> Option<u32>
     ensures { Takes node edges.old result edges.new }
 {

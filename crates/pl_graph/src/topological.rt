@@ -1,6 +1,6 @@
 ghost use Rattle.std.specs.Prelude.{◌≡◌, IfErr, IfOk, List, OnOk, length, ℕ};
+ghost use Rattle.pl_graph.specs.Faults.{OnCycle};
 ghost use Rattle.pl_graph.specs.Graph.{AreEdges, IsCanonicalCycle, IsCycle, IsLeastTopological};
-ghost use Rattle.pl_graph.specs.Graph.{OnCycle};
 
 use crate::fault::GraphFault;
 use crate::placing::{Placement, place_nodes};

@@ -33,15 +33,14 @@ fn reach(alloc: Global, edges: &[(u32, u32)], node: u32) -> Result<BTreeSet<u32>
     let mut rest = edge_set(alloc, edges)?;
     let mut found = BTreeSet::new(alloc);
     let mut todo = BTreeSet::new(alloc);
-    let mut from = node;
-    loop {
+    todo.insert(node)?;
+    while let Some(&from) = todo.first() {
         if let Some(to) = take_edge(&mut rest, from) {
             found.insert(to)?;
             todo.insert(to)?;
-        } else if let Some(next) = todo.pop_first() {
-            from = next;
         } else {
-            return Ok(found);
+            todo.remove(&from);
         }
     }
+    Ok(found)
 }

@@ -1,6 +1,6 @@
 ghost use Rattle.std.specs.Prelude.{◌≡◌, ◌<◌, ◌≤◌, ℕ, All, Contains, IfOk, length, slice_index};
-ghost use Rattle.pl_graph.specs.Sets.{IsNext};
-ghost use Rattle.pl_graph.specs.Walking.{AllGoOn, GoesOn, IsCycleFrom, IsTurned};
+ghost use Rattle.pl_graph.specs.Sets.{GoesOn, IsNext};
+ghost use Rattle.pl_graph.specs.Walking.{AllGoOn, IsCycleFrom};
 
 use crate::edges::first_neighbor;
 use pl_base::{List, Memory};
@@ -19,8 +19,10 @@ pub fn canonical_cycle(
     ensures cycle { IfOk result (IsCycleFrom edges.now first) }
     ensures least { IfOk result (λ cycle. All (λ x. slice_index cycle 0 ≤ x) cycle) }
 {
-    let cycle = cycle_from(alloc, edges, first)?;
-    Ok(List::from_vec(turned(alloc, &cycle)?))
+    let mut cycle = cycle_from(alloc, edges, first)?;
+    let start = place_of(&cycle, least_of(&cycle));
+    cycle.rotate_left(start);
+    Ok(List::from_vec(cycle))
 }
 
 /// The cycle to which the walk from the first node leads, from the node at which it comes to it.
@@ -57,29 +59,11 @@ fn place_of(nodes: &[u32], node: u32) -> usize
     nodes.iter().position(|other| *other == node).unwrap_or(0)
 }
 
-/// The nodes turned round, to begin with the least of them.
-fn turned(alloc: Global, nodes: &[u32]) -> Result<Vec<u32>, Memory>
+/// The least of the nodes.
+fn least_of(nodes: &[u32]) -> u32
     requires { 0 < length nodes.now }
-    ensures { IfOk result (λ turned. IsTurned nodes.now turned.items) }
+    ensures on { Contains nodes.now result }
+    ensures least { All (λ x. result ≤ x) nodes.now }
 {
-    let (front, back) = nodes.split_at(place_of_least(nodes));
-    let mut cycle = Vec::from_slice(alloc, back)?;
-    cycle.extend_from_slice(front)?;
-    Ok(cycle)
-}
-
-/// The place of the least node.
-fn place_of_least(nodes: &[u32]) -> usize
-    requires { 0 < length nodes.now }
-    ensures within { result < length nodes.now }
-    ensures least { (k : ℕ) → k < length nodes.now →
-        slice_index nodes.now result ≤ slice_index nodes.now k }
-{
-    let mut least = 0;
-    for place in 1..nodes.len() {
-        if nodes[place] < nodes[least] {
-            least = place;
-        }
-    }
-    least
+    nodes.iter().copied().min().unwrap_or(0)
 }

@@ -1,10 +1,14 @@
 -- A graph has one canonical cycle at most.
-use Rattle.std.proofs.Common.{◌≡◌, ℕ, zero, suc, ◌≤◌, List, [], ◌∷◌, ◌++◌, refl, sym, subst, arith}
+use Rattle.std.proofs.Common.{List, [], arith, inl, inr, refl, subst, suc, sym, zero, ℕ, ⊎_elim}
+use Rattle.std.proofs.Common.{◌++◌, ◌∷◌, ◌≡◌, ◌≤◌, ◌⊎◌}
 use Rattle.std.specs.List.{Contains}
 use Rattle.std.proofs.lemmas.List.Elements.{All-contains, Contains-append_left, Contains-push}
-use Rattle.pl_graph.proofs.Lists.{Contains-head, Contains-tail, goes_on, once_head}
-use Rattle.pl_graph.specs.Graph.{Chain, ClosedChain, IsCanonicalCycle, IsLeast}
-use Rattle.pl_graph.specs.Graph.{IsLeastDependency, Leads}
+use Rattle.pl_graph.proofs.Lists.{Contains-head, goes_on, one_more}
+use Rattle.pl_graph.specs.Graph.{Chain, ClosedChain, EachOnce, IsCanonicalCycle, IsLeast}
+use Rattle.pl_graph.specs.Graph.{IsLeastDependency, Leads, Walk}
+
+once_head : (xs : List ℕ) (y : ℕ) → EachOnce (y ∷ xs) → Contains xs y → ⊥
+once_head xs y once (k, below, is) = once 0 (suc k) y (omega arith) (omega arith) (sym is)
 
 one_least : (P : ℕ → Type 0) (x y : ℕ) → IsLeast P x → IsLeast P y → x ≡ y
 one_least P x y least also =
@@ -24,7 +28,8 @@ module _ (R : ℕ → ℕ → Type 0) (one : (a b c : ℕ) → R a b → R a c �
   one_chain a z (x ∷ xs) (y ∷ ys) left right none also =
       let same : x ≡ y = one a x y left.0 right.0 in
       let rest = one_chain y z xs ys (subst (λ (b : ℕ). Chain R (b ∷ xs ++ z ∷ [])) same left.1)
-      right.1 (λ h. none (Contains-tail x z xs h)) (λ h. also (Contains-tail y z ys h)) in
+      right.1 (λ (k, below, is). none (suc k, omega arith, is))
+      (λ (k, below, is). also (suc k, omega arith, is)) in
       cc
 
   -- ---- a set that the relation doesn't leave
@@ -54,36 +59,42 @@ module _ (R : ℕ → ℕ → Type 0) (one : (a b c : ℕ) → R a b → R a c �
       along In keeps a (xs ++ a ∷ []) closed (to_end In keeps a a xs closed x had here) y
       (Contains-append_left (a ∷ xs) (a ∷ []) y on)
 
-  -- two chains from a, of which each comes to such a set, come to one node of both
-  meets : (In On : ℕ → Type 0) → Keeps In → Keeps On → (a : ℕ) (xs ys : List ℕ) →
-      Chain R (a ∷ xs) → Chain R (a ∷ ys) → (x : ℕ) → Contains (a ∷ xs) x → In x → (y : ℕ) →
-      Contains (a ∷ ys) y → On y → (z : ℕ) × In z × On z
-  meets In On keeps also a xs ys left right x (zero, below, is) here y on there =
-      (y, along In keeps a ys right (rw is here) y on, there)
-  meets In On keeps also a xs ys left right x had here y (zero, below, is) there =
-      (x, here, along On also a xs left (rw is there) x had)
-  meets In On keeps also a [] ys left right x (suc j, below, is) here y on there =
-      absurd (omega arith)
-  meets In On keeps also a xs [] left right x had here y (suc k, below, is) there =
-      absurd (omega arith)
-  meets In On keeps also a (b ∷ xs) (c ∷ ys) left right x (suc j, inside, at) here y
-      (suc k, below, is) there =
-      let same = one a b c left.0 right.0 in
-      let P : ℕ → Type 0 = λ d. Chain R (d ∷ xs) × Contains (d ∷ xs) x in
-      let (chain, had) = subst P same (left.1, (j, omega arith, at)) in
-      meets In On keeps also c xs ys chain right.1 x had here y (k, omega arith, is) there
+  stays : (In : ℕ → Type 0) → Keeps In → (a b m : ℕ) → In a → Walk R a b m → In b
+  stays In keeps a b zero here related = keeps a b here related
+  stays In keeps a b (suc m) here (c, walk, related) =
+      keeps c b (stays In keeps a c m here walk) related
+
+  leads_within : (In : ℕ → Type 0) → Keeps In → (a b : ℕ) → In a → Leads R a b → In b
+  leads_within In keeps a b here =
+      ⊎_elim (λ e. rw e at here) (λ (m, walk). stays In keeps a b m here walk)
+
+  -- ---- of two nodes to which walks lead from one, one leads to the other
+
+  behind : (a x y m : ℕ) → R a y → Walk R a x m → Leads R y x
+  behind a x y zero next related = inl (one a y x next related)
+  behind a x y (suc m) next (c, walk, related) =
+      inr (one_more R y c x (behind a c y m next walk) related)
+
+  forward : (a x y : ℕ) → R a y → Leads R a x → Leads R x y ⊎ Leads R y x
+  forward a x y next =
+      ⊎_elim (λ e. inl (inr (0, rw e at next))) (λ (m, walk). inr (behind a x y m next walk))
+
+  either : (a x y m : ℕ) → Leads R a x → Walk R a y m → Leads R x y ⊎ Leads R y x
+  either a x y zero left next = forward a x y next left
+  either a x y (suc m) left (c, walk, next) =
+      ⊎_elim (λ leads. inl (inr (one_more R x c y leads next))) (forward c x y next)
+      (either a x c m left walk)
 
   keeps_on : (cycle : List ℕ) → ClosedChain R cycle → Keeps (Contains cycle)
   keeps_on cycle closed a b had related =
       let (c, next, on) = goes_on R cycle a closed had in rw (one a b c related next) on
 
-  leads_both : (a b x y : ℕ) (c d : List ℕ) → a ≡ b → Leads R a x → Leads R b y → Contains c x →
+  leads_both : (a x y : ℕ) (c d : List ℕ) → Leads R a x → Leads R a y → Contains c x →
       Contains d y → ClosedChain R c → ClosedChain R d → (z : ℕ) × Contains c z × Contains d z
-  leads_both a b x y c d same left right on also closed goes =
-      let (xs, chain, had) = left in
-      let (ys, other, has) = subst (λ (z : ℕ). Leads R z y) (sym same) right in
-      meets (Contains c) (Contains d) (keeps_on c closed) (keeps_on d goes) a xs ys chain other x
-      had on y has also
+  leads_both a x y c d left right on also closed goes =
+      ⊎_elim (λ leads. (y, leads_within (Contains c) (keeps_on c closed) x y on leads, also))
+      (λ leads. (x, on, leads_within (Contains d) (keeps_on d goes) y x also leads))
+      (⊎_elim (λ e. inr (rw e at left)) (λ (m, walk). either a x y m left walk) right)
 
 pub one_cycle : (n : ℕ) (edges : List (ℕ × ℕ)) (one other : List ℕ) →
     IsCanonicalCycle n edges one → IsCanonicalCycle n edges other → one ≡ other
@@ -94,9 +105,10 @@ one_cycle n edges (x ∷ xs) (y ∷ ys) left right =
     let single : (a b c : ℕ) → R a b → R a c → b ≡ c = λ a b c. one_least _ b c in
     let c = x ∷ xs in
     let d = y ∷ ys in
-    let (z, on, also) = leads_both R single left.start right.start left.node right.node c d
-    (one_least _ left.start right.start left.from right.from) left.leads right.leads left.on
-    right.on left.closed right.closed in
+    let begin : right.start ≡ left.start = one_least _ _ _ right.from left.from in
+    let (z, on, also) = leads_both R single left.start left.node right.node c d left.leads
+    (subst (λ (a : ℕ). Leads R a right.node) begin right.leads) left.on right.on left.closed
+    right.closed in
     let x_on : Contains d x = around R single (Contains d) (keeps_on R single d right.closed) c
     left.closed z on also x (Contains-head x xs) in
     let y_on : Contains c y = around R single (Contains c) (keeps_on R single c left.closed) d

@@ -58,7 +58,7 @@ there_edge edges a b place =
 -- ---- walks
 
 joined : (edges : List (ℕ × ℕ)) (a c b : ℕ) → DependsTransitively edges a c → (n : ℕ) →
-    Walk edges c b n → DependsTransitively edges a b
+    Walk (DependsOn edges) c b n → DependsTransitively edges a b
 joined edges a c b first zero walk = (suc first.0, (c, first.1, walk))
 joined edges a c b first (suc n) walk =
     let before = joined edges a c walk.0 first n walk.1 in
@@ -146,8 +146,8 @@ edge_through edges zero a b is = is
 edge_through edges (suc k) a b is = first_of_two (leads_through edges k a b)
     (leads_through edges k a k && leads_through edges k k b) (edge_through edges k a b is)
 
-through_all : (n : ℕ) (edges : List (ℕ × ℕ)) (a b m : ℕ) → AreEdges n edges → Walk edges a b m →
-    leads_through edges n a b ≡ true
+through_all : (n : ℕ) (edges : List (ℕ × ℕ)) (a b m : ℕ) → AreEdges n edges →
+    Walk (DependsOn edges) a b m → leads_through edges n a b ≡ true
 through_all n edges a b zero are walk = edge_through edges n a b (there_edge edges a b walk)
 through_all n edges a b (suc m) are walk =
     let small = (All-contains (λ edge. (edge.0 < n) × (edge.1 < n)) edges (walk.0, b) are walk.2).0

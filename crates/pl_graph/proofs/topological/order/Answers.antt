@@ -1,7 +1,7 @@
-use Rattle.pl_graph.proofs.Common.{arith}
+use Rattle.pl_graph.proofs.Common.{arith, edge_cmp}
 use Rattle.pl_graph.proofs.Lists.{once_length}
-use Rattle.pl_graph.proofs.Members.{edge_le, none_join}
-use Rattle.pl_graph.proofs.Orders.{all_go_on, all_placed, cycle_is, first_remains, not_both}
+use Rattle.pl_graph.proofs.Members.{edge_le, none_in}
+use Rattle.pl_graph.proofs.Orders.{all_go_on, all_placed, cycle_is, not_both}
 use Rattle.pl_graph.proofs.Walks.{canonical_is_cycle}
 use Rattle.pl_graph.proofs.topological.order.Goals as goal
 
@@ -15,7 +15,7 @@ canonical_cycle-requires-clause-goes c = (c.in-Some.edge.now.1, c.in-Some.ensure
 pub returns-in-None : goal.returns-in-None
 returns-in-None c =
     let is = all_placed c.requires (rw c.as_slice.ensures at c.in_ok-placed.ensures)
-    (λ a b. none_join _ a b (let some = c.in-None.ensures.variant in grind arith)) in
+    (λ a b. none_in edge_cmp _ (a, b) (let some = c.in-None.ensures.variant in grind arith)) in
     rw c.from_vec.ensures (record {
       order = is;
       len = once_length _ _ is.topological.once is.topological.members;
@@ -26,12 +26,10 @@ returns-in-None c =
 
 pub returns-in_ok-cycle-in-Some : goal.returns-in_ok-cycle-in-Some
 returns-in_ok-cycle-in-Some c =
-    let p = rw c.as_slice.ensures at c.in_ok-placed.ensures in
     let edge = c.in-Some.edge.now in
-    let first = first_remains c.requires p edge.0 edge.1 c.in-Some.ensures.member
-    (λ x y h. let low = (edge_le edge (x, y)).0 (c.in-Some.ensures.least (x, y) h) in
-    grind arith) in
-    let is = cycle_is c.requires p edge.0 c.in_ok-cycle-in-Some.cycle first
+    let is = cycle_is c.requires (rw c.as_slice.ensures at c.in_ok-placed.ensures) edge.0 edge.1
+    c.in_ok-cycle-in-Some.cycle c.in-Some.ensures.member (λ x y h.
+    let low = (edge_le edge (x, y)).0 (c.in-Some.ensures.least (x, y) h) in grind arith)
     c.in_ok-cycle-in-Some.ensures.cycle c.in_ok-cycle-in-Some.ensures.least in
     record {
       order = tt;

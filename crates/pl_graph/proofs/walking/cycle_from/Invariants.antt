@@ -1,11 +1,12 @@
-use Rattle.pl_graph.proofs.Common.{Contains, EachOnce, [], has, length, true, ◌++◌, ◌-◌, ◌<◌, ◌↔◌}
-use Rattle.pl_graph.proofs.Common.{◌∷◌, ◌≡◌, ℕ}
-use Rattle.pl_graph.proofs.Walks.{IsWalking}
+use Rattle.pl_graph.proofs.Common.{Chain, Contains, EachOnce, GoesOn, IsNext, Leads, [], has}
+use Rattle.pl_graph.proofs.Common.{length, true, ℕ, ◌++◌, ◌-◌, ◌<◌, ◌↔◌, ◌∷◌, ◌≡◌}
 use Rattle.pl_graph.proofs.walking.cycle_from.Given as goal
 
 abbrev pub invariant-loop-nodes : goal.invariant-loop-nodes
 invariant-loop-nodes l = record {
-  walking : IsWalking l.edges l.first l.nodes.items l.node;
+  goes : GoesOn l.edges l.node;
+  leads : Leads (IsNext l.edges) l.first l.node;
+  along : Chain (IsNext l.edges) (l.nodes.items ++ l.node ∷ []);
   below : (x : ℕ) → Contains (l.nodes.items ++ l.node ∷ []) x → x < 4294967296;
   once : EachOnce l.nodes.items;
   seen_is : (x : ℕ) → (has l.seen x ≡ true) ↔ Contains l.nodes.items x;
