@@ -1,5 +1,5 @@
 -- A step that calls nothing.
-use Rattle.std.proofs.Common.{◌≡◌, List, Result, Ok, Err, refl}
+use Rattle.std.proofs.Common.{List, Result, Ok, Err, refl}
 use Rattle.pl_base.specs.declared.place.FileKey.{FileKey}
 use Rattle.pl_directives.specs.declared.fault.ExpandFault.{ExpandFault}
 use Rattle.pl_directives.specs.declared.fault.ExpandFault.TheVariants.{Refused, Memory}

@@ -1,6 +1,6 @@
 -- The item of a call (Microsoft Learn, Azure Pipelines, "Templates"): `template` with a path, and
 -- beside it `parameters` alone.
-use Rattle.std.specs.Prelude.{ℕ, List, [], ◌∷◌, codes, Option, Some, None, unwrap_or, Result, Ok}
+use Rattle.std.specs.Prelude.{ℕ, List, [], ◌∷◌, codes, unwrap_or, Result, Ok}
 use Rattle.std.specs.Prelude.{if◌then◌else◌}
 use Rattle.std.specs.Option.{option_copied}
 use Rattle.pl_base.specs.declared.origin.Crossing.{Crossing}

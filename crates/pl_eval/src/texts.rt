@@ -1,7 +1,7 @@
 ghost use Rattle.std.specs.Prelude.{◌≡◌, List, ℕ, Result, map, IfOk};
 ghost use Rattle.pl_base.specs.declared.value.Value.{Str};
 ghost use Rattle.pl_expr.specs.Conversions.{cast_text};
-ghost use Rattle.pl_texts.specs.Bound as texts;
+ghost use Rattle.pl_texts.specs.Gives as texts;
 ghost use Rattle.pl_texts.specs.declared.fault.TextFault as faults;
 ghost use Rattle.pl_eval.specs.LookUps.{made};
 ghost use Rattle.pl_eval.specs.Texts.{text_value, texts_value, lower_of, upper_of, trim_of};

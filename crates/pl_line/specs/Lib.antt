@@ -1,7 +1,9 @@
 pub mod Characters
 pub mod Flow
+pub mod Gives
 pub mod Keys
 pub mod Left
+pub mod Lines
 pub mod Quoted
 pub mod Reading
 pub mod Rows

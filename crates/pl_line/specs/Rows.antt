@@ -1,13 +1,8 @@
 -- A text as lines of characters (YAML 1.2.2, sections 5.1, 5.2, 5.4 to 5.6, 6.1 and 6.6). A
 -- character is its Unicode scalar value, and columns count characters.
-use Rattle.std.specs.Prelude.{◌≡◌, ℕ, ◌+◌, ◌-◌, ◌<◌, ◌≤◌, Bool, false, ◌==◌, ◌&&◌, ◌||◌, not}
-use Rattle.std.specs.Prelude.{nat_lt, List, [], ◌∷◌, length, take, drop, Option, Some, None, chars}
-use Rattle.std.specs.Prelude.{if◌then◌else◌}
+use Rattle.std.specs.Prelude.{ℕ, ◌+◌, ◌-◌, Bool, false, ◌==◌, ◌&&◌, not, nat_lt, List, [], ◌∷◌}
+use Rattle.std.specs.Prelude.{length, take, drop, Option, Some, None, if◌then◌else◌}
 use Rattle.std.specs.List.{slice_split, position_or_len, last_or}
-use Rattle.pl_line.specs.declared.line.Line.{Line}
-use Rattle.pl_line.specs.declared.first_line.FirstLine.{FirstLine}
-use Rattle.pl_line.specs.declared.first_line.FirstLine.TheVariants.{Broken, Last}
-use Rattle.pl_line.specs.Characters.{all_of}
 
 -- What is left of a line from a column on: the line's number, the column, and the characters that
 -- can be read there. It is whole where they go to the line's end; else they end before a character
@@ -17,16 +12,6 @@ pub record Row : Type 0 where
   pub column : ℕ
   pub text : List ℕ
   pub whole : Bool
-
--- a line of the code, without where it lies in memory
-abbrev pub row : Line → Row
-row line = record {
-  number = line.number;
-  column = line.column;
-  text = all_of line.text;
-  whole =
-      line.whole;
-}
 
 -- a character below U+0020 other than tab, which no text may have
 abbrev pub is_control : ℕ → Bool
@@ -61,22 +46,6 @@ rows_from number [] = []
 rows_from number (line ∷ []) = row_at number line ∷ []
 rows_from number (line ∷ (next ∷ lines)) = row_at number (without_return line) ∷
     rows_from (number + 1) (next ∷ lines)
-
--- what can be read of a line, and whether that is all of it
-abbrev pub IsRead : List ℕ → List ℕ → Bool → Type 0
-IsRead line text whole = (text ≡ take (position_or_len is_control line) line) ×
-    (whole ≡ (position_or_len is_control line == length line))
-
--- a text's first line, read as far as it can be, and what stands behind its break
-abbrev pub IsFirst : List ℕ → FirstLine → Type 0
-IsFirst text (Broken front whole behind) =
-    (line : List ℕ) ×
-    (slice_split (λ c. c == 10) text ≡ line ∷ slice_split (λ c. c == 10) (chars behind.now)) ×
-    IsRead (without_return line) (all_of front) whole
-    × (length (all_of front) < length text) × (length (chars behind.now) < length text)
-IsFirst text (Last front whole) =
-    (line : List ℕ) × (slice_split (λ c. c == 10) text ≡ line ∷ []) ×
-    IsRead line (all_of front) whole × (length (all_of front) ≤ length text)
 
 -- a byte order mark at the start is none of the text's characters
 abbrev pub without_mark : List ℕ → List ℕ

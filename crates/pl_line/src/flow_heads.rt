@@ -1,7 +1,7 @@
 ghost use Rattle.std.specs.Prelude.{◌≡◌, ◌≤◌, ◌+◌, false, length, drop};
 ghost use Rattle.pl_line.specs.declared.line_fault.ReadFault.TheVariants.{Refused};
 ghost use Rattle.pl_line.specs.Characters.{all_of};
-ghost use Rattle.pl_line.specs.Rows.{row};
+ghost use Rattle.pl_line.specs.Lines.{row};
 ghost use Rattle.pl_line.specs.Flow as spec;
 
 use crate::characters::Characters;

@@ -1,9 +1,9 @@
 ghost use Rattle.std.specs.Prelude.{◌≡◌, ◌+◌, ◌≤◌, length};
 ghost use Rattle.pl_line.specs.declared.line_fault.ReadFault.TheVariants.{Refused};
 ghost use Rattle.pl_line.specs.Characters.{all_of};
-ghost use Rattle.pl_line.specs.Rows.{row};
+ghost use Rattle.pl_line.specs.Lines.{row};
 ghost use Rattle.pl_line.specs.Reading as reading;
-ghost use Rattle.pl_line.specs.Reading.{Gives};
+ghost use Rattle.pl_line.specs.Gives.{Gives};
 ghost use Rattle.pl_line.specs.Left as spec;
 
 use crate::code::YamlCode;

@@ -3,7 +3,7 @@ ghost use Rattle.std.specs.Prelude.{MatchOption};
 ghost use Rattle.std.specs.List.{slice_split, position_or_len};
 ghost use Rattle.pl_line.specs.Characters.{all_of};
 ghost use Rattle.pl_line.specs.Rows as spec;
-ghost use Rattle.pl_line.specs.Rows.{row};
+ghost use Rattle.pl_line.specs.Lines.{IsFirst, row};
 
 use crate::characters::Characters;
 use crate::first_line::FirstLine;
@@ -109,7 +109,7 @@ fn to_control(rest: &mut Tail) -> (usize, Option<char>)
 /// Cuts a text behind its first line.
 fn first_line(text: &str) -> FirstLine
     requires { length (chars text.now) < 2 ^ 32 }
-    ensures { spec.IsFirst (chars text.now) result }
+    ensures { IsFirst (chars text.now) result }
 {
     let mut rest = Tail { text };
     let (readable, control) = to_control(&mut rest);

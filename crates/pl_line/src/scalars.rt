@@ -1,7 +1,7 @@
 ghost use Rattle.std.specs.Prelude.{◌≡◌, ◌<◌, ◌≤◌, length, IfOk, OnOk, encode_utf8_all};
 ghost use Rattle.pl_line.specs.Characters.{all_of};
-ghost use Rattle.pl_line.specs.Rows.{row};
-ghost use Rattle.pl_line.specs.Reading.{Gives};
+ghost use Rattle.pl_line.specs.Lines.{row};
+ghost use Rattle.pl_line.specs.Gives.{Gives};
 ghost use Rattle.pl_line.specs.Trees as trees;
 ghost use Rattle.pl_line.specs.Flow as spec;
 

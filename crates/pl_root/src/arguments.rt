@@ -4,6 +4,7 @@ ghost use Rattle.pl_base.specs.Places.{place_at};
 ghost use Rattle.pl_base.specs.declared.node.Node.{Node as Tree};
 ghost use Rattle.pl_base.specs.declared.place.Place.{Place as Where};
 ghost use Rattle.pl_line.specs.declared.code.YamlCode.{YamlCode as Code};
+ghost use Rattle.pl_yaml.specs.Answers.{Answers};
 ghost use Rattle.pl_yaml.specs.Spells as yaml;
 ghost use Rattle.pl_directives.specs.Gives.{Gives};
 ghost use Rattle.pl_root.specs.Arguments.{argument_file, whole_text};
@@ -68,7 +69,7 @@ fn whole_text(alloc: Global, argument: &Argument) -> Result<MarkedNode, Memory>
 
 /// What a run argument's text spells, or what is wrong with it.
 fn read_told(alloc: Global, found: Result<Node, YamlFault>) -> Result<MarkedNode, ExpandFault>
-    ensures { (spelled : Answer Tree (Code × Where)) → yaml.Answers found spelled → Gives result
+    ensures { (spelled : Answer Tree (Code × Where)) → Answers found spelled → Gives result
         (read_told spelled) }
 {
     match found {

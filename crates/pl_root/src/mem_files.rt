@@ -4,6 +4,7 @@ ghost use Rattle.std.specs.Option.{option_copied};
 ghost use Rattle.pl_base.specs.declared.node.Node.{Node as Tree};
 ghost use Rattle.pl_base.specs.declared.place.Place.{Place as Where};
 ghost use Rattle.pl_line.specs.declared.code.YamlCode.{YamlCode as Code};
+ghost use Rattle.pl_yaml.specs.Answers.{Answers};
 ghost use Rattle.pl_yaml.specs.Spells as yaml;
 ghost use Rattle.pl_root.specs.Reading.{read_as, parsed};
 
@@ -35,7 +36,7 @@ impl Model for MemFiles {
 
 /// What reading gives, or want of memory.
 fn read_as(found: Result<Node, YamlFault>) -> Result<Parsed, Memory>
-    ensures { (spelled : Answer Tree (Code × Where)) → yaml.Answers found spelled → IfOk result
+    ensures { (spelled : Answer Tree (Code × Where)) → Answers found spelled → IfOk result
         (λ file. file ≡ read_as spelled) }
 {
     match found {

@@ -4,7 +4,8 @@ use Rattle.std.proofs.Common.{append_assoc, arith, length-append}
 use Rattle.std.proofs.lemmas.Bool.{le-leb, lt-leb}
 use Rattle.pl_texts.specs.declared.fault.TextFault.{TextFault}
 use Rattle.pl_texts.specs.declared.fault.TextFault.TheVariants.{Index, TooLong, Memory}
-use Rattle.pl_texts.specs.Bound.{bounded, Refuses, IsPast}
+use Rattle.pl_texts.specs.Bound.{bounded}
+use Rattle.pl_texts.specs.Gives.{Refuses, IsPast}
 
 pub too_long : (text : List ℕ) → 65536 < length text → bounded text ≡ Err TooLong
 too_long text past = rw (lt-leb (length text) 65536 past) refl

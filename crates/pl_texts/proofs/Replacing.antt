@@ -7,7 +7,8 @@ use Rattle.std.proofs.Math.Seq.{drop-append_seam}
 use Rattle.std.proofs.lemmas.Bool.Decides.{Decides-eqb}
 use Rattle.std.proofs.lemmas.Slice.Eq.{starts_is}
 use Rattle.pl_texts.specs.declared.fault.TextFault.{TextFault}
-use Rattle.pl_texts.specs.Bound.{bounded, Refuses, IsPast}
+use Rattle.pl_texts.specs.Bound.{bounded}
+use Rattle.pl_texts.specs.Gives.{Refuses, IsPast}
 use Rattle.pl_texts.specs.Matching.{begins}
 use Rattle.pl_texts.specs.Changing.{replaced, replaced_behind}
 use Rattle.pl_texts.proofs.Bounds.{refuses, within_bound, behind_one, behind_two}

@@ -1,5 +1,6 @@
 pub mod Bound
-pub mod Matching
 pub mod Changing
-pub mod Pieces
 pub mod Formatting
+pub mod Gives
+pub mod Matching
+pub mod Pieces

@@ -1,5 +1,6 @@
 ghost use Rattle.std.specs.Prelude.{◌≡◌, ◌≤◌, ◌++◌, length, OnOk, IfErr};
-ghost use Rattle.pl_texts.specs.Bound.{bounded, Gives, IsPast};
+ghost use Rattle.pl_texts.specs.Bound.{bounded};
+ghost use Rattle.pl_texts.specs.Gives.{Gives, IsPast};
 
 use crate::fault::TextFault;
 use pl_base::Text;

@@ -1,6 +1,7 @@
 ghost use Rattle.std.specs.Prelude.{◌≡◌, ◌<◌, length};
 ghost use Rattle.std.specs.Str.{trim};
-ghost use Rattle.pl_texts.specs.Bound.{bounded, Gives};
+ghost use Rattle.pl_texts.specs.Bound.{bounded};
+ghost use Rattle.pl_texts.specs.Gives.{Gives};
 ghost use Rattle.pl_texts.specs.Changing.{lowered, raised, replaced};
 
 use crate::bound::{LONGEST_TEXT, bounded_copy, push_bounded};

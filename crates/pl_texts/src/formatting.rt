@@ -1,6 +1,6 @@
 ghost use Rattle.std.specs.Prelude.{◌≡◌, ◌<◌, [], length, IsSome, IfSome, is_some};
 ghost use Rattle.std.specs.Option.{option_copied, option_map};
-ghost use Rattle.pl_texts.specs.Bound.{Gives};
+ghost use Rattle.pl_texts.specs.Gives.{Gives};
 ghost use Rattle.pl_texts.specs.Formatting.{formatted, filled, continued, cut_off, braced, hole};
 ghost use Rattle.pl_texts.specs.Formatting.{argument_of};
 ghost use Rattle.pl_reading.specs.Bytes.{digits_of, begins_with};

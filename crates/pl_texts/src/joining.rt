@@ -1,4 +1,5 @@
-ghost use Rattle.pl_texts.specs.Bound.{bounded, Gives};
+ghost use Rattle.pl_texts.specs.Bound.{bounded};
+ghost use Rattle.pl_texts.specs.Gives.{Gives};
 ghost use Rattle.pl_texts.specs.Pieces.{joined};
 
 use crate::bound::push_bounded;

@@ -1,7 +1,8 @@
 ghost use Rattle.std.specs.Prelude.{◌≡◌, ℕ, [], ◌∷◌, ◌++◌, string_bytes, IfOk, OnOk};
 ghost use Rattle.std.specs.Ordering.{nat_cmp};
 ghost use Rattle.std.specs.BTreeSet.{contains};
-ghost use Rattle.pl_texts.specs.Bound.{all_bounded, Gives};
+ghost use Rattle.pl_texts.specs.Bound.{all_bounded};
+ghost use Rattle.pl_texts.specs.Gives.{Gives};
 ghost use Rattle.pl_texts.specs.Pieces.{pieces, is_of};
 
 use crate::bound::LONGEST_TEXT;

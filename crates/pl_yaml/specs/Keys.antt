@@ -4,7 +4,8 @@ use Rattle.std.specs.Prelude.{None, Result, Ok, Err, if◌then◌else◌}
 use Rattle.pl_base.specs.declared.place.FileKey.{FileKey}
 use Rattle.pl_line.specs.declared.code.YamlCode.TheVariants as codes_of
 use Rattle.pl_line.specs.declared.line_fault.Fault.{Fault}
-use Rattle.pl_line.specs.Rows.{Row, row}
+use Rattle.pl_line.specs.Rows.{Row}
+use Rattle.pl_line.specs.Lines.{row}
 use Rattle.pl_line.specs.Reading.{fault_at, fault_behind}
 use Rattle.pl_reading.specs.Steps.{◌>>=◌}
 use Rattle.pl_line.specs.Left.{behind}

@@ -1,3 +1,4 @@
+pub mod Answers
 pub mod BlockScalars
 pub mod Content
 pub mod Heads

@@ -1,5 +1,5 @@
 -- What a text spells (YAML 1.2.2, in the profile of docs).
-use Rattle.std.specs.Prelude.{◌≡◌, ℕ, false, not, nat_lt, List, [], ◌∷◌, length, Result, Ok, Err}
+use Rattle.std.specs.Prelude.{ℕ, false, not, nat_lt, List, [], ◌∷◌, length, Result, Ok, Err}
 use Rattle.std.specs.Prelude.{if◌then◌else◌, chars}
 use Rattle.std.specs.Str.{is_utf8}
 use Rattle.pl_base.specs.declared.place.FileKey.{FileKey}
@@ -8,8 +8,6 @@ use Rattle.pl_base.specs.declared.node.Node.{Node}
 use Rattle.pl_base.specs.Places.{place_at}
 use Rattle.pl_line.specs.declared.code.YamlCode.{YamlCode}
 use Rattle.pl_line.specs.declared.code.YamlCode.TheVariants as codes_of
-use Rattle.pl_yaml.specs.declared.fault.YamlFault.{YamlFault}
-use Rattle.pl_yaml.specs.declared.fault.YamlFault.TheVariants as faults
 use Rattle.pl_line.specs.declared.line_fault.Fault.{Fault}
 use Rattle.pl_yaml.specs.declared.slot.Slot.{Slot}
 use Rattle.pl_line.specs.Rows.{Row, rows_of}
@@ -47,12 +45,3 @@ spells file text =
     if nat_lt 262144 (length text) then refused file codes_of.TooLarge 1 1
     else if not (is_utf8 text) then refused file codes_of.NotUtf8 1 1
     else placed file (document file (rows_of (chars text)))
-
--- what is answered is that, or want of memory
-abbrev pub Answers : Result Node YamlFault → Result Node (YamlCode × Place) → Type 0
-Answers (Ok node) spelled = spelled ≡ Ok node
-Answers (Err faults.Memory) spelled = Unit {0}
-Answers (Err (faults.Refused code place)) spelled = spelled ≡ Err (code, place)
-
-abbrev pub Reads : FileKey → List ℕ → Result Node YamlFault → Type 0
-Reads file text result = Answers result (spells file text)

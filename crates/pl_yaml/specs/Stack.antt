@@ -8,8 +8,9 @@ use Rattle.pl_base.specs.declared.node.NodeBody.TheVariants.{Seq, Map}
 use Rattle.pl_base.specs.declared.node.NodePair.{NodePair}
 use Rattle.pl_base.specs.Places.{place_at}
 use Rattle.pl_line.specs.declared.line_fault.ReadFault.{ReadFault}
-use Rattle.pl_line.specs.Rows.{Row, row, size}
-use Rattle.pl_line.specs.Reading.{Fails}
+use Rattle.pl_line.specs.Rows.{Row, size}
+use Rattle.pl_line.specs.Lines.{row}
+use Rattle.pl_line.specs.Gives.{Fails}
 use Rattle.pl_reading.specs.Steps.{◌>>=◌}
 use Rattle.pl_line.specs.Trees.{pair_of}
 use Rattle.pl_yaml.specs.declared.key.Key.{Key}

@@ -1,6 +1,6 @@
 ghost use Rattle.std.specs.Prelude.{◌≡◌, ◌≤◌, [], ◌∷◌, length, take, drop, MatchOption};
 ghost use Rattle.pl_line.specs.Characters.{all_of};
-ghost use Rattle.pl_line.specs.Rows.{row};
+ghost use Rattle.pl_line.specs.Lines.{row};
 ghost use Rattle.pl_yaml.specs.BlockScalars as spec;
 
 use crate::block_line::BlockLine;

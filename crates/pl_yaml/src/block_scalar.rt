@@ -1,8 +1,9 @@
 ghost use Rattle.std.specs.Prelude.{◌≡◌, ◌+◌, ◌≤◌, ◌||◌, take, length, IfOk, OnOk};
 ghost use Rattle.pl_line.specs.Characters.{all_of};
 ghost use Rattle.pl_line.specs.Left as left;
-ghost use Rattle.pl_line.specs.Rows.{row, size};
-ghost use Rattle.pl_line.specs.Reading.{Gives};
+ghost use Rattle.pl_line.specs.Rows.{size};
+ghost use Rattle.pl_line.specs.Lines.{row};
+ghost use Rattle.pl_line.specs.Gives.{Gives};
 ghost use Rattle.pl_yaml.specs.BlockScalars as spec;
 
 use crate::block_lines::BlockLines;

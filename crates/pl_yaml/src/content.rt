@@ -1,6 +1,6 @@
 ghost use Rattle.std.specs.Prelude.{◌≡◌, ◌≤◌, OnOk};
 ghost use Rattle.pl_line.specs.Rows.{size};
-ghost use Rattle.pl_line.specs.Reading.{Gives};
+ghost use Rattle.pl_line.specs.Gives.{Gives};
 ghost use Rattle.pl_yaml.specs.Content as spec;
 
 use crate::heads::{begins, is_start, stands};

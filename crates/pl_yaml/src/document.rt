@@ -1,6 +1,7 @@
 ghost use Rattle.std.specs.Prelude.{◌≡◌, ◌+◌, ◌<◌, ◌≤◌, ◌^◌, length, chars, IfOk};
 ghost use Rattle.pl_line.specs.Rows.{rows_of};
-ghost use Rattle.pl_line.specs.Reading.{Gives};
+ghost use Rattle.pl_line.specs.Gives.{Gives};
+ghost use Rattle.pl_yaml.specs.Answers as answers;
 ghost use Rattle.pl_yaml.specs.Spells as spec;
 
 use crate::content::{to_content, to_lead};
@@ -60,7 +61,7 @@ const WHOLE_TEXT: Slot = Slot {
 /// a stack of at most 64. Memory is taken for the node, for that stack, and for the keys of
 /// mappings with more than eight pairs; Memory is answered where a growth is refused.
 pub fn read(alloc: Global, text: &[u8], file: &FileKey) -> Result<Node, YamlFault>
-    ensures { spec.Reads file.now text.now result }
+    ensures { answers.Reads file.now text.now result }
 {
     let file = Shared::new(alloc, file.copy(alloc)?)?;
     read_in(alloc, text, &file)
@@ -68,7 +69,7 @@ pub fn read(alloc: Global, text: &[u8], file: &FileKey) -> Result<Node, YamlFaul
 
 /// Reads a text as the node that it spells, whose places share the file's key.
 fn read_in(alloc: Global, text: &[u8], file: &Shared<FileKey>) -> Result<Node, YamlFault>
-    ensures { spec.Reads file.now text.now result }
+    ensures { answers.Reads file.now text.now result }
 {
     if text.len() > MOST_BYTES {
         return refused(alloc, file, YamlCode::TooLarge, 1, 1);
@@ -93,7 +94,7 @@ fn refused(
     line: u32,
     column: u32,
 ) -> Result<Node, YamlFault>
-    ensures { spec.Answers result (spec.refused file.now code line column) }
+    ensures { answers.Answers result (spec.refused file.now code line column) }
 {
     let place = Place::at(alloc, file, line, column)?;
     Err(YamlFault::Refused(code, place))

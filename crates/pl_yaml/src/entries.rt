@@ -1,8 +1,9 @@
 ghost use Rattle.std.specs.Prelude.{◌≡◌, ℕ, ◌-◌, ◌*◌, ◌<◌, ◌≤◌, length, IfOk, IfSome, OnOk};
 ghost use Rattle.std.specs.Option.{option_map};
 ghost use Rattle.pl_line.specs.Characters.{all_of};
-ghost use Rattle.pl_line.specs.Rows.{row, size};
-ghost use Rattle.pl_line.specs.Reading.{Gives};
+ghost use Rattle.pl_line.specs.Rows.{size};
+ghost use Rattle.pl_line.specs.Lines.{row};
+ghost use Rattle.pl_line.specs.Gives.{Gives};
 ghost use Rattle.pl_yaml.specs.Reading.{IsFirst};
 ghost use Rattle.pl_yaml.specs.Keys.{found_key};
 ghost use Rattle.pl_yaml.specs.Nodes as spec;

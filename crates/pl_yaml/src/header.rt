@@ -1,6 +1,6 @@
 ghost use Rattle.std.specs.Prelude.{◌≡◌, ◌+◌, ◌<◌, ◌≤◌, length, IfSome};
 ghost use Rattle.pl_line.specs.Characters.{all_of};
-ghost use Rattle.pl_line.specs.Rows.{row};
+ghost use Rattle.pl_line.specs.Lines.{row};
 ghost use Rattle.pl_yaml.specs.BlockScalars as spec;
 
 use pl_line::{Characters, Line, begins_with};

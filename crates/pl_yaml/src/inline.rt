@@ -1,7 +1,8 @@
 ghost use Rattle.std.specs.Prelude.{◌≡◌, ◌≤◌, length, OnOk};
 ghost use Rattle.pl_line.specs.Characters.{all_of};
-ghost use Rattle.pl_line.specs.Rows.{row, size};
-ghost use Rattle.pl_line.specs.Reading.{Gives};
+ghost use Rattle.pl_line.specs.Rows.{size};
+ghost use Rattle.pl_line.specs.Lines.{row};
+ghost use Rattle.pl_line.specs.Gives.{Gives};
 ghost use Rattle.pl_yaml.specs.Inline as spec;
 
 use crate::block_scalar::block;

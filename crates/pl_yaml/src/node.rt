@@ -1,6 +1,7 @@
 ghost use Rattle.std.specs.Prelude.{◌≡◌, ℕ, ◌+◌, ◌*◌, ◌≤◌, IfOk, OnOk, List as list};
-ghost use Rattle.pl_line.specs.Rows.{Row, row, size};
-ghost use Rattle.pl_line.specs.Reading.{Gives};
+ghost use Rattle.pl_line.specs.Rows.{Row, size};
+ghost use Rattle.pl_line.specs.Lines.{row};
+ghost use Rattle.pl_line.specs.Gives.{Gives};
 ghost use Rattle.pl_base.specs.declared.place.FileKey.{FileKey as file_key};
 ghost use Rattle.pl_yaml.specs.Nodes as spec;
 ghost use Rattle.pl_yaml.specs.Stack as stack;

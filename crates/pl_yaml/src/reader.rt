@@ -1,5 +1,5 @@
 ghost use Rattle.std.specs.Prelude.{◌≡◌, [], ◌∷◌, drop, MatchOption};
-ghost use Rattle.pl_line.specs.Rows.{row};
+ghost use Rattle.pl_line.specs.Lines.{row};
 ghost use Rattle.pl_yaml.specs.Reading.{has_row};
 
 use pl_line::{Line, Rows};
@@ -15,7 +15,8 @@ pub(crate) struct Reader<'t> {
 impl<'t> Model for Reader<'t> {
     ghost use Rattle.std.specs.Prelude.{List as list, [], ◌∷◌};
     ghost use Rattle.std.specs.Option.{option_map_or};
-    ghost use Rattle.pl_line.specs.Rows.{Row, row};
+    ghost use Rattle.pl_line.specs.Rows.{Row};
+    ghost use Rattle.pl_line.specs.Lines.{row};
 
     ghost Value = { list Row };
 

@@ -9,7 +9,8 @@ use Rattle.std.proofs.lemmas.Bool.Decides.{nat_tests}
 use Rattle.std.proofs.lemmas.List.{take_all, take-take, length-take-le, length-drop}
 use Rattle.pl_line.proofs.Laws.Scanning.{position_or_len_le}
 use Rattle.pl_line.proofs.Laws.Cuts.{cut_found, cut_last}
-use Rattle.pl_line.specs.Rows.{is_control, is_return, without_return, IsRead}
+use Rattle.pl_line.specs.Rows.{is_control, is_return, without_return}
+use Rattle.pl_line.specs.Lines.{IsRead}
 
 abbrev first : List ℕ → ℕ
 first xs = position_or_len is_control xs

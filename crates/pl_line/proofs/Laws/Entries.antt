@@ -9,7 +9,8 @@ use Rattle.pl_line.specs.declared.line_fault.Fault.{Fault}
 use Rattle.pl_line.specs.declared.line_fault.ReadFault.{ReadFault}
 use Rattle.pl_line.specs.declared.line_fault.ReadFault.TheVariants as faults
 use Rattle.pl_line.specs.Rows.{Row}
-use Rattle.pl_line.specs.Reading.{Fails, fault_at}
+use Rattle.pl_line.specs.Reading.{fault_at}
+use Rattle.pl_line.specs.Gives.{Fails}
 use Rattle.pl_reading.specs.Steps.{◌>>=◌}
 use Rattle.pl_line.specs.Left.{behind}
 use Rattle.pl_reading.specs.Bytes.{begins_with}

@@ -3,7 +3,7 @@ use Rattle.std.proofs.Common.{◌≡◌, Result, Err, sym, subst}
 use Rattle.pl_line.specs.declared.line_fault.Fault.{Fault}
 use Rattle.pl_line.specs.declared.line_fault.ReadFault.{ReadFault}
 use Rattle.pl_line.specs.declared.line_fault.ReadFault.TheVariants as faults
-use Rattle.pl_line.specs.Reading.{Fails}
+use Rattle.pl_line.specs.Gives.{Fails}
 
 -- a fault that is told
 pub fails_as :

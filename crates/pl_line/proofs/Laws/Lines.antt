@@ -4,7 +4,8 @@ use Rattle.std.proofs.Common.{◌∙◌, arith}
 use Rattle.std.specs.Prelude.{◌==◌}
 use Rattle.std.specs.List.{slice_split}
 use Rattle.std.proofs.lemmas.Bool.Decides.{nat_tests}
-use Rattle.pl_line.specs.Rows.{Row, row_at, rows_from, without_return, indented, IsRead}
+use Rattle.pl_line.specs.Rows.{Row, row_at, rows_from, without_return, indented}
+use Rattle.pl_line.specs.Lines.{IsRead}
 use Rattle.pl_line.proofs.Laws.Cuts.{slice_split-some}
 
 -- a line before others

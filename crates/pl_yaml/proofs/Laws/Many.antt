@@ -11,7 +11,8 @@ use Rattle.pl_line.specs.declared.line_fault.ReadFault.{ReadFault}
 use Rattle.pl_line.specs.declared.line_fault.ReadFault.TheVariants as faults
 use Rattle.pl_line.specs.Rows.{Row}
 use Rattle.pl_yaml.specs.Reading.{Read, many, many_step}
-use Rattle.pl_line.specs.Reading.{Fails, fault_at}
+use Rattle.pl_line.specs.Reading.{fault_at}
+use Rattle.pl_line.specs.Gives.{Fails}
 use Rattle.pl_reading.specs.Steps.{◌>>=◌}
 use Rattle.pl_yaml.specs.Keys.{FoundKey, next_key}
 use Rattle.pl_yaml.specs.Nodes.{values_at, inner, node, next_item, item, items, sequence}

@@ -9,7 +9,7 @@ use Rattle.pl_line.specs.declared.line_fault.Fault.{Fault}
 use Rattle.pl_line.specs.declared.line_fault.ReadFault.{ReadFault}
 use Rattle.pl_line.specs.declared.line_fault.ReadFault.TheVariants as faults
 use Rattle.pl_line.specs.Rows.{Row, size}
-use Rattle.pl_line.specs.Reading.{Fails}
+use Rattle.pl_line.specs.Gives.{Fails}
 use Rattle.pl_reading.specs.Steps.{◌>>=◌}
 use Rattle.pl_yaml.specs.declared.stack.Open.{Open}
 use Rattle.pl_yaml.specs.Reading.{Read}

@@ -14,7 +14,8 @@ use Rattle.pl_line.specs.declared.code.YamlCode.{YamlCode}
 use Rattle.pl_line.specs.declared.code.YamlCode.TheVariants as codes_of
 use Rattle.pl_yaml.specs.declared.fault.YamlFault.{YamlFault}
 use Rattle.pl_line.specs.Rows.{rows_of, without_mark}
-use Rattle.pl_yaml.specs.Spells.{spells, refused, placed, document, Answers}
+use Rattle.pl_yaml.specs.Spells.{spells, refused, placed, document}
+use Rattle.pl_yaml.specs.Answers.{Answers}
 
 mark_less : (cs : List ℕ) → length (without_mark cs) ≤ length cs
 mark_less [] = omega arith

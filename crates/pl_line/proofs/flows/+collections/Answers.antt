@@ -2,7 +2,7 @@ use Rattle.std.proofs.Common.{◌-◌, length, refl, sym, ap, ◌∙◌, arith}
 use Rattle.std.proofs.lemmas.Result.{err_from_is_err_and}
 use Rattle.pl_base.specs.declared.node.NodeBody.TheVariants.{Seq, Map}
 use Rattle.pl_line.specs.Characters.{all_of}
-use Rattle.pl_line.specs.Rows.{row}
+use Rattle.pl_line.specs.Lines.{row}
 use Rattle.pl_line.specs.Trees.{node_at}
 use Rattle.pl_line.specs.Flow.{node, value, pair}
 use Rattle.pl_line.proofs.Laws.Entries.{node_shuts, node_sequence, node_mapping, gathered_ends}

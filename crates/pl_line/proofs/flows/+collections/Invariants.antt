@@ -1,6 +1,6 @@
 use Rattle.std.proofs.Common.{◌≡◌, ℕ, ◌+◌, ◌*◌, ◌<◌, [], length}
 use Rattle.pl_line.specs.Characters.{all_of}
-use Rattle.pl_line.specs.Rows.{row}
+use Rattle.pl_line.specs.Lines.{row}
 use Rattle.pl_line.specs.Left.{behind}
 use Rattle.pl_line.specs.Flow.{node, value, pair, entries}
 use Rattle.pl_line.proofs.flows.+collections.Given as goal

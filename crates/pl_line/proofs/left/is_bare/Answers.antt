@@ -1,5 +1,5 @@
 use Rattle.std.proofs.Common.{sym}
-use Rattle.pl_line.specs.Rows.{row}
+use Rattle.pl_line.specs.Lines.{row}
 use Rattle.pl_line.proofs.Laws.Left.{not_bare, bare_end}
 use Rattle.pl_line.proofs.left.is_bare.Goals as goal
 

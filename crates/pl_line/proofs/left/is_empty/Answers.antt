@@ -1,5 +1,5 @@
 use Rattle.std.proofs.Common.{sym}
-use Rattle.pl_line.specs.Rows.{row}
+use Rattle.pl_line.specs.Lines.{row}
 use Rattle.pl_line.proofs.Laws.Left.{empty_at}
 use Rattle.pl_line.proofs.left.is_empty.Goals as goal
 

@@ -2,7 +2,7 @@ use Rattle.std.proofs.Common.{◌≡◌, drop, ◌+◌, ◌-◌, Ok, Err, [], le
 use Rattle.std.specs.Prelude.{string_bytes}
 use Rattle.std.proofs.lemmas.List.{drop-drop, length-drop}
 use Rattle.pl_line.specs.Characters.{all_of}
-use Rattle.pl_line.specs.Rows.{row}
+use Rattle.pl_line.specs.Lines.{row}
 use Rattle.pl_line.specs.Reading.{fault_behind}
 use Rattle.pl_line.specs.Quoted.{pieces_of}
 use Rattle.pl_line.proofs.Laws.Faults.{fails_as}

@@ -1,7 +1,7 @@
 use Rattle.std.proofs.Common.{◌≡◌, ℕ, ◌+◌, ◌<◌, ◌≤◌, [], length, drop}
 use Rattle.std.specs.Prelude.{string_bytes}
 use Rattle.pl_line.specs.Characters.{all_of}
-use Rattle.pl_line.specs.Rows.{row}
+use Rattle.pl_line.specs.Lines.{row}
 use Rattle.pl_line.specs.Quoted.{pieces_of}
 use Rattle.pl_line.proofs.quotes.pieces.Given as goal
 

@@ -1,6 +1,6 @@
 use Rattle.std.proofs.Common.{◌≡◌, ◌∷◌, take, drop, length, ap, sym, ◌∙◌, arith}
 use Rattle.std.proofs.lemmas.List.{drop-drop}
-use Rattle.pl_line.specs.Rows.{row}
+use Rattle.pl_line.specs.Lines.{row}
 use Rattle.pl_yaml.specs.BlockScalars.{text_lines, lines}
 use Rattle.pl_yaml.proofs.Laws.BlockScalars.{prefixed, line_read}
 use Rattle.pl_yaml.proofs.Laws.Content.{size_drop}

@@ -3,7 +3,7 @@ use Rattle.std.specs.Option.{option_map}
 use Rattle.std.proofs.lemmas.Result.{err_from_is_err_and}
 use Rattle.pl_base.specs.declared.node.NodeBody.TheVariants.{Map}
 use Rattle.pl_base.specs.Places.{place_at}
-use Rattle.pl_line.specs.Rows.{row}
+use Rattle.pl_line.specs.Lines.{row}
 use Rattle.pl_reading.specs.Steps.{◌>>=◌}
 use Rattle.pl_line.specs.Trees.{pair_of}
 use Rattle.pl_yaml.specs.Keys.{found_key, next_key}

@@ -2,7 +2,7 @@ use Rattle.std.proofs.Common.{◌≡◌, ◌-◌, Some, None, Ok, refl, ap, ◌�
 use Rattle.std.specs.Option.{option_map}
 use Rattle.std.proofs.lemmas.Result.{err_from_is_err_and}
 use Rattle.pl_base.specs.declared.node.NodeBody.TheVariants.{Seq}
-use Rattle.pl_line.specs.Rows.{row}
+use Rattle.pl_line.specs.Lines.{row}
 use Rattle.pl_reading.specs.Steps.{◌>>=◌}
 use Rattle.pl_yaml.specs.declared.stack.Open.TheVariants as opens
 use Rattle.pl_yaml.specs.Nodes.{next_item}

@@ -1,5 +1,6 @@
 use Rattle.std.proofs.Common.{◌+◌, ◌-◌, Ok, sym, ap₂, ◌∙◌}
-use Rattle.pl_line.specs.Rows.{row, size}
+use Rattle.pl_line.specs.Rows.{size}
+use Rattle.pl_line.specs.Lines.{row}
 use Rattle.pl_base.specs.declared.node.NodeBody.TheVariants.{Seq}
 use Rattle.pl_reading.specs.Steps.{◌>>=◌}
 use Rattle.pl_yaml.specs.Nodes.{values_at, item, items}

@@ -1,6 +1,6 @@
 use Rattle.std.proofs.Common.{◌≡◌, false, ◌∙◌, sym, drop, arith}
 use Rattle.std.specs.Prelude.{string_bytes}
-use Rattle.pl_line.specs.Rows.{row}
+use Rattle.pl_line.specs.Lines.{row}
 use Rattle.pl_line.specs.Left.{is_bare, is_comment}
 use Rattle.pl_yaml.proofs.Laws.Content.{size_drop}
 use Rattle.pl_yaml.proofs.Laws.Plain.{further_ends, further_more}

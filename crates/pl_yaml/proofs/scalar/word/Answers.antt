@@ -1,5 +1,5 @@
 use Rattle.std.proofs.Common.{rules}
-use Rattle.pl_line.specs.Rows.{row}
+use Rattle.pl_line.specs.Lines.{row}
 use Rattle.std.specs.Prelude.{string_bytes}
 use Rattle.pl_yaml.proofs.Laws.Plain.{word_reads}
 use Rattle.pl_yaml.proofs.scalar.word.Goals as goal
