@@ -17,7 +17,8 @@ pub trait Source {
     ghost faults: { Self → ℕ };
 
     /// Reads the next bytes into the front of a piece, and says how many. 0 for a piece that isn't
-    /// empty is the end. Failed leaves the bytes as they were. Only the end is told as the end.
+    /// empty is the end. Failed leaves the bytes as they were. Only the end is told as the end, and
+    /// only by a read into a piece that isn't empty.
     fn read(&mut self, into: &mut [u8]) -> Result<usize, Failed>
         ensures within { IfOk result (λ count. count ≤ length into.old) }
         ensures bytes { IfOk result (λ count. left self.old ≡ with_front (take count into.new)
@@ -28,6 +29,7 @@ pub trait Source {
         ensures quiet { OnOk result (faults self.new ≡ faults self.old) }
         ensures failed { OnErr result (faults self.new ≡ one_more (faults self.old)) }
         ensures running { IfOk result (λ count. 0 < count → ended self.new ≡ ended self.old) }
+        ensures untold { length into.old ≡ 0 → ended self.new ≡ ended self.old }
         ensures kept { OnErr result (left self.new ≡ left self.old) }
         ensures unended { OnErr result (ended self.new ≡ ended self.old) };
 

@@ -1,5 +1,5 @@
-ghost use Rattle.std.specs.Prelude.{◌≡◌, ◌<◌, ◌≤◌, Some, [], IsTrue, IfOk, OnOk, OnErr, IsErr};
-ghost use Rattle.std.specs.Prelude.{length, max, take};
+ghost use Rattle.std.specs.Prelude.{◌≡◌, ◌<◌, ◌≤◌, ◌-◌, ◌↔◌, ◌⊎◌, Some, [], IsTrue, IfOk, OnOk};
+ghost use Rattle.std.specs.Prelude.{OnErr, IsErr, length, max, min, take};
 ghost use Rattle.pl_base.specs.Counts.{one_more};
 ghost use Rattle.pl_base.specs.Streams.{with_end, is_listed};
 ghost use Rattle.std.specs.Vec.{vec_capacity};
@@ -15,10 +15,14 @@ use std::alloc::Global;
 #[derive(Debug, Drop)]
 pub struct MemSink {
     bytes: Vec<u8>,
+    room: usize,
     piece: usize,
     failing: List<u64>,
     calls: u64,
     faults: u64,
+    ghost within: { length bytes.items ≤ room },
+    ghost made: { room ≤ vec_capacity bytes },
+    ghost some: { 0 < piece },
 }
 
 impl MemSink {
@@ -33,13 +37,14 @@ impl MemSink {
     ) -> Result<MemSink, Memory>
         ensures empty { IfOk result (λ sink. sink.bytes.items ≡ []) }
         ensures quiet { IfOk result (λ sink. sink.faults ≡ 0) }
-        ensures room { IfOk result (λ sink. vec_capacity sink.bytes ≡ room) }
+        ensures room { IfOk result (λ sink. sink.room ≡ room) }
         ensures piece { IfOk result (λ sink. sink.piece ≡ max piece 1) }
         ensures failing { IfOk result (λ sink. sink.failing ≡ failing) }
         ensures calls { IfOk result (λ sink. sink.calls ≡ 0) }
     {
         Ok(MemSink {
             bytes: Vec::with_capacity(alloc, room)?,
+            room,
             piece: piece.max(1),
             failing,
             calls: 0,
@@ -70,13 +75,16 @@ impl Sink for MemSink {
         ensures kept { OnErr result (Some self.new.bytes.items ≡ Some self.old.bytes.items) }
         ensures counted { self.new.calls ≡ one_more self.old.calls }
         ensures listed { self.new.failing ≡ self.old.failing }
-        ensures failing { IsTrue (is_listed self.new.calls self.old.failing) → IsErr result }
+        ensures stays { (self.new.piece ≡ self.old.piece) × (self.new.room ≡ self.old.room) }
+        ensures failing { IsErr result ↔ (IsTrue (is_listed self.new.calls self.old.failing) ⊎
+            ((0 < length bytes.now) × (length self.old.bytes.items ≡ self.old.room))) }
+        ensures most { IfOk result (λ count. count ≡ min (min (length bytes.now)
+            (self.old.room - length self.old.bytes.items)) self.old.piece) }
     {
         self.calls = self.calls.saturating_add(1);
-        let room = self.bytes.capacity() - self.bytes.len();
-        let count = bytes.len().min(room).min(self.piece);
-        let full = count == 0 && !bytes.is_empty();
-        if full || self.failing.as_slice().contains(&self.calls) {
+        let left = self.room - self.bytes.len();
+        let count = bytes.len().min(left).min(self.piece);
+        if is_full(left, bytes) || self.failing.as_slice().contains(&self.calls) {
             self.faults = self.faults.saturating_add(1);
             return Err(Failed);
         }
@@ -92,4 +100,11 @@ impl Sink for MemSink {
     fn faults(&self) -> u64 {
         self.faults
     }
+}
+
+// Whether no room is left for bytes, of which there are some.
+fn is_full(left: usize, bytes: &[u8]) -> bool
+    ensures { IsTrue result ↔ ((0 < length bytes.now) × (left ≡ 0)) }
+{
+    left == 0 && !bytes.is_empty()
 }

@@ -1,5 +1,5 @@
 ghost use Rattle.std.specs.Prelude.{◌≡◌, ◌<◌, ◌≤◌, ◌↔◌, [], Some, drop, take, length, max, false};
-ghost use Rattle.std.specs.Prelude.{IsTrue, IfOk, OnOk, OnErr, IsErr, IfSome};
+ghost use Rattle.std.specs.Prelude.{IsTrue, IfOk, OnOk, OnErr, IsErr, IfSome, min};
 ghost use Rattle.pl_base.specs.Counts.{one_more};
 ghost use Rattle.pl_base.specs.Streams.{with_front, is_listed};
 
@@ -62,11 +62,15 @@ impl Source for MemSource {
         ensures quiet { OnOk result (self.new.faults ≡ self.old.faults) }
         ensures failed { OnErr result (self.new.faults ≡ one_more self.old.faults) }
         ensures running { IfOk result (λ count. 0 < count → self.new.ended ≡ self.old.ended) }
+        ensures untold { length into.old ≡ 0 → self.new.ended ≡ self.old.ended }
         ensures kept { OnErr result (Some (drop self.new.at self.new.bytes) ≡
             Some (drop self.old.at self.old.bytes)) }
         ensures unended { OnErr result (self.new.ended ≡ self.old.ended) }
         ensures counted { self.new.calls ≡ one_more self.old.calls }
         ensures listed { self.new.failing ≡ self.old.failing }
+        ensures stays { (self.new.piece ≡ self.old.piece) × (self.new.bytes ≡ self.old.bytes) }
+        ensures most { IfOk result (λ count. count ≡
+            min (min (length (drop self.old.at self.old.bytes)) (length into.old)) self.old.piece) }
         ensures failing { IsErr result ↔ IsTrue (is_listed self.new.calls self.old.failing) }
     {
         self.calls = self.calls.saturating_add(1);
@@ -95,6 +99,7 @@ fn copy_front(from: &[u8], into: &mut [u8], most: usize) -> usize
     ensures there { result ≤ length from.now }
     ensures copied { take result into.new ≡ take result from.now }
     ensures end { 0 < length into.old → result ≡ 0 → from.now ≡ [] }
+    ensures most { result ≡ min (min (length from.now) (length into.old)) most }
 {
     let count = from.len().min(into.len()).min(most);
     let (front, _) = into.split_at_mut(count);
