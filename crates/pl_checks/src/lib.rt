@@ -10,8 +10,6 @@ mod laws;
 mod patterns;
 mod provenance;
 mod template;
-#[cfg(test)]
-mod tests;
 mod view;
 
 pub use check::{Approval, Arguments, BranchControl, BusinessHours, Check, RequiredTemplate};

@@ -12,8 +12,6 @@ mod keys;
 mod kinds;
 mod numbers;
 mod rules;
-#[cfg(test)]
-mod tests;
 mod texts;
 mod whole;
 

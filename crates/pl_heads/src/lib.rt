@@ -10,8 +10,6 @@ mod judging;
 mod laws;
 mod lines;
 mod reading;
-#[cfg(test)]
-mod tests;
 
 pub use fault::HttpFault;
 pub use front::{Front, Head, read_head};

@@ -22,8 +22,6 @@ mod scalars;
 mod scan;
 mod tail;
 mod taking;
-#[cfg(test)]
-mod tests;
 
 pub use characters::Characters;
 pub use code::YamlCode;

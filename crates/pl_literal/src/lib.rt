@@ -5,8 +5,6 @@
 mod booleans;
 mod items;
 mod nodes;
-#[cfg(test)]
-mod tests;
 mod values;
 
 pub use booleans::{boolean_in, spells};

@@ -7,8 +7,6 @@ mod contender;
 mod contenders;
 mod laws;
 mod ordering;
-#[cfg(test)]
-mod tests;
 
 pub use contender::Contender;
 pub use contenders::Contenders;

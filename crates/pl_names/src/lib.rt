@@ -3,8 +3,6 @@
 
 mod keys;
 mod names;
-#[cfg(test)]
-mod tests;
 
 pub use keys::{is_key, is_path, is_ref, is_repository};
 pub use names::{is_name, is_plain};

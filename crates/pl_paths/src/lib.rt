@@ -5,8 +5,6 @@
 mod cutting;
 mod laws;
 mod resolving;
-#[cfg(test)]
-mod tests;
 
 pub use cutting::{TemplatePath, cut_path};
 pub use laws::{resolved_has_no_dots, resolved_leads_to_itself};

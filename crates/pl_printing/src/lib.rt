@@ -6,6 +6,3 @@ mod printing;
 mod quoting;
 
 pub use printing::write;
-
-#[cfg(test)]
-mod tests;

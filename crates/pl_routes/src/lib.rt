@@ -5,8 +5,6 @@ mod parts;
 mod place;
 mod rules;
 mod table;
-#[cfg(test)]
-mod tests;
 
 pub use parts::{decoded, parts_of};
 pub use place::{Place, Route, RouteFault};

@@ -4,8 +4,6 @@
 mod place;
 mod scanner;
 mod steps;
-#[cfg(test)]
-mod tests;
 
 pub use place::Place;
 pub use scanner::Scanner;

@@ -9,8 +9,6 @@ mod ends;
 mod forms;
 mod keys;
 mod laws;
-#[cfg(test)]
-mod tests;
 mod words;
 
 pub use cutting::{begins_expression, scalar_form};

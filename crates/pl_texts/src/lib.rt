@@ -10,8 +10,6 @@ mod joining;
 mod matching;
 mod scanning;
 mod splitting;
-#[cfg(test)]
-mod tests;
 
 pub use bound::LONGEST_TEXT;
 pub use changing::{lower, replace, trim, upper};

@@ -4,8 +4,6 @@
 mod json;
 mod message;
 mod next;
-#[cfg(test)]
-mod tests;
 mod waiting;
 mod written;
 

@@ -4,8 +4,6 @@
 mod command;
 mod digest;
 mod parameters;
-#[cfg(test)]
-mod tests;
 mod words;
 
 pub use command::Command;

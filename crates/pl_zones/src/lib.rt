@@ -4,8 +4,6 @@
 mod fixed;
 mod laws;
 mod local;
-#[cfg(test)]
-mod tests;
 mod zone;
 
 pub use laws::zone_laws;

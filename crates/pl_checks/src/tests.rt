@@ -1,6 +1,0 @@
-mod approvals;
-mod branches;
-mod hours;
-mod patterns;
-mod shown;
-mod templates;

@@ -1,4 +1,0 @@
-mod every_list;
-mod plain;
-mod script;
-mod stages;
