@@ -8,9 +8,3 @@ pub record IsFirst {X : Type 0} (P : X → Type 0) (items : List X) (item : X) :
   pub is : slice_index_or items place item ≡ item
   pub here : P item
   pub before : (k : ℕ) (d : X) → k < place → ¬ P (slice_index_or items k d)
-
--- a fact holds of the item at a place, and of none before it
-pub record IsFirstAt {X : Type 0} (P : X → Type 0) (items : List X) (place : ℕ) : Type 0 where
-  pub within : place < length items
-  pub here : (d : X) → P (slice_index_or items place d)
-  pub before : (k : ℕ) (d : X) → k < place → ¬ P (slice_index_or items k d)

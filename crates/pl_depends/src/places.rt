@@ -1,9 +1,8 @@
 ghost use Rattle.std.specs.Prelude.{◌≡◌, ◌∷◌, ◌++◌, [], IfOk, OnOk, unwrap_or};
-ghost use Rattle.pl_base.specs.Folding.{folded};
 ghost use Rattle.pl_depends.specs.Places as spec;
 ghost use Rattle.pl_depends.specs.Places.{also, knows, nowhere, places_under, under};
 
-use pl_base::{List, Memory, Text, Value};
+use pl_base::{List, Memory, Text, Value, in_upper_case};
 use pl_schema::{JobSpec, LegSpec, StageSpec};
 use std::alloc::Global;
 use std::collections::BTreeMap;
@@ -68,14 +67,6 @@ fn push_all(found: &mut List<u32>, places: &[u32]) -> Result<(), Memory>
         found.push(*place)?;
     }
     Ok(())
-}
-
-fn in_upper_case(alloc: Global, name: &Text) -> Result<Text, Memory>
-    ensures { IfOk result (λ upper. upper ≡ folded name.now) }
-{
-    let mut upper = String::from_str(alloc, name.as_str())?;
-    upper.make_ascii_uppercase();
-    Ok(Text::from_string(upper))
 }
 
 /// A place as a plan has it. A list that is longer than its numbers can tell wants memory.

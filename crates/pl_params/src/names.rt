@@ -1,12 +1,11 @@
-ghost use Rattle.std.specs.Prelude.{◌≡◌, IfOk, find, string_bytes};
+ghost use Rattle.std.specs.Prelude.{◌≡◌, IfOk, find};
 ghost use Rattle.std.specs.Option.{option_copied};
-ghost use Rattle.pl_base.specs.Folding.{folded};
 ghost use Rattle.pl_literal.specs.Booleans.{spells};
 ghost use Rattle.pl_params.specs.Names.{is_declared, Indexes};
 
 use crate::given::Given;
 use crate::param::Param;
-use pl_base::{List, Memory, Text};
+use pl_base::{List, Memory, Text, in_upper_case};
 use pl_literal::spells;
 use std::alloc::Global;
 use std::collections::HashMap;
@@ -24,15 +23,6 @@ pub fn is_declared(declared: &List<Param>, name: &str) -> bool
         .any(|param| spells(name, param.name.as_str()))
 }
 
-/// A name in upper case, that of ASCII's letters.
-pub fn in_upper_case(alloc: Global, name: &Text) -> Result<String, Memory>
-    ensures { IfOk result (λ upper. string_bytes upper ≡ folded name.now) }
-{
-    let mut upper = String::from_str(alloc, name.as_str())?;
-    upper.make_ascii_uppercase();
-    Ok(upper)
-}
-
 /// Where the names of what is given first stand.
 pub fn places_of_given(alloc: Global, given: &List<Given>) -> Result<Places, Memory>
     ensures { IfOk result (λ places. Indexes (λ one. one.name) given.now places) }
@@ -40,7 +30,7 @@ pub fn places_of_given(alloc: Global, given: &List<Given>) -> Result<Places, Mem
     let mut places = HashMap::new(alloc);
     let items = given.as_slice();
     for at in (0..items.len()).rev() {
-        let name = in_upper_case(alloc, &items[at].name)?;
+        let name = in_upper_case(alloc, &items[at].name)?.into_string(alloc)?;
         places.insert(name, at)?;
     }
     Ok(places)
@@ -53,7 +43,7 @@ pub fn places_of_params(alloc: Global, declared: &List<Param>) -> Result<Places,
     let mut places = HashMap::new(alloc);
     let items = declared.as_slice();
     for at in (0..items.len()).rev() {
-        let name = in_upper_case(alloc, &items[at].name)?;
+        let name = in_upper_case(alloc, &items[at].name)?.into_string(alloc)?;
         places.insert(name, at)?;
     }
     Ok(places)
