@@ -6,7 +6,7 @@ use Rattle.pl_checks.specs.declared.check.BranchControl.{BranchControl}
 use Rattle.pl_checks.specs.declared.view.CheckView.{CheckView}
 use Rattle.pl_checks.specs.declared.view.Verdict.{Verdict}
 use Rattle.pl_checks.specs.declared.view.Verdict.TheVariants.{Pass, Wait, Fail}
-use Rattle.pl_checks.specs.First.{IsFirst}
+use Rattle.pl_base.specs.Firsts.{IsFirst}
 use Rattle.pl_checks.specs.Patterns.{Matches}
 
 -- the ref matches one of the patterns

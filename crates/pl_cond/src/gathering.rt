@@ -32,7 +32,7 @@ impl Gathered {
     pub fn with(self, alloc: Global, later: Variable) -> Result<Gathered, Memory>
         ensures { IfOk result (λ more. more.variables ≡ placed self.variables later) }
     {
-        let name = in_upper_case(alloc, &later.name)?.into_string(alloc)?;
+        let name = in_upper_case(alloc, &later.name)?;
         match place_in(&self.places, name.as_str()) {
             Some(at) => Ok(self.replaced(at, later)),
             None => self.extended(name, later),

@@ -26,7 +26,7 @@ pub fn no_places(alloc: Global) -> Places
 pub fn put(alloc: Global, places: &mut Places, name: &Text, here: List<u32>) -> Result<(), Memory>
     ensures { OnOk result (under places.new ≡ also (under places.old) name.now here) }
 {
-    let name = in_upper_case(alloc, name)?;
+    let name = Text::from_string(in_upper_case(alloc, name)?);
     if places.by_name.contains_key(&name) {
         return Ok(());
     }
@@ -38,7 +38,7 @@ pub fn put(alloc: Global, places: &mut Places, name: &Text, here: List<u32>) -> 
 pub fn is_known(alloc: Global, places: &Places, name: &Text) -> Result<bool, Memory>
     ensures { IfOk result (λ is. is ≡ knows places.now name.now) }
 {
-    let name = in_upper_case(alloc, name)?;
+    let name = Text::from_string(in_upper_case(alloc, name)?);
     let is = places.by_name.contains_key(&name);
     Ok(is)
 }
@@ -53,7 +53,7 @@ pub fn push_under(
     ensures { OnOk result
         (found.new ≡ found.old ++ unwrap_or (under places.now name.now) []) }
 {
-    let name = in_upper_case(alloc, name)?;
+    let name = Text::from_string(in_upper_case(alloc, name)?);
     match places.by_name.get(&name) {
         Some(here) => push_all(found, here.as_slice()),
         None => Ok(()),

@@ -140,4 +140,4 @@ read_is_digest text told h =
     let len = decode_sized-ok text 32 told.bytes parts.1 in
     let twice = decode_sized-twice text 32 len in
     let good = decode_of-ok text told.bytes (sym twice ∙ parts.1) in
-    record { len = omega (arith, len, good.2.0); bytes = good.2.1 }
+    record { len = omega (arith, len, good.2); bytes = good.3 }

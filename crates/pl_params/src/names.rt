@@ -30,7 +30,7 @@ pub fn places_of_given(alloc: Global, given: &List<Given>) -> Result<Places, Mem
     let mut places = HashMap::new(alloc);
     let items = given.as_slice();
     for at in (0..items.len()).rev() {
-        let name = in_upper_case(alloc, &items[at].name)?.into_string(alloc)?;
+        let name = in_upper_case(alloc, &items[at].name)?;
         places.insert(name, at)?;
     }
     Ok(places)
@@ -43,7 +43,7 @@ pub fn places_of_params(alloc: Global, declared: &List<Param>) -> Result<Places,
     let mut places = HashMap::new(alloc);
     let items = declared.as_slice();
     for at in (0..items.len()).rev() {
-        let name = in_upper_case(alloc, &items[at].name)?.into_string(alloc)?;
+        let name = in_upper_case(alloc, &items[at].name)?;
         places.insert(name, at)?;
     }
     Ok(places)

@@ -33,7 +33,7 @@ pub fn no_names(alloc: Global) -> Names
 pub fn take(alloc: Global, names: &mut Names, name: &Text) -> Result<(), Memory>
     ensures { OnOk result (taken names.new ≡ also_taken (taken names.old) (Some name.now)) }
 {
-    let name = in_upper_case(alloc, name)?;
+    let name = Text::from_string(in_upper_case(alloc, name)?);
     names.folded.insert(name)?;
     Ok(())
 }
@@ -42,7 +42,7 @@ pub fn take(alloc: Global, names: &mut Names, name: &Text) -> Result<(), Memory>
 fn is_taken(alloc: Global, names: &Names, name: &Text) -> Result<bool, Memory>
     ensures { IfOk result (λ is. is ≡ taken names.now name.now) }
 {
-    let name = in_upper_case(alloc, name)?;
+    let name = Text::from_string(in_upper_case(alloc, name)?);
     let is = names.folded.contains(&name);
     Ok(is)
 }

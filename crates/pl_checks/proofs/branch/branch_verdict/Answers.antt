@@ -3,7 +3,7 @@ use Rattle.std.specs.List.{All}
 use Rattle.pl_base.specs.declared.repo_ref.RepoRef.{RepoRef}
 use Rattle.pl_rules.specs.declared.rule.Rule.TheVariants as rules
 use Rattle.pl_checks.specs.Branches.{IsAllowed}
-use Rattle.pl_checks.specs.First.{IsFirst}
+use Rattle.pl_base.specs.Firsts.{IsFirst}
 use Rattle.pl_checks.proofs.FirstPlaces.{first_item}
 use Rattle.pl_checks.proofs.branch.branch_verdict.Goals as goal
 
