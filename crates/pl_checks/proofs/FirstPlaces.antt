@@ -3,7 +3,8 @@ use Rattle.std.proofs.Common.{◌≡◌, ◌<◌, ◌+◌, ℕ, List, length, ge
 use Rattle.std.proofs.Common.{⊎_elim}
 use Rattle.std.proofs.lemmas.Bool.{cases_lt}
 use Rattle.std.proofs.lemmas.List.{get_or_default}
-use Rattle.pl_checks.specs.First.{IsFirst, IsFirstAt}
+use Rattle.pl_base.specs.Firsts.{IsFirstAt}
+use Rattle.pl_base.specs.Firsts.{IsFirst}
 
 module _ {X : Type 0} (P : X →
     Type 0) (xs : List X) (i : ℕ) (x : X) (within : i < length xs) (is : x ≡ get_or xs i x) where

@@ -22,7 +22,7 @@ use Rattle.pl_checks.specs.declared.view.Verdict.{Verdict}
 use Rattle.pl_checks.specs.declared.view.Verdict.TheVariants.{Pass, Wait, Fail}
 use Rattle.pl_checks.specs.Approvals.{IsApprovalVerdict, IsUnrejected, has_rejected}
 use Rattle.pl_checks.specs.Branches.{IsAllowed, IsBranchVerdict}
-use Rattle.pl_checks.specs.First.{IsFirst}
+use Rattle.pl_base.specs.Firsts.{IsFirst}
 use Rattle.pl_checks.specs.Hours.{IsHoursVerdictAt}
 use Rattle.pl_checks.specs.Provenance.{IsLiteral}
 use Rattle.pl_checks.specs.Templates.{IsArgumentsVerdict, IsStepsVerdict, IsTemplateVerdict}

@@ -9,7 +9,7 @@ use Rattle.pl_checks.specs.declared.check.Approval.{Approval}
 use Rattle.pl_checks.specs.declared.view.CheckView.{CheckView}
 use Rattle.pl_checks.specs.declared.view.Verdict.{Verdict}
 use Rattle.pl_checks.specs.declared.view.Verdict.TheVariants.{Pass, Wait, Fail}
-use Rattle.pl_checks.specs.First.{IsFirst}
+use Rattle.pl_base.specs.Firsts.{IsFirst}
 
 -- whether two names are one
 abbrev pub same_name : List ℕ → List ℕ → Bool

@@ -1,12 +1,12 @@
 -- Branch control (Microsoft Learn, Azure Pipelines, "Define approvals and checks", Branch control).
 use Rattle.std.specs.Prelude.{◌≡◌, All, Any}
-use Rattle.pl_rules.specs.declared.repo_ref.RepoRef.{RepoRef}
+use Rattle.pl_base.specs.declared.repo_ref.RepoRef.{RepoRef}
 use Rattle.pl_rules.specs.declared.rule.Rule.TheVariants as rules
 use Rattle.pl_checks.specs.declared.check.BranchControl.{BranchControl}
 use Rattle.pl_checks.specs.declared.view.CheckView.{CheckView}
 use Rattle.pl_checks.specs.declared.view.Verdict.{Verdict}
 use Rattle.pl_checks.specs.declared.view.Verdict.TheVariants.{Pass, Wait, Fail}
-use Rattle.pl_checks.specs.First.{IsFirst}
+use Rattle.pl_base.specs.Firsts.{IsFirst}
 use Rattle.pl_checks.specs.Patterns.{Matches}
 
 -- the ref matches one of the patterns

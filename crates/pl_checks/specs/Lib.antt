@@ -1,6 +1,5 @@
 pub mod Approvals
 pub mod Branches
-pub mod First
 pub mod Hours
 pub mod Patterns
 pub mod Provenance

@@ -11,7 +11,7 @@ use Rattle.pl_checks.specs.declared.view.CheckView.{CheckView}
 use Rattle.pl_checks.specs.declared.view.StepMark.{StepMark}
 use Rattle.pl_checks.specs.declared.view.Verdict.{Verdict}
 use Rattle.pl_checks.specs.declared.view.Verdict.TheVariants.{Pass, Wait, Fail}
-use Rattle.pl_checks.specs.First.{IsFirst}
+use Rattle.pl_base.specs.Firsts.{IsFirst}
 use Rattle.pl_checks.specs.Provenance.{IsLiteral}
 
 -- the run extends this file, and the check lists it

@@ -3,7 +3,7 @@ ghost use Rattle.std.specs.Prelude.{◌&&◌};
 ghost use Rattle.std.specs.Set.{is_member, unique_keys};
 ghost use Rattle.pl_checks.specs.Approvals.{IsApprovalVerdict, counts, deadline, has_approved};
 ghost use Rattle.pl_checks.specs.Approvals.{has_decided, has_rejected, same_name};
-ghost use Rattle.pl_checks.specs.First.{IsFirstAt};
+ghost use Rattle.pl_base.specs.Firsts.{IsFirstAt};
 
 use crate::check::Approval;
 use crate::view::{CheckView, Verdict};

@@ -1,6 +1,6 @@
 ghost use Rattle.std.specs.Prelude.{◌↔◌, Any, All, IfOk, IsTrue, MatchOption};
 ghost use Rattle.pl_checks.specs.Branches.{IsAllowed, IsBranchVerdict};
-ghost use Rattle.pl_checks.specs.First.{IsFirstAt};
+ghost use Rattle.pl_base.specs.Firsts.{IsFirstAt};
 ghost use Rattle.pl_checks.specs.Patterns.{Matches};
 
 use crate::check::BranchControl;

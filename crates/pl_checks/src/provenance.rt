@@ -1,5 +1,5 @@
 ghost use Rattle.std.specs.Prelude.{◌≡◌, ◌↔◌, IfOk, IsTrue, All, MatchOption, map};
-ghost use Rattle.pl_checks.specs.First.{IsFirstAt};
+ghost use Rattle.pl_base.specs.Firsts.{IsFirstAt};
 ghost use Rattle.pl_checks.specs.Provenance.{BeginsWith, IsLiteral, IsOwn, IsWritten};
 
 use crate::view::StepMark;

@@ -26,7 +26,7 @@ use Rattle.pl_compile.specs.Refusals.{refusal_of}
 use Rattle.pl_compile.specs.declared.fault.CompileFault.{CompileFault}
 use Rattle.pl_compile.specs.declared.fault.CompileFault.TheVariants as told
 
--- ---- refusals of the schema and of the plan; of a circle the names are told
+-- ---- refusals of the schema and of the plan; of a cycle the names are told
 
 abbrev pub schema_refusal : SchemaCode × Place → Refusal
 schema_refusal fault =

@@ -27,7 +27,7 @@ fn schema_refusal(alloc: Global, code: SchemaCode, place: Place) -> Result<Refus
     })
 }
 
-/// The names of a circle, and none of another fault.
+/// The names of a cycle, and none of another fault.
 fn names_of(alloc: Global, code: PlanCode) -> List<Text>
     ensures { result ≡ names_of code }
 {
@@ -146,7 +146,7 @@ fn sources_of(
 /// `root` is the key of the pipeline's file, `arguments` are the run's, as texts. The pipeline is
 /// expanded, read by the schema and planned. Refused with the first code of the expansion (X1 to
 /// X16), else of the schema (S1 to S9), else of the plan (L1 to L6), at its place; details are the
-/// inner code for X12, X13, X14 and X16, and the names of a circle for L2. Memory where memory was
+/// inner code for X12, X13, X14 and X16, and the names of a cycle for L2. Memory where memory was
 /// wanting.
 ///
 /// Where the plan extends a template, the mapping of each step and each node and key in it crossed

@@ -1,3 +1,3 @@
-pub mod Circles
+pub mod FirstCycles
 pub mod Found
 pub mod Within

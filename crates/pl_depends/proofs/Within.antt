@@ -13,6 +13,7 @@ use Rattle.std.proofs.lemmas.List.Elements.{Contains-get_or}
 use Rattle.pl_graph.proofs.Lists.{goes_on}
 use Rattle.pl_graph.specs.Graph.{AreEdges, DependsOn, IsCycle}
 use Rattle.pl_literal.specs.Booleans.{spells}
+use Rattle.pl_graph.specs.Waits.{edges_by, edges_of_one}
 use Rattle.pl_schema_parts.specs.declared.pipeline.DependSpec.{DependSpec}
 use Rattle.pl_schema_parts.specs.declared.pipeline.JobSpec.{JobSpec}
 use Rattle.pl_schema_parts.specs.declared.pipeline.StageSpec.{StageSpec}
@@ -20,7 +21,7 @@ use Rattle.pl_depends.specs.declared.graph.Waiting.{Waiting}
 use Rattle.pl_depends.specs.Places.{Finding, Entry, places_under, stage_entries, job_entries}
 use Rattle.pl_depends.specs.Graph.{AreBelow, IsGraph, places_named, the_one_before, stage_waits}
 use Rattle.pl_depends.specs.Graph.{job_waits, waiting_stages, stage_graph, waiting_job, job_graph}
-use Rattle.pl_depends.specs.Graph.{edges_of_one, edges_from}
+use Rattle.pl_depends.specs.Graph.{waits_of}
 use Rattle.pl_depends.specs.Cycles.{AreOn}
 
 pub both : {X : Type 0} (P : X → Type 0) (xs ys : List X) → AllByRecursion P xs →
@@ -140,19 +141,19 @@ one_edges count at (other ∷ depends) within below =
     ((within, below.0), one_edges count at depends within below.1)
 
 all_edges : (count at : ℕ) (graph : List Waiting) → WaitsBelow count graph →
-    at + length graph ≤ count → AllByRecursion (IsEdge count) (edges_from at graph)
+    at + length graph ≤ count → AllByRecursion (IsEdge count) (edges_by at (waits_of graph))
 all_edges count at [] below within = tt
 all_edges count at (waiting ∷ graph) below within =
-    both (IsEdge count) (edges_of_one at waiting.depends) (edges_from (at + 1) graph)
+    both (IsEdge count) (edges_of_one at waiting.depends) (edges_by (at + 1) (waits_of graph))
     (one_edges count at waiting.depends (omega arith) below.0)
     (all_edges count (at + 1) graph below.1 (omega arith))
 
 pub are_edges : (graph : List Waiting) → IsGraph graph →
-    AreEdges (length graph) (edges_from 0 graph)
-are_edges graph below = All-from_recursion (IsEdge (length graph)) (edges_from 0 graph)
+    AreEdges (length graph) (edges_by 0 (waits_of graph))
+are_edges graph below = All-from_recursion (IsEdge (length graph)) (edges_by 0 (waits_of graph))
     (all_edges (length graph) 0 graph below (omega arith))
 
--- ---- a circle goes along edges
+-- ---- a cycle goes along edges
 
 pub on_graph : (count : ℕ) (edges : List (ℕ × ℕ)) (nodes : List ℕ) → AreEdges count edges →
     IsCycle edges nodes → All (λ node. node < count) nodes
@@ -167,15 +168,15 @@ cycle_some edges [] cycle = absurd cycle.closed
 cycle_some edges (node ∷ nodes) cycle = omega arith
 
 pub edges_at : (count : ℕ) (edges : List (ℕ × ℕ)) (graph : List Waiting) → count ≡ length graph →
-    edges ≡ edges_from 0 graph → IsGraph graph → AreEdges count edges
+    edges ≡ edges_by 0 (waits_of graph) → IsGraph graph → AreEdges count edges
 edges_at count edges graph count_is edges_are below =
     let P : ℕ → Type 0 = λ n. AreEdges n edges in
     let Q : List (ℕ × ℕ) → Type 0 = λ es. AreEdges (length graph) es in
     subst P (sym count_is) (subst Q (sym edges_are) (are_edges graph below))
 
-pub on_circle : (edges : List (ℕ × ℕ)) (graph : List Waiting) (nodes : List ℕ) →
-    edges ≡ edges_from 0 graph → IsGraph graph → IsCycle edges nodes → AreOn graph nodes
-on_circle edges graph nodes edges_are below cycle = (
+pub on_cycle : (edges : List (ℕ × ℕ)) (graph : List Waiting) (nodes : List ℕ) →
+    edges ≡ edges_by 0 (waits_of graph) → IsGraph graph → IsCycle edges nodes → AreOn graph nodes
+on_cycle edges graph nodes edges_are below cycle = (
   cycle_some edges nodes cycle,
   on_graph (length graph) edges nodes
       (edges_at (length graph) edges graph refl edges_are below) cycle,
@@ -184,10 +185,10 @@ on_circle edges graph nodes edges_are below cycle = (
 pub graph_by : (graph made : List Waiting) → graph ≡ made → IsGraph made → IsGraph graph
 graph_by graph made same below = subst IsGraph (sym same) below
 
-pub circle_on : (asked told made : List Waiting) (nodes taken : List ℕ) (found : Option (List ℕ)) →
+pub cycle_on : (asked told made : List Waiting) (nodes taken : List ℕ) (found : Option (List ℕ)) →
     asked ≡ made → told ≡ made → found ≡ Some nodes → taken ≡ nodes →
     IfSome found (λ on. AreOn asked on) → AreOn told taken
-circle_on asked told made nodes taken found asked_is told_is is taken_is within =
+cycle_on asked told made nodes taken found asked_is told_is is taken_is within =
     let P : Option (List ℕ) → Type 0 = λ o. IfSome o (λ on. AreOn asked on) in
     let Q : List ℕ → Type 0 = λ on. AreOn asked on in
     let R : List Waiting → Type 0 = λ graph. AreOn graph taken in

@@ -1,52 +1,33 @@
--- What a call gives, by what is meant.
-use Rattle.std.specs.Prelude.{◌≡◌, List, [], ◌∷◌, ◌++◌, Option, Some, None, Result, Ok, Err}
-use Rattle.pl_reading.specs.Answers as answers
+-- What a call judges, by what is meant.
+use Rattle.std.specs.Prelude.{◌≡◌, List, [], ◌∷◌, Option, Some, None, Result, Ok, Err}
 use Rattle.pl_base.specs.declared.place.Place.{Place}
+use Rattle.pl_schema_parts.specs.declared.fault.PlacedFault.{PlacedFault}
+use Rattle.pl_schema_parts.specs.declared.fault.PlacedFault.TheVariants.{Refused, Memory}
 use Rattle.pl_depends.specs.declared.fault.PlanCode.{PlanCode}
-use Rattle.pl_depends.specs.declared.fault.PlanFault.{PlanFault}
-use Rattle.pl_depends.specs.declared.fault.PlanFault.TheVariants.{Refused, Memory}
 use Rattle.pl_reading.specs.Steps.{◌>>=◌}
 
 -- what is wrong, and where
 abbrev pub Fault : Type 0
 Fault = PlanCode × Place
 
--- what a refusal tells; want of memory tells nothing
-abbrev pub told : PlanFault → Option Fault
-told Memory = None
-told (Refused code place) = Some (code, place)
-
--- a refusal is the fault that is meant, and want of memory is free
-abbrev pub Refuses : {X : Type 0} → PlanFault → Result X Fault → Type 0
-Refuses fault meant = answers.Tells (told fault) meant
-
--- a value is what is meant
-abbrev pub Gives : {X : Type 0} → Result X PlanFault → Result X Fault → Type 0
-Gives answer meant = answers.Gives told (λ value. value) answer meant
-
--- a refusal with this code at this place
-abbrev pub IsRefusal : PlanFault → PlanCode → Place → Type 0
-IsRefusal Memory code place = Unit {0}
-IsRefusal (Refused found at) code place = (found ≡ code) × (at ≡ place)
-
 -- a refusal is that fault
-abbrev pub Faults : PlanFault → Option Fault → Type 0
+abbrev pub Faults : PlacedFault PlanCode → Option Fault → Type 0
 Faults Memory fault = Unit {0}
 Faults (Refused code place) fault = fault ≡ Some (code, place)
 
 -- a refusal of whose fault a fact holds
-abbrev pub FaultIs : PlanFault → (Fault → Type 0) → Type 0
+abbrev pub FaultIs : PlacedFault PlanCode → (Fault → Type 0) → Type 0
 FaultIs Memory is_meant = Unit {0}
 FaultIs (Refused code place) is_meant = is_meant (code, place)
 
 -- a refusal is the fault that there is, and Ok says that there is none; want of memory is free
-abbrev pub Judges : {U : Type 0} → Result U PlanFault → (Option Fault → Type 0) → Type 0
+abbrev pub Judges : {U : Type 0} → Result U (PlacedFault PlanCode) → (Option Fault → Type 0) → Type 0
 Judges (Ok done) there_is = there_is None
 Judges (Err Memory) there_is = Unit {0}
 Judges (Err (Refused code place)) there_is = there_is (Some (code, place))
 
 -- an answer of which a fact holds; want of memory is free
-abbrev pub Means : {X : Type 0} → Result X PlanFault → (Result X Fault → Type 0) → Type 0
+abbrev pub Means : {X : Type 0} → Result X (PlacedFault PlanCode) → (Result X Fault → Type 0) → Type 0
 Means (Ok value) is_meant = is_meant (Ok value)
 Means (Err Memory) is_meant = Unit {0}
 Means (Err (Refused code place)) is_meant = is_meant (Err (code, place))
@@ -58,9 +39,3 @@ abbrev pub each_passes : {X : Type 0} → (X → Result (Unit {0}) Fault) → Li
     Result (Unit {0}) Fault
 each_passes judge [] = Ok tt
 each_passes judge (item ∷ items) = judge item >>= λ done. each_passes judge items
-
--- each is made beside those before it
-abbrev pub in_turn : {X Y : Type 0} → (List Y → X → Result Y Fault) → List Y → List X →
-    Result (List Y) Fault
-in_turn make made [] = Ok made
-in_turn make made (item ∷ items) = make made item >>= λ one. in_turn make (made ++ one ∷ []) items

@@ -1,6 +1,6 @@
 -- What stages, and jobs of a stage, wait for (Microsoft Learn, "YAML schema reference": dependsOn
 -- of stages.stage, jobs.job and jobs.deployment; "Stages" and "Jobs", Specify dependencies).
-use Rattle.std.specs.Prelude.{ℕ, ◌+◌, ◌-◌, ◌==◌, ◌<◌, List, [], ◌∷◌, ◌++◌, map, length}
+use Rattle.std.specs.Prelude.{ℕ, ◌+◌, ◌-◌, ◌==◌, ◌<◌, List, [], ◌∷◌, map, length}
 use Rattle.std.specs.Prelude.{flat_map, Option, Some, None, unwrap_or, if◌then◌else◌}
 use Rattle.std.specs.List.{AllByRecursion}
 use Rattle.pl_schema_parts.specs.declared.pipeline.DependSpec.{DependSpec}
@@ -54,13 +54,9 @@ waiting_job find job = record {
 abbrev pub job_graph : List JobSpec → List Waiting
 job_graph jobs = map (waiting_job (places_under (job_entries 0 jobs))) jobs
 
--- its edges: who waits, and for whom
-abbrev pub edges_of_one : ℕ → List ℕ → List (ℕ × ℕ)
-edges_of_one at depends = map (λ other. (at, other)) depends
-
-abbrev pub edges_from : ℕ → List Waiting → List (ℕ × ℕ)
-edges_from at [] = []
-edges_from at (waiting ∷ graph) = edges_of_one at waiting.depends ++ edges_from (at + 1) graph
+-- for whom each waits
+abbrev pub waits_of : List Waiting → List (List ℕ)
+waits_of graph = map (λ waiting. waiting.depends) graph
 
 -- each waits for some of the graph
 abbrev pub AreBelow : ℕ → List ℕ → Type 0

@@ -1,19 +1,20 @@
 ghost use Rattle.std.specs.Prelude.{◌≡◌, ◌++◌, length, slice_get, IfOk, IfSome, OnOk};
 ghost use Rattle.pl_depends.specs.Cycles as spec;
-ghost use Rattle.pl_depends.specs.Cycles.{AreOn, FirstCycle, HasNoCircle, HaveNoCircle, IsAcyclic};
+ghost use Rattle.pl_depends.specs.Cycles.{AreOn, FirstCycle, HasNoCycle, HaveNoCycle, IsAcyclic};
 ghost use Rattle.pl_depends.specs.Cycles.{IsBefore, IsCycleOf, JobCycle, JobCycles};
 ghost use Rattle.pl_depends.specs.Gives.{FaultIs, Faults, Judges};
 ghost use Rattle.pl_depends.specs.Graph.{IsGraph, job_graph};
 
-use crate::fault::{PlanCode, PlanFault, refusal};
+use crate::fault::{PlanCode, PlanFault};
 use crate::graph::{Waiting, edges_of, job_graph, stage_graph};
 use crate::places::place_of;
 use pl_base::{ExactCopy, List, Memory, Text};
 use pl_graph::{GraphFault, order};
 use pl_schema::{JobSpec, StageSpec};
+use pl_schema_parts::refusal;
 use std::alloc::Global;
 
-/// The circle of a graph, if it has one.
+/// The cycle of a graph, if it has one.
 fn cycle_in(alloc: Global, graph: &[Waiting]) -> Result<Option<List<u32>>, Memory>
     requires { IsGraph graph.now }
     ensures is { IfOk result (λ found. IsCycleOf graph.now found) }
@@ -58,7 +59,7 @@ fn names_on(alloc: Global, graph: &[Waiting], nodes: &[u32]) -> Result<List<Text
     Ok(names)
 }
 
-/// The refusal of a circle, at its first one.
+/// The refusal of a cycle, at its first one.
 fn cycle_fault(alloc: Global, graph: &[Waiting], nodes: &[u32]) -> PlanFault
     requires { AreOn graph.now nodes.now }
     ensures { Faults result (spec.cycle_fault graph.now nodes.now) }
@@ -72,7 +73,7 @@ fn cycle_fault(alloc: Global, graph: &[Waiting], nodes: &[u32]) -> PlanFault
     }
 }
 
-/// Refuses the circle of a stage's jobs.
+/// Refuses the cycle of a stage's jobs.
 fn judge_jobs(alloc: Global, jobs: &[JobSpec]) -> Result<(), PlanFault>
     ensures first { Judges result (JobCycle jobs.now) }
     ensures acyclic { OnOk result (IsAcyclic (job_graph jobs.now)) }
@@ -84,10 +85,10 @@ fn judge_jobs(alloc: Global, jobs: &[JobSpec]) -> Result<(), PlanFault>
     }
 }
 
-/// Refuses the first circle among the jobs of stages.
+/// Refuses the first cycle among the jobs of stages.
 fn judge_stages(alloc: Global, stages: &[StageSpec]) -> Result<(), PlanFault>
     ensures first { Judges result (JobCycles stages.now) }
-    ensures acyclic { OnOk result (HaveNoCircle stages.now) }
+    ensures acyclic { OnOk result (HaveNoCycle stages.now) }
 {
     for stage in stages {
         judge_jobs(alloc, stage.jobs.as_slice())?;
@@ -95,7 +96,7 @@ fn judge_stages(alloc: Global, stages: &[StageSpec]) -> Result<(), PlanFault>
     Ok(())
 }
 
-/// The refusal of a circle of stages, or of one among the jobs of those before it.
+/// The refusal of a cycle of stages, or of one among the jobs of those before it.
 fn fault_before(alloc: Global, stages: &[StageSpec], graph: &[Waiting], nodes: &[u32]) -> PlanFault
     requires on { AreOn graph.now nodes.now }
     requires len { length graph.now ≡ length stages.now }
@@ -108,10 +109,10 @@ fn fault_before(alloc: Global, stages: &[StageSpec], graph: &[Waiting], nodes: &
     }
 }
 
-/// Refuses the first circle of stages, or of the jobs of one stage.
+/// Refuses the first cycle of stages, or of the jobs of one stage.
 pub fn judge_cycles(alloc: Global, stages: &[StageSpec]) -> Result<(), PlanFault>
     ensures first { Judges result (FirstCycle stages.now) }
-    ensures acyclic { OnOk result (HasNoCircle stages.now) }
+    ensures acyclic { OnOk result (HasNoCycle stages.now) }
 {
     let graph = stage_graph(alloc, stages)?;
     match cycle_in(alloc, graph.as_slice())? {

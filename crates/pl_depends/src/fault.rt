@@ -1,9 +1,8 @@
 ghost use Rattle.std.specs.Prelude.{◌≡◌};
 ghost use Rattle.pl_depends.specs.Codes.{code_of};
-ghost use Rattle.pl_depends.specs.Gives.{IsRefusal};
 
-use pl_base::{ExactCopy, List, Memory, Place, Text};
-use std::alloc::Global;
+use pl_base::{List, Text};
+use pl_schema_parts::PlacedFault;
 
 /// What is wrong with a pipeline each of whose objects reads.
 #[derive(Debug, Drop, PartialEq, Eq)]
@@ -40,30 +39,4 @@ impl PlanCode {
 }
 
 /// Why a pipeline has no plan: what is wrong and where, or want of memory.
-#[derive(Debug, Drop, PartialEq, Eq)]
-pub enum PlanFault {
-    Refused(PlanCode, Place),
-    /// Memory was wanting.
-    Memory,
-}
-
-impl From<Memory> for PlanFault {
-    ghost use Rattle.std.specs.Prelude.{◌≡◌};
-    ghost use Rattle.pl_depends.specs.declared.fault.PlanFault.TheVariants.{Memory};
-
-    ghost from_gives = { λ _ fault. fault ≡ Memory };
-
-    fn from(_refused: Memory) -> PlanFault {
-        PlanFault::Memory
-    }
-}
-
-/// A refusal at a place, or want of memory.
-pub fn refusal(alloc: Global, code: PlanCode, place: &Place) -> PlanFault
-    ensures { IsRefusal result code place.now }
-{
-    match place.copy(alloc) {
-        Ok(place) => PlanFault::Refused(code, place),
-        Err(Memory) => PlanFault::Memory,
-    }
-}
+pub type PlanFault = PlacedFault<PlanCode>;

@@ -1,9 +1,11 @@
-ghost use Rattle.std.specs.Prelude.{◌≡◌, ◌++◌, map, IfOk, OnOk};
+ghost use Rattle.std.specs.Prelude.{◌≡◌, map, IfOk};
+ghost use Rattle.pl_graph.specs.Waits.{edges_by};
 ghost use Rattle.pl_depends.specs.Graph as spec;
 ghost use Rattle.pl_depends.specs.Places.{under};
 
 use crate::places::{Places, job_places, one_place, place_of, push_under, stage_places};
 use pl_base::{ExactCopy, List, Memory, Place, Text};
+use pl_graph::push_edges;
 use pl_schema::{DependSpec, JobSpec, StageSpec};
 use std::alloc::Global;
 
@@ -138,18 +140,9 @@ pub fn job_graph(alloc: Global, jobs: &[JobSpec]) -> Result<List<Waiting>, Memor
     waiting_jobs(alloc, &places, jobs)
 }
 
-fn push_edges(edges: &mut List<(u32, u32)>, at: u32, depends: &[u32]) -> Result<(), Memory>
-    ensures { OnOk result (edges.new ≡ edges.old ++ spec.edges_of_one at depends.now) }
-{
-    for other in depends {
-        edges.push((at, *other))?;
-    }
-    Ok(())
-}
-
 /// Who waits, and for whom.
 pub fn edges_of(alloc: Global, graph: &[Waiting]) -> Result<List<(u32, u32)>, Memory>
-    ensures { IfOk result (λ edges. edges ≡ spec.edges_from 0 graph.now) }
+    ensures { IfOk result (λ edges. edges ≡ edges_by 0 (spec.waits_of graph.now)) }
 {
     let mut edges = List::new(alloc);
     for (at, waiting) in graph.iter().enumerate() {

@@ -1,11 +1,13 @@
-ghost use Rattle.pl_depends.specs.Gives.{Gives, each_passes};
+ghost use Rattle.pl_schema_parts.specs.Gives.{Gives};
+ghost use Rattle.pl_depends.specs.Gives.{each_passes};
 ghost use Rattle.pl_depends.specs.Known as spec;
 ghost use Rattle.pl_depends.specs.Places.{under};
 
-use crate::fault::{PlanCode, PlanFault, refusal};
+use crate::fault::{PlanCode, PlanFault};
 use crate::places::{Places, is_known, job_places, stage_places};
 use pl_base::List;
 use pl_schema::{DependSpec, JobSpec, StageSpec};
+use pl_schema_parts::refusal;
 use std::alloc::Global;
 
 fn each_known(alloc: Global, places: &Places, depends: &[DependSpec]) -> Result<(), PlanFault>

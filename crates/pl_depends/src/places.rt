@@ -1,9 +1,8 @@
 ghost use Rattle.std.specs.Prelude.{◌≡◌, ◌∷◌, ◌++◌, [], IfOk, OnOk, unwrap_or};
-ghost use Rattle.pl_base.specs.Folding.{folded};
 ghost use Rattle.pl_depends.specs.Places as spec;
 ghost use Rattle.pl_depends.specs.Places.{also, knows, nowhere, places_under, under};
 
-use pl_base::{List, Memory, Text, Value};
+use pl_base::{List, Memory, Text, Value, in_upper_case};
 use pl_schema::{JobSpec, LegSpec, StageSpec};
 use std::alloc::Global;
 use std::collections::BTreeMap;
@@ -27,7 +26,7 @@ pub fn no_places(alloc: Global) -> Places
 pub fn put(alloc: Global, places: &mut Places, name: &Text, here: List<u32>) -> Result<(), Memory>
     ensures { OnOk result (under places.new ≡ also (under places.old) name.now here) }
 {
-    let name = in_upper_case(alloc, name)?;
+    let name = Text::from_string(in_upper_case(alloc, name)?);
     if places.by_name.contains_key(&name) {
         return Ok(());
     }
@@ -39,7 +38,7 @@ pub fn put(alloc: Global, places: &mut Places, name: &Text, here: List<u32>) -> 
 pub fn is_known(alloc: Global, places: &Places, name: &Text) -> Result<bool, Memory>
     ensures { IfOk result (λ is. is ≡ knows places.now name.now) }
 {
-    let name = in_upper_case(alloc, name)?;
+    let name = Text::from_string(in_upper_case(alloc, name)?);
     let is = places.by_name.contains_key(&name);
     Ok(is)
 }
@@ -54,7 +53,7 @@ pub fn push_under(
     ensures { OnOk result
         (found.new ≡ found.old ++ unwrap_or (under places.now name.now) []) }
 {
-    let name = in_upper_case(alloc, name)?;
+    let name = Text::from_string(in_upper_case(alloc, name)?);
     match places.by_name.get(&name) {
         Some(here) => push_all(found, here.as_slice()),
         None => Ok(()),
@@ -68,14 +67,6 @@ fn push_all(found: &mut List<u32>, places: &[u32]) -> Result<(), Memory>
         found.push(*place)?;
     }
     Ok(())
-}
-
-fn in_upper_case(alloc: Global, name: &Text) -> Result<Text, Memory>
-    ensures { IfOk result (λ upper. upper ≡ folded name.now) }
-{
-    let mut upper = String::from_str(alloc, name.as_str())?;
-    upper.make_ascii_uppercase();
-    Ok(Text::from_string(upper))
 }
 
 /// A place as a plan has it. A list that is longer than its numbers can tell wants memory.

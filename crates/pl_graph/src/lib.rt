@@ -7,11 +7,13 @@ mod fault;
 mod placing;
 mod topological;
 mod transitive;
+mod waits;
 mod walking;
 
 pub use fault::GraphFault;
 pub use topological::order;
 pub use transitive::ancestors;
+pub use waits::push_edges;
 
 #[cfg(test)]
 mod tests;

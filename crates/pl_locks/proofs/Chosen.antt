@@ -6,7 +6,8 @@ use Rattle.std.proofs.lemmas.List.{get_or_default}
 use Rattle.pl_locks.specs.declared.contender.Contender.{Contender}
 use Rattle.pl_locks.specs.Locks.{GivesWay, IsAt, IsLeastSuperseded, IsLeastLaterRun, IsNext}
 use Rattle.pl_locks.specs.Locks.{IsSuperseded, MayStart}
-use Rattle.pl_locks.specs.Kept.{IsFirstAt, IsOrdered}
+use Rattle.pl_base.specs.Firsts.{IsFirstAt}
+use Rattle.pl_locks.specs.Kept.{IsOrdered}
 use Rattle.pl_locks.proofs.Ordered.{least_of}
 
 -- no stage so far, and not this one

@@ -1,6 +1,6 @@
 -- How the two lists are kept.
-use Rattle.std.specs.Prelude.{◌≡◌, ◌==◌, ◌&&◌, ℕ, ◌<◌, ◌≤◌, Bool, not, List, All, AllPairs}
-use Rattle.std.specs.Prelude.{Contains, filter, insert, length, slice_index_or}
+use Rattle.std.specs.Prelude.{◌≡◌, ◌==◌, ◌&&◌, ℕ, ◌≤◌, Bool, not, List, All, AllPairs}
+use Rattle.std.specs.Prelude.{Contains, filter, insert, length}
 use Rattle.pl_locks.specs.declared.contender.Contender.{Contender}
 use Rattle.pl_locks.specs.Locks.{IsAt, Precedes, Shares}
 
@@ -39,9 +39,3 @@ pub record IsPutIn (stage : Contender) (old new : List Contender) : Type 0 where
   pub within : place ≤ length old
   pub is : new ≡ insert old place stage
   pub ordered : IsOrdered new
-
--- the first place at which the fact holds of a list's item
-pub record IsFirstAt {X : Type 0} (P : X → Type 0) (items : List X) (place : ℕ) : Type 0 where
-  pub within : place < length items
-  pub here : (d : X) → P (slice_index_or items place d)
-  pub before : (k : ℕ) (d : X) → k < place → ¬ P (slice_index_or items k d)

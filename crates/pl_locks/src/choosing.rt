@@ -3,7 +3,8 @@ ghost use Rattle.pl_locks.specs.declared.contender.Contender.{Contender};
 ghost use Rattle.pl_locks.specs.Locks.{ComesFirst, GivesWay, IsAt, IsBehind, IsHeld};
 ghost use Rattle.pl_locks.specs.Locks.{IsLeastSuperseded, IsLeastLaterRun, IsNext, IsSuperseded};
 ghost use Rattle.pl_locks.specs.Locks.{MayStart};
-ghost use Rattle.pl_locks.specs.Kept.{IsAbsent, IsFirstAt, IsOrdered};
+ghost use Rattle.pl_base.specs.Firsts.{IsFirstAt};
+ghost use Rattle.pl_locks.specs.Kept.{IsAbsent, IsOrdered};
 
 use crate::contender::Contender;
 

@@ -3,7 +3,8 @@ ghost use Rattle.std.specs.Prelude.{OnErr, OnOk, length, slice_index_or, vec_len
 ghost use Rattle.std.specs.Vec.{vec_capacity};
 ghost use Rattle.pl_locks.specs.declared.contender.Contender.{Contender};
 ghost use Rattle.pl_locks.specs.Locks.{IsAt, Precedes};
-ghost use Rattle.pl_locks.specs.Kept.{IsAbsent, IsFirstAt, IsOrdered, IsPutIn, without};
+ghost use Rattle.pl_base.specs.Firsts.{IsFirstAt};
+ghost use Rattle.pl_locks.specs.Kept.{IsAbsent, IsOrdered, IsPutIn, without};
 
 use crate::contender::Contender;
 use pl_base::{ExactCopy, Memory};

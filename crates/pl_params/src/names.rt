@@ -1,12 +1,11 @@
-ghost use Rattle.std.specs.Prelude.{◌≡◌, IfOk, find, string_bytes};
+ghost use Rattle.std.specs.Prelude.{◌≡◌, IfOk, find};
 ghost use Rattle.std.specs.Option.{option_copied};
-ghost use Rattle.pl_base.specs.Folding.{folded};
 ghost use Rattle.pl_literal.specs.Booleans.{spells};
 ghost use Rattle.pl_params.specs.Names.{is_declared, Indexes};
 
 use crate::given::Given;
 use crate::param::Param;
-use pl_base::{List, Memory, Text};
+use pl_base::{List, Memory, Text, in_upper_case};
 use pl_literal::spells;
 use std::alloc::Global;
 use std::collections::HashMap;
@@ -22,15 +21,6 @@ pub fn is_declared(declared: &List<Param>, name: &str) -> bool
         .as_slice()
         .iter()
         .any(|param| spells(name, param.name.as_str()))
-}
-
-/// A name in upper case, that of ASCII's letters.
-pub fn in_upper_case(alloc: Global, name: &Text) -> Result<String, Memory>
-    ensures { IfOk result (λ upper. string_bytes upper ≡ folded name.now) }
-{
-    let mut upper = String::from_str(alloc, name.as_str())?;
-    upper.make_ascii_uppercase();
-    Ok(upper)
 }
 
 /// Where the names of what is given first stand.

@@ -1,4 +1,4 @@
--- Where jobs stand in an order, no legs wait for one another in a circle.
+-- Where jobs stand in an order, no legs wait for one another in a cycle.
 use Rattle.std.proofs.Common.{◌≡◌, ℕ, ◌<◌, List, [], ◌∷◌, refl, subst, arith}
 use Rattle.std.specs.List.{All, Contains}
 use Rattle.std.proofs.lemmas.List.Elements.{All-contains}
@@ -7,7 +7,7 @@ use Rattle.pl_graph.proofs.Orders.{none_in_turn}
 use Rattle.pl_graph.specs.Graph.{AreEdges, DependsOn, IsCycle, IsTopological}
 use Rattle.pl_plan.proofs.LegEdges.{IsJobEdge}
 
--- a job of which a leg is on the circle
+-- a job of which a leg is on the cycle
 abbrev IsOn : (ℕ → ℕ) → List ℕ → ℕ → Type 0
 IsOn job_of nodes job = (leg : ℕ) × Contains nodes leg × (job_of leg ≡ job)
 
@@ -19,11 +19,11 @@ keeps_on edges legs job_of nodes are cycle job (leg, on, is) =
     let depends = All-contains (IsJobEdge edges job_of) legs (leg, next) are waits in
     (job_of next, subst (λ (x : ℕ). DependsOn edges x (job_of next)) is depends, (next, also, refl))
 
-pub no_circle : (n : ℕ) (edges legs : List (ℕ × ℕ)) (job_of : ℕ → ℕ) (order nodes : List ℕ)
+pub no_cycle : (n : ℕ) (edges legs : List (ℕ × ℕ)) (job_of : ℕ → ℕ) (order nodes : List ℕ)
     → AreEdges n edges → IsTopological n edges order → All (IsJobEdge edges job_of) legs
     → IsCycle legs nodes → ⊥
-no_circle n edges legs job_of order [] are topological all cycle = cycle.closed
-no_circle n edges legs job_of order (leg ∷ rest) are topological all cycle =
+no_cycle n edges legs job_of order [] are topological all cycle = cycle.closed
+no_cycle n edges legs job_of order (leg ∷ rest) are topological all cycle =
     let keeps = keeps_on edges legs job_of (leg ∷ rest) all cycle in
     let on : IsOn job_of (leg ∷ rest) (job_of leg) = (leg, Contains-head leg rest, refl) in
     let (b, depends, also) = keeps (job_of leg) on in

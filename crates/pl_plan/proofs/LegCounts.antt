@@ -15,7 +15,8 @@ use Rattle.pl_schema_parts.specs.declared.pipeline.LegSpec.{LegSpec}
 use Rattle.pl_schema_parts.specs.declared.pipeline.LegSpec.TheVariants.{One, Parallel, Matrix}
 use Rattle.pl_schema_parts.specs.declared.pipeline.StageSpec.{StageSpec}
 use Rattle.pl_schema_parts.specs.Names.{is_taken}
-use Rattle.pl_depends.specs.Gives.{Fault, each_passes, in_turn}
+use Rattle.pl_schema_parts.specs.Rows.{in_turn}
+use Rattle.pl_depends.specs.Gives.{Fault, each_passes}
 use Rattle.pl_reading.specs.Steps.{◌>>=◌}
 use Rattle.pl_depends.specs.Places.{leg_count, pair_count}
 use Rattle.pl_plan.specs.declared.legs.Leg.{Leg}

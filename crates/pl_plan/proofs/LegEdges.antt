@@ -11,13 +11,13 @@ use Rattle.std.proofs.lemmas.List.{length-replicate}
 use Rattle.std.proofs.lemmas.List.Elements.{Contains-append_left, Contains-append_right}
 use Rattle.std.proofs.lemmas.List.Elements.{Contains-append_cases, Contains-push_cases}
 use Rattle.pl_literal.specs.Booleans.{spells}
+use Rattle.pl_graph.specs.Waits.{edges_by, edges_of_one}
 use Rattle.pl_schema_parts.specs.declared.pipeline.DependSpec.{DependSpec}
 use Rattle.pl_schema_parts.specs.declared.pipeline.JobSpec.{JobSpec}
-use Rattle.pl_depends.specs.Graph.{places_named, job_waits, waiting_job, edges_of_one, edges_from}
+use Rattle.pl_depends.specs.Graph.{places_named, job_waits, waiting_job, waits_of}
 use Rattle.pl_depends.specs.Places.{Finding, places_under, places_from, leg_count, job_entries}
 use Rattle.pl_depends.specs.Places.{leg_entries}
 use Rattle.pl_depends.proofs.Within.{both}
-use Rattle.pl_plan.specs.Laws.{edges_by}
 
 -- ---- what a list contains
 
@@ -178,7 +178,7 @@ IsJobEdge edges job_of edge = Contains edges (job_of edge.0, job_of edge.1)
 pub leg_edges : (edges : List (ℕ × ℕ)) (job_of : ℕ → ℕ) (legs find : Finding)
     → Follows legs find job_of → (jobs : List JobSpec) (at first : ℕ)
     → ((place : ℕ) → first ≤ place → job_of place ≡ owner at first jobs place)
-    → ((edge : ℕ × ℕ) → Contains (edges_from at (map (waiting_job find) jobs)) edge
+    → ((edge : ℕ × ℕ) → Contains (edges_by at (waits_of (map (waiting_job find) jobs))) edge
     → Contains edges edge)
     → AllByRecursion (IsJobEdge edges job_of) (edges_by first (leg_waits legs jobs))
 leg_edges edges job_of legs find follows [] at first owns among = tt
@@ -186,7 +186,7 @@ leg_edges edges job_of legs find follows (job ∷ jobs) at first owns among =
     let count = leg_count job.legs in
     let depends = job_waits legs job.depends in
     let waited = job_waits find job.depends in
-    let later = edges_from (at + 1) (map (waiting_job find) jobs) in
+    let later = edges_by (at + 1) (waits_of (map (waiting_job find) jobs)) in
     let P : ℕ × ℕ → Type 0 = IsJobEdge edges job_of in
     let All : List (ℕ × ℕ) → Type 0 = λ es. AllByRecursion P es in
     let Later : ℕ → Type 0 = λ n. AllByRecursion P (edges_by n (leg_waits legs jobs)) in

@@ -19,7 +19,8 @@ use Rattle.pl_schema_parts.specs.declared.pipeline.PoolSpec.{PoolSpec}
 use Rattle.pl_schema_parts.specs.declared.pipeline.StageSpec.{StageSpec}
 use Rattle.pl_schema_parts.specs.declared.pipeline.Variable.{Variable}
 use Rattle.pl_schema_parts.specs.Names.{is_taken}
-use Rattle.pl_depends.specs.Gives.{Fault, each_passes, in_turn}
+use Rattle.pl_schema_parts.specs.Rows.{in_turn}
+use Rattle.pl_depends.specs.Gives.{Fault, each_passes}
 use Rattle.pl_reading.specs.Steps.{◌>>=◌}
 use Rattle.pl_depends.specs.Graph.{job_waits}
 use Rattle.pl_depends.specs.Places.{leg_entries, places_under, stage_entries, Finding}

@@ -4,6 +4,7 @@ use Rattle.std.proofs.Common.{refl, sym, ap, subst, ◌∙◌, inl, inr}
 use Rattle.std.specs.Option.{option_or}
 use Rattle.pl_graph.proofs.Walks.{canonical_is_cycle}
 use Rattle.pl_graph_laws.proofs.OneCycle.{one_cycle}
+use Rattle.pl_graph.specs.Waits.{edges_by}
 use Rattle.pl_schema_parts.specs.declared.pipeline.JobSpec.{JobSpec}
 use Rattle.pl_schema_parts.specs.declared.pipeline.Pipeline.{Pipeline}
 use Rattle.pl_schema_parts.specs.declared.pipeline.StageSpec.{StageSpec}
@@ -11,24 +12,24 @@ use Rattle.pl_depends.specs.declared.graph.Waiting.{Waiting}
 use Rattle.pl_depends.specs.Cycles.{fault_of, stages_before, FirstCycle, Goes, IsCycleOf, JobCycle}
 use Rattle.pl_depends.specs.Cycles.{JobCycles}
 use Rattle.pl_depends.specs.Gives.{Fault}
-use Rattle.pl_depends.specs.Graph.{edges_from, job_graph, stage_graph}
+use Rattle.pl_depends.specs.Graph.{waits_of, job_graph, stage_graph}
 use Rattle.pl_plan.specs.Plans.{judged, IsPlanOf}
 use Rattle.pl_plan.specs.declared.plan.Plan.{Plan}
 
-one_circle : (graph : List Waiting) (f g : Option (List ℕ)) → IsCycleOf graph f →
+one_cycle_of : (graph : List Waiting) (f g : Option (List ℕ)) → IsCycleOf graph f →
     IsCycleOf graph g → f ≡ g
-one_circle graph None None a b = refl
-one_circle graph None (Some c) a b =
-    absurd (a.none c (canonical_is_cycle (length graph) (edges_from 0 graph) c b))
-one_circle graph (Some c) None a b =
-    absurd (b.none c (canonical_is_cycle (length graph) (edges_from 0 graph) c a))
-one_circle graph (Some c) (Some d) a b =
+one_cycle_of graph None None a b = refl
+one_cycle_of graph None (Some c) a b =
+    absurd (a.none c (canonical_is_cycle (length graph) (edges_by 0 (waits_of graph)) c b))
+one_cycle_of graph (Some c) None a b =
+    absurd (b.none c (canonical_is_cycle (length graph) (edges_by 0 (waits_of graph)) c a))
+one_cycle_of graph (Some c) (Some d) a b =
     ap (λ (nodes : List ℕ). let found : Option (List ℕ) = Some nodes in found)
-    (one_cycle (length graph) (edges_from 0 graph) c d a b)
+    (one_cycle (length graph) (edges_by 0 (waits_of graph)) c d a b)
 
 one_of_jobs : (jobs : List JobSpec) (f g : Option Fault) → JobCycle jobs f → JobCycle jobs g → f ≡ g
 one_of_jobs jobs f g a b =
-    a.told ∙ (ap (fault_of (job_graph jobs)) (one_circle (job_graph jobs) a.found b.found a.is b.is)
+    a.told ∙ (ap (fault_of (job_graph jobs)) (one_cycle_of (job_graph jobs) a.found b.found a.is b.is)
     ∙ sym b.told)
 
 one_going : (own : Option Fault) (later : Option Fault → Type 0) (f g : Option Fault) →
@@ -48,7 +49,7 @@ one_first : (stages : List StageSpec) (f g : Option Fault) → FirstCycle stages
     FirstCycle stages g → f ≡ g
 one_first stages f g a b =
     let graph = stage_graph stages in
-    let found : a.found ≡ b.found = one_circle graph a.found b.found a.is b.is in
+    let found : a.found ≡ b.found = one_cycle_of graph a.found b.found a.is b.is in
     let P : Option (List ℕ) → Type 0 = λ nodes. JobCycles (stages_before nodes stages) b.of_jobs in
     let jobs : a.of_jobs ≡ b.of_jobs =
     one_of_stages (stages_before a.found stages) a.of_jobs b.of_jobs a.before

@@ -12,7 +12,8 @@ use Rattle.pl_base.specs.declared.value.MarkedPair.{MarkedPair}
 use Rattle.pl_literal.specs.Booleans.{spells}
 use Rattle.pl_schema_parts.specs.declared.pipeline.Variable.{Variable}
 use Rattle.pl_schema_parts.specs.Names.{is_taken}
-use Rattle.pl_depends.specs.Gives.{Fault, in_turn}
+use Rattle.pl_schema_parts.specs.Rows.{in_turn}
+use Rattle.pl_depends.specs.Gives.{Fault}
 use Rattle.pl_reading.specs.Steps.{◌>>=◌}
 use Rattle.pl_depends.specs.Places.{Finding, also, nowhere}
 use Rattle.pl_plan.specs.declared.legs.Leg.{Leg}

@@ -1,4 +1,4 @@
--- A plan's stages and jobs wait for some of their own lists, and not in a circle.
+-- A plan's stages and jobs wait for some of their own lists, and not in a cycle.
 use Rattle.std.proofs.Common.{◌≡◌, ℕ, zero, suc, ◌+◌, ◌<◌, ◌≤◌, Ok, Option, List, [], ◌∷◌, ◌++◌}
 use Rattle.std.proofs.Common.{length}
 use Rattle.std.proofs.Common.{map, refl, sym, ap, subst, ◌∙◌, arith, length-append}
@@ -6,12 +6,13 @@ use Rattle.std.specs.Prelude.{flat_map, replicate}
 use Rattle.std.specs.List.{AllByRecursion}
 use Rattle.std.proofs.lemmas.List.{length-replicate, map-append}
 use Rattle.std.proofs.lemmas.List.Elements.{All-from_recursion, recursion_from_All}
+use Rattle.pl_graph.specs.Waits.{edges_by, edges_of_one}
 use Rattle.pl_schema_parts.specs.declared.pipeline.JobSpec.{JobSpec}
 use Rattle.pl_schema_parts.specs.declared.pipeline.Pipeline.{Pipeline}
 use Rattle.pl_schema_parts.specs.declared.pipeline.PoolSpec.{PoolSpec}
 use Rattle.pl_schema_parts.specs.declared.pipeline.StageSpec.{StageSpec}
-use Rattle.pl_depends.specs.Cycles.{IsAcyclic, HasNoCircle}
-use Rattle.pl_depends.specs.Graph.{AreBelow, edges_of_one, edges_from, stage_graph, waiting_stages}
+use Rattle.pl_depends.specs.Cycles.{IsAcyclic, HasNoCycle}
+use Rattle.pl_depends.specs.Graph.{AreBelow, waits_of, stage_graph, waiting_stages}
 use Rattle.pl_depends.specs.Graph.{job_graph, job_waits, stage_waits}
 use Rattle.pl_depends.specs.Places.{Finding, places_under, places_from, leg_count, leg_entries}
 use Rattle.pl_depends.specs.Places.{stage_entries, job_entries}
@@ -23,11 +24,11 @@ use Rattle.pl_plan.specs.declared.plan.Plan.{Plan}
 use Rattle.pl_plan.specs.declared.plan.PlanJob.{PlanJob}
 use Rattle.pl_plan.specs.declared.plan.PlanStage.{PlanStage}
 use Rattle.pl_plan.specs.declared.plan.PlanStep.{PlanStep}
-use Rattle.pl_plan.specs.Laws.{edges_by, waits_of_jobs, waits_of_stages, Ascend, IsOrderly, IsSound}
+use Rattle.pl_plan.specs.Laws.{waits_of_jobs, waits_of_stages, Ascend, IsOrderly, IsSound}
 use Rattle.pl_plan.specs.Legs.{legs_of}
 use Rattle.pl_plan.specs.Plans.{plan_leg, plan_job, plan_jobs, plan_stages, stages_of, plan_from}
 use Rattle.pl_plan.specs.Plans.{judged, plan_step}
-use Rattle.pl_plan.proofs.Acyclic.{no_circle}
+use Rattle.pl_plan.proofs.Acyclic.{no_cycle}
 use Rattle.pl_plan.proofs.Ascending.{all_uses_ascend}
 use Rattle.pl_plan.proofs.LegCounts.{IsCounted, AreCounted, all_counted}
 use Rattle.pl_plan.proofs.LegEdges.{IsJobEdge, leg_edges, leg_waits, owner, under_both}
@@ -107,7 +108,7 @@ legs_orderly jobs acyclic =
     let legs = places_under (leg_entries 0 jobs) in
     let find = places_under (job_entries 0 jobs) in
     let waits = leg_waits legs jobs in
-    let edges = edges_from 0 (job_graph jobs) in
+    let edges = edges_by 0 (waits_of (job_graph jobs)) in
     let end : length waits ≡ legs_end 0 jobs =
     (let sum : 0 + length waits ≡ legs_end 0 jobs = length_waits legs 0 jobs in omega arith) in
     record {
@@ -115,7 +116,7 @@ legs_orderly jobs acyclic =
           (edges_below (length waits) 0 waits (waits_below (length waits) legs
           (found_below (length waits) (leg_entries 0 jobs)
           (entries_below (length waits) 0 jobs (omega arith))) jobs) (omega arith));
-      acyclic = λ nodes cycle. no_circle (length (job_graph jobs)) edges (edges_by 0 waits)
+      acyclic = λ nodes cycle. no_cycle (length (job_graph jobs)) edges (edges_by 0 waits)
           (owner 0 0 jobs) acyclic.order nodes
           (are_edges (job_graph jobs) (jobs_are_graph jobs)) acyclic.behind
           (All-from_recursion (IsJobEdge edges (owner 0 0 jobs)) (edges_by 0 waits)
@@ -174,7 +175,7 @@ UsesAscend stage = Ascend stage.uses
 
 stage_edges : (pipeline : Pipeline) (find : Finding) (n at : ℕ) (stages : List StageSpec) →
     edges_by n (waits_of_stages (plan_stages pipeline find at stages)) ≡
-    edges_from n (waiting_stages find at stages)
+    edges_by n (waits_of (waiting_stages find at stages))
 stage_edges pipeline find n at [] = refl
 stage_edges pipeline find n at (stage ∷ stages) =
     ap (λ rest. edges_of_one n (stage_waits find at stage.depends) ++ rest)
@@ -199,7 +200,7 @@ stages_orderly pipeline acyclic =
       acyclic = λ nodes cycle. acyclic.none nodes (rw edges at cycle);
     }
 
-pub plan_is_sound : (pipeline : Pipeline) → HasNoCircle pipeline.stages →
+pub plan_is_sound : (pipeline : Pipeline) → HasNoCycle pipeline.stages →
     judged pipeline.stages ≡ Ok tt → IsSound (plan_from pipeline)
 unfolding plan_from
 plan_is_sound pipeline none passed =
@@ -217,7 +218,7 @@ plan_is_sound pipeline none passed =
 
 pub made_is_sound : (pipeline : Pipeline) (judges walks : List StageSpec) (plan : Plan) →
     judges ≡ pipeline.stages → walks ≡ pipeline.stages → judged judges ≡ Ok tt →
-    HasNoCircle walks → plan ≡ plan_from pipeline → IsSound plan
+    HasNoCycle walks → plan ≡ plan_from pipeline → IsSound plan
 made_is_sound pipeline judges walks plan judges_is walks_is passed none is =
-    subst IsSound (sym is) (plan_is_sound pipeline (subst HasNoCircle walks_is none)
+    subst IsSound (sym is) (plan_is_sound pipeline (subst HasNoCycle walks_is none)
     (ap judged (sym judges_is) ∙ passed))

@@ -11,9 +11,10 @@ use Rattle.pl_base.specs.declared.place.Place.{Place}
 use Rattle.pl_schema_parts.specs.declared.pipeline.JobSpec.{JobSpec}
 use Rattle.pl_schema_parts.specs.declared.pipeline.StageSpec.{StageSpec}
 use Rattle.pl_depends.specs.declared.fault.PlanCode.{PlanCode}
-use Rattle.pl_depends.specs.declared.fault.PlanFault.{PlanFault}
-use Rattle.pl_depends.specs.declared.fault.PlanFault.TheVariants.{Refused, Memory}
-use Rattle.pl_depends.specs.Gives.{Fault, Refuses}
+use Rattle.pl_schema_parts.specs.declared.fault.PlacedFault.{PlacedFault}
+use Rattle.pl_schema_parts.specs.declared.fault.PlacedFault.TheVariants.{Refused, Memory}
+use Rattle.pl_schema_parts.specs.Gives.{Refuses}
+use Rattle.pl_depends.specs.Gives.{Fault}
 use Rattle.pl_reading.specs.Steps.{◌>>=◌}
 use Rattle.pl_plan.specs.Limits.{at_most, left_by, left_over, seats_in}
 
@@ -60,7 +61,7 @@ goes_on code seats whole left rest xs i x so_far within is spent =
     ∙ ap (λ r. r >>= λ rest. left_over code rest (flat_map seats (drop (i + 1) xs))) spent
 
 pub stops : {X : Type 0} (code : PlanCode) (seats : X → List Place) (whole : Result ℕ Fault)
-    (left : ℕ) (xs : List X) (i : ℕ) (x : X) (fault : PlanFault)
+    (left : ℕ) (xs : List X) (i : ℕ) (x : X) (fault : PlacedFault PlanCode)
     → whole ≡ left_over code left (flat_map seats (drop i xs)) → i < length xs → x ≡ get_or xs i x
     → Refuses fault (left_over code left (seats x)) → Refuses fault whole
 stops code seats whole left xs i x Memory so_far within is refused = tt
@@ -120,13 +121,13 @@ goes_in code seats most left rest stages i stage jobs so_far within is same spen
     (left_over code most (seats_in seats stages)) left rest stages i stage so_far within is
     (ap (λ js. left_over code left (flat_map seats js)) (sym same) ∙ spent)
 
-refused_on : (fault : PlanFault) (whole : Result ℕ Fault) → Refuses fault whole →
+refused_on : (fault : PlacedFault PlanCode) (whole : Result ℕ Fault) → Refuses fault whole →
     Refuses {X = Unit {0}} fault (whole >>= λ left. Ok tt)
 refused_on Memory whole refused = tt
 refused_on (Refused code place) whole refused = ap (λ r. r >>= λ left. Ok tt) refused
 
 pub stops_in : (code : PlanCode) (seats : JobSpec → List Place) (most left : ℕ)
-    (stages : List StageSpec) (i : ℕ) (stage : StageSpec) (jobs : List JobSpec) (fault : PlanFault)
+    (stages : List StageSpec) (i : ℕ) (stage : StageSpec) (jobs : List JobSpec) (fault : PlacedFault PlanCode)
     → left_over code most (seats_in seats stages) ≡
     left_over code left (seats_in seats (drop i stages))
     → i < length stages → stage ≡ get_or stages i stage → jobs ≡ stage.jobs

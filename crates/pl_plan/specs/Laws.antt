@@ -7,20 +7,15 @@ use Rattle.pl_base.specs.declared.value.Value.{out-Value}
 use Rattle.pl_base.specs.declared.value.Value.TheOpen as layer
 use Rattle.pl_graph.specs.Graph.{AreEdges, IsCycle}
 use Rattle.pl_literal.specs.Items.{Opened}
+use Rattle.pl_graph.specs.Waits.{edges_by}
 use Rattle.pl_schema_parts.specs.declared.pipeline.LegSpec.{LegSpec}
 use Rattle.pl_schema_parts.specs.declared.pipeline.LegSpec.TheVariants.{One, Parallel, Matrix}
 use Rattle.pl_schema_parts.specs.declared.pipeline.Pipeline.{Pipeline}
 use Rattle.pl_schema_parts.specs.declared.pipeline.StageSpec.{StageSpec}
-use Rattle.pl_depends.specs.Graph.{edges_of_one}
 use Rattle.pl_uses.specs.Uses.{key_cmp}
 use Rattle.pl_plan.specs.declared.plan.Plan.{Plan}
 use Rattle.pl_plan.specs.declared.plan.PlanJob.{PlanJob}
 use Rattle.pl_plan.specs.declared.plan.PlanStage.{PlanStage}
-
--- who waits, and for whom, of a list of those who wait for places of that list
-abbrev pub edges_by : ℕ → List (List ℕ) → List (ℕ × ℕ)
-edges_by at [] = []
-edges_by at (depends ∷ waits) = edges_of_one at depends ++ edges_by (at + 1) waits
 
 -- each waits for some of the list, and none waits for itself through the others
 pub record IsOrderly (waits : List (List ℕ)) : Type 0 where

@@ -22,7 +22,8 @@ use Rattle.pl_schema_parts.specs.Names.{is_taken}
 use Rattle.pl_schema_parts.specs.Variables.{variable_in}
 use Rattle.pl_depends.specs.declared.fault.PlanCode.TheVariants.{BadLeg}
 use Rattle.pl_plan.specs.declared.legs.Leg.{Leg}
-use Rattle.pl_depends.specs.Gives.{Fault, each_passes, in_turn}
+use Rattle.pl_schema_parts.specs.Rows.{in_turn}
+use Rattle.pl_depends.specs.Gives.{Fault, each_passes}
 use Rattle.pl_reading.specs.Steps.{◌>>=◌}
 
 -- a job that isn't cut

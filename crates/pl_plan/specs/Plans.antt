@@ -100,13 +100,13 @@ plan_from pipeline = record {
   stages = stages_of pipeline;
 }
 
--- what is judged before the circles: legs, limits, names that are waited for
+-- what is judged before the cycles: legs, limits, names that are waited for
 unfoldable pub judged : List StageSpec → Result (Unit {0}) Fault
 judged stages = all_legs_judged stages
     >>= λ done. limits_kept stages
     >>= λ done. names_known stages
 
--- the plan, where no fault is found and no circle; else the first fault, or else the first circle
+-- the plan, where no fault is found and no cycle; else the first fault, or else the first cycle
 abbrev pub IsPlanOf : Pipeline → Result Plan Fault → Type 0
 IsPlanOf pipeline (Ok plan) = (judged pipeline.stages ≡ Ok tt)
     × FirstCycle pipeline.stages None × (plan ≡ plan_from pipeline)

@@ -4,13 +4,16 @@ ghost use Rattle.pl_base.specs.declared.value.Value.{out-Value};
 ghost use Rattle.pl_expr.specs.Grammar.{is_name_byte};
 ghost use Rattle.pl_schema_parts.specs.Names.{is_taken};
 ghost use Rattle.pl_depends.specs.declared.fault.PlanCode.TheVariants.{BadLeg};
-ghost use Rattle.pl_depends.specs.Gives.{Faults, Gives, each_passes, in_turn};
+ghost use Rattle.pl_schema_parts.specs.Gives.{Gives};
+ghost use Rattle.pl_schema_parts.specs.Rows.{in_turn};
+ghost use Rattle.pl_depends.specs.Gives.{Faults, each_passes};
 ghost use Rattle.pl_plan.specs.Legs as spec;
 ghost use Rattle.pl_depends.specs.Places.{knows};
 
 use pl_base::{ExactCopy, List, MarkedNode, MarkedPair, Memory, Text, Value};
-use pl_depends::{Places, PlanCode, PlanFault, is_known, no_places, put, refusal};
+use pl_depends::{Places, PlanCode, PlanFault, is_known, no_places, put};
 use pl_schema::{JobSpec, LegSpec, SchemaFault, StageSpec, Variable, variable_in};
+use pl_schema_parts::refusal;
 use std::alloc::Global;
 
 /// How long a leg's name may be, in bytes.

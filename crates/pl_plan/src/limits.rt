@@ -1,12 +1,13 @@
 ghost use Rattle.std.specs.Prelude.{flat_map};
 ghost use Rattle.pl_depends.specs.declared.fault.PlanCode.TheVariants.{TooManyJobs, TooManyStages};
 ghost use Rattle.pl_depends.specs.declared.fault.PlanCode.TheVariants.{TooManySteps};
-ghost use Rattle.pl_depends.specs.Gives.{Gives};
+ghost use Rattle.pl_schema_parts.specs.Gives.{Gives};
 ghost use Rattle.pl_plan.specs.Limits as spec;
 ghost use Rattle.pl_plan.specs.Limits.{at_most, left_over, leg_seats, seats_in, step_seats};
 
-use pl_depends::{PlanCode, PlanFault, leg_count, refusal};
+use pl_depends::{PlanCode, PlanFault, leg_count};
 use pl_schema::{JobSpec, StageSpec};
+use pl_schema_parts::refusal;
 use std::alloc::Global;
 
 /// How many stages a pipeline may have.

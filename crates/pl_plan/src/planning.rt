@@ -1,5 +1,6 @@
 ghost use Rattle.std.specs.Prelude.{◌≡◌, IfOk};
-ghost use Rattle.pl_depends.specs.Gives.{Gives, Means};
+ghost use Rattle.pl_schema_parts.specs.Gives.{Gives};
+ghost use Rattle.pl_depends.specs.Gives.{Means};
 ghost use Rattle.pl_plan.specs.Laws.{IsAsWritten, IsSound};
 ghost use Rattle.pl_plan.specs.Planned.{IsPlanned};
 ghost use Rattle.pl_plan.specs.Plans as spec;
@@ -14,7 +15,7 @@ use pl_depends::{PlanFault, judge_cycles, names_known};
 use pl_schema::{Pipeline, StageSpec};
 use std::alloc::Global;
 
-/// Refuses what is judged before the circles.
+/// Refuses what is judged before the cycles.
 #[tactic(auto, unfolding(crate::specs::Plans::judged))]
 fn judge(alloc: Global, stages: &[StageSpec]) -> Result<(), PlanFault>
     ensures { Gives result (spec.judged stages.now) }
@@ -65,12 +66,12 @@ fn plan_from(alloc: Global, pipeline: &Pipeline) -> Result<Plan, Memory>
 /// - L6, at the 2,001st step, those of a job counted once for all its legs;
 /// - L1, at a name that is waited for and that no stage, or no job of the stage, has: stage by
 ///   stage, those of the stage, then those of its jobs;
-/// - L2, at the first stage of those that wait for one another in a circle, or at the first job
+/// - L2, at the first stage of those that wait for one another in a cycle, or at the first job
 ///   of those of one stage that do, where that stage comes before; with their names, each of which
 ///   waits for the next one and the last one for the first.
 ///
 /// What a stage of the plan waits for are places of the plan's list, and what a job waits for are
-/// places of its stage's list, and neither has a circle. What a stage uses ascends by kind and
+/// places of its stage's list, and neither has a cycle. What a stage uses ascends by kind and
 /// name, each once. Memory may come at any time.
 pub fn plan_of(alloc: Global, pipeline: &Pipeline) -> Result<Plan, PlanFault>
     ensures is { Means result (IsPlanOf pipeline.now) }

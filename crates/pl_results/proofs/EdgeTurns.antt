@@ -3,8 +3,7 @@ use Rattle.std.proofs.Common.{◌≡◌, ℕ, zero, suc, ◌+◌, ◌<◌, List,
 use Rattle.std.proofs.Common.{get_or}
 use Rattle.std.proofs.Common.{map, refl, sym, ap, ◌∙◌, arith, append_assoc}
 use Rattle.std.proofs.lemmas.List.{take_more, append-nil}
-use Rattle.pl_depends.specs.Graph.{edges_of_one}
-use Rattle.pl_plan.specs.Laws.{edges_by}
+use Rattle.pl_graph.specs.Waits.{edges_by, edges_of_one}
 
 edges_last : {X : Type 0} (waits : X → List ℕ) (first at : ℕ) (xs : List X) (x : X) →
     at ≡ first + length xs → edges_by first (map waits (xs ++ x ∷ [])) ≡

@@ -7,7 +7,8 @@ use Rattle.std.specs.List.{AllByRecursion}
 use Rattle.std.specs.Option.{option_map_or}
 use Rattle.std.proofs.lemmas.List.Elements.{recursion_from_All}
 use Rattle.pl_graph.specs.Graph.{AreAncestors, AreEdges}
-use Rattle.pl_plan.specs.Laws.{IsOrderly, edges_by, waits_of_jobs}
+use Rattle.pl_graph.specs.Waits.{edges_by}
+use Rattle.pl_plan.specs.Laws.{IsOrderly, waits_of_jobs}
 use Rattle.pl_plan.specs.declared.plan.Plan.{Plan}
 use Rattle.pl_plan.specs.declared.plan.PlanJob.{PlanJob}
 use Rattle.pl_plan.specs.declared.plan.PlanStage.{PlanStage}

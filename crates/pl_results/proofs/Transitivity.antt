@@ -9,7 +9,7 @@ use Rattle.std.proofs.lemmas.Bool.{cases_lt, cases_Bool, eqb-true, eq-eqb, false
 use Rattle.std.proofs.lemmas.List.Elements.{All-contains}
 use Rattle.std.proofs.lemmas.List.Folds.{Any-from_list_any, list_any_at}
 use Rattle.pl_graph.specs.Graph.{AreEdges, AreAncestors, DependsOn, DependsTransitively, Walk}
-use Rattle.pl_plan.specs.Laws.{edges_by}
+use Rattle.pl_graph.specs.Waits.{edges_by}
 use Rattle.pl_results.specs.Transitive.{leads, leads_through, transitive}
 
 -- ---- tests

@@ -12,7 +12,7 @@ use Rattle.pl_results.specs.declared.members.PlanNode.TheVariants.{Stage, Job}
 abbrev pub jobs_of : Plan → ℕ → List PlanJob
 jobs_of plan stage = option_map_or (λ one. one.jobs) (slice_get plan.stages stage) []
 
--- What a plan waits for are places of its own lists, without a circle, and its places are numbers
+-- What a plan waits for are places of its own lists, without a cycle, and its places are numbers
 -- of 32 bits.
 pub record CanRun (plan : Plan) : Type 0 where
   pub sound : IsSound plan

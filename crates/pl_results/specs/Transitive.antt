@@ -2,7 +2,7 @@
 -- check functions: a condition looks at the whole graph of dependencies).
 use Rattle.std.specs.Prelude.{ℕ, zero, suc, ◌==◌, Bool, ◌&&◌, ◌||◌, List, length, filter}
 use Rattle.std.specs.List.{list_any, range_with_len}
-use Rattle.pl_plan.specs.Laws.{edges_by}
+use Rattle.pl_graph.specs.Waits.{edges_by}
 
 -- one edge leads from a to b
 abbrev pub leads : List (ℕ × ℕ) → ℕ → ℕ → Bool

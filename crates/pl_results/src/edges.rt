@@ -1,19 +1,11 @@
-ghost use Rattle.std.specs.Prelude.{◌≡◌, ◌++◌, ◌<◌, ◌^◌, IfOk, OnOk, length};
-ghost use Rattle.pl_depends.specs.Graph.{edges_of_one};
-ghost use Rattle.pl_plan.specs.Laws.{edges_by, waits_of_jobs, waits_of_stages};
+ghost use Rattle.std.specs.Prelude.{◌≡◌, ◌<◌, ◌^◌, IfOk, length};
+ghost use Rattle.pl_graph.specs.Waits.{edges_by};
+ghost use Rattle.pl_plan.specs.Laws.{waits_of_jobs, waits_of_stages};
 
 use pl_base::{List, Memory};
+use pl_graph::push_edges;
 use pl_plan::{PlanJob, PlanStage};
 use std::alloc::Global;
-
-fn push_edges(edges: &mut List<(u32, u32)>, at: u32, depends: &[u32]) -> Result<(), Memory>
-    ensures { OnOk result (edges.new ≡ edges.old ++ edges_of_one at depends.now) }
-{
-    for other in depends {
-        edges.push((at, *other))?;
-    }
-    Ok(())
-}
 
 /// Who waits, and for whom, of the stages of a plan.
 pub fn stage_edges(alloc: Global, stages: &[PlanStage]) -> Result<List<(u32, u32)>, Memory>

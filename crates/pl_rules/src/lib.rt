@@ -3,13 +3,12 @@
 #![tactic(auto)]
 
 mod day;
-mod repo_ref;
 mod role;
 mod rule;
 mod state;
 
 pub use day::Day;
-pub use repo_ref::RepoRef;
+pub use pl_base::RepoRef;
 pub use role::Role;
 pub use rule::Rule;
 pub use state::State;

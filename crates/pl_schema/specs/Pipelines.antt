@@ -11,7 +11,7 @@ use Rattle.pl_schema_parts.specs.declared.fault.SchemaCode.TheVariants.{TwoForms
 use Rattle.pl_schema_parts.specs.declared.legs.Legs.{Legs}
 use Rattle.pl_schema_parts.specs.declared.pipeline.JobSpec.{JobSpec}
 use Rattle.pl_schema_parts.specs.declared.pipeline.Pipeline.{Pipeline}
-use Rattle.pl_schema_parts.specs.declared.pipeline.RepoRef.{RepoRef}
+use Rattle.pl_base.specs.declared.repo_ref.RepoRef.{RepoRef}
 use Rattle.pl_schema_parts.specs.declared.pipeline.StageSpec.{StageSpec}
 use Rattle.pl_schema_parts.specs.declared.pipeline.StepSpec.{StepSpec}
 use Rattle.pl_schema.specs.declared.root.Form.{Form}

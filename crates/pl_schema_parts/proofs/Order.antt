@@ -3,15 +3,16 @@ use Rattle.std.proofs.Common.{◌≡◌, ℕ, ◌+◌, ◌<◌, ◌≤◌, Bool,
 use Rattle.std.proofs.Common.{drop, refl, sym, ap, ◌∙◌}
 use Rattle.std.specs.Prelude.{Result, Ok, Err}
 use Rattle.std.proofs.lemmas.List.{at_drop_more, at_drop_all}
-use Rattle.pl_schema_parts.specs.declared.fault.SchemaFault.{SchemaFault}
-use Rattle.pl_schema_parts.specs.declared.fault.SchemaFault.TheVariants.{Refused, Memory}
+use Rattle.pl_schema_parts.specs.declared.fault.PlacedFault.{PlacedFault}
+use Rattle.pl_schema_parts.specs.declared.fault.PlacedFault.TheVariants.{Refused, Memory}
+use Rattle.pl_schema_parts.specs.declared.fault.SchemaCode.{SchemaCode}
 use Rattle.pl_schema_parts.specs.Gives.{Fault, Refuses}
 use Rattle.pl_schema_parts.specs.Rows.{in_order, in_turn}
 use Rattle.pl_reading.specs.Steps.{◌>>=◌}
 use Rattle.pl_schema_parts.specs.Names.{is_taken}
 
 pub stop : {S X : Type 0} (read : S → X → Result S Fault) (start made : S) (xs : List X) (i : ℕ)
-    (x : X) (fault : SchemaFault)
+    (x : X) (fault : PlacedFault SchemaCode)
     → in_order read start xs ≡ in_order read made (drop i xs) → i < length xs → x ≡ get_or xs i x →
     Refuses fault (read made x) → Refuses fault (in_order read start xs)
 stop read start made xs i x Memory so_far within is refuses = tt

@@ -62,8 +62,8 @@ in_order read made [] = Ok made
 in_order read made (item ∷ items) = read made item >>= λ next. in_order read next items
 
 -- item after item, each beside those before it
-abbrev pub in_turn : {X Y : Type 0} → (List Y → X → Result Y Fault) → List Y → List X →
-    Result (List Y) Fault
+abbrev pub in_turn : {X Y F : Type 0} → (List Y → X → Result Y F) → List Y → List X →
+    Result (List Y) F
 in_turn make made [] = Ok made
 in_turn make made (item ∷ items) = make made item >>= λ one. in_turn make (made ++ one ∷ []) items
 

@@ -1,14 +1,6 @@
-use crate::pipeline::{DependSpec, PoolSpec, RepoRef, StepSpec, Variable};
+use crate::pipeline::{DependSpec, PoolSpec, StepSpec, Variable};
 use pl_base::{ExactCopy, Memory};
 use std::alloc::Global;
-
-impl ExactCopy for RepoRef {
-    fn copy(&self, alloc: Global) -> Result<RepoRef, Memory> {
-        let repo = self.repo.copy(alloc)?;
-        let git_ref = self.git_ref.copy(alloc)?;
-        Ok(RepoRef { repo, git_ref })
-    }
-}
 
 impl ExactCopy for DependSpec {
     fn copy(&self, alloc: Global) -> Result<DependSpec, Memory> {

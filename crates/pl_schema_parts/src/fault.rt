@@ -47,31 +47,34 @@ impl SchemaCode {
     }
 }
 
-/// Why a tree is no pipeline: what is wrong and where, or want of memory.
+/// Why something is refused: what is wrong and where, or want of memory.
 #[derive(Debug, Drop, PartialEq, Eq)]
-pub enum SchemaFault {
-    Refused(SchemaCode, Place),
+pub enum PlacedFault<C> {
+    Refused(C, Place),
     /// Memory was wanting.
     Memory,
 }
 
-impl From<Memory> for SchemaFault {
+/// Why a tree is no pipeline: what is wrong and where, or want of memory.
+pub type SchemaFault = PlacedFault<SchemaCode>;
+
+impl<C> From<Memory> for PlacedFault<C> {
     ghost use Rattle.std.specs.Prelude.{◌≡◌};
-    ghost use Rattle.pl_schema_parts.specs.declared.fault.SchemaFault.TheVariants.{Memory};
+    ghost use Rattle.pl_schema_parts.specs.declared.fault.PlacedFault.TheVariants.{Memory};
 
     ghost from_gives = { λ _ fault. fault ≡ Memory };
 
-    fn from(_refused: Memory) -> SchemaFault {
-        SchemaFault::Memory
+    fn from(_refused: Memory) -> PlacedFault<C> {
+        PlacedFault::Memory
     }
 }
 
 /// A refusal at a place, or want of memory.
-pub fn refusal(alloc: Global, code: SchemaCode, place: &Place) -> SchemaFault
+pub fn refusal<C: Drop>(alloc: Global, code: C, place: &Place) -> PlacedFault<C>
     ensures { IsRefusal result code place.now }
 {
     match place.copy(alloc) {
-        Ok(place) => SchemaFault::Refused(code, place),
-        Err(Memory) => SchemaFault::Memory,
+        Ok(place) => PlacedFault::Refused(code, place),
+        Err(Memory) => PlacedFault::Memory,
     }
 }

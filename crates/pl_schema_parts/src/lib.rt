@@ -15,12 +15,13 @@ mod scalars;
 mod steps;
 mod variables;
 
-pub use fault::{SchemaCode, SchemaFault};
+pub use pl_base::RepoRef;
+pub use fault::{PlacedFault, SchemaCode, SchemaFault, refusal};
 pub use legs::{Legs, legs_in, no_legs};
 pub use lists::depends_in;
 pub use names::{Names, name_in, no_names, take};
 pub use pipeline::{
-    DependSpec, JobSpec, LegSpec, Pipeline, PoolSpec, RepoRef, StageSpec, StepSpec, Variable,
+    DependSpec, JobSpec, LegSpec, Pipeline, PoolSpec, StageSpec, StepSpec, Variable,
 };
 pub use pools::{environment_in, pool_in};
 pub use rows::{at_key, at_node, has};

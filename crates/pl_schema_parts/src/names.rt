@@ -1,6 +1,5 @@
 ghost use Rattle.std.specs.Prelude.{◌≡◌, [], Some, OnOk, IfOk};
 ghost use Rattle.std.specs.List.{list_all};
-ghost use Rattle.pl_base.specs.Folding.{folded};
 ghost use Rattle.pl_expr.specs.Grammar.{is_word, is_name_byte};
 ghost use Rattle.pl_schema_parts.specs.Gives.{Gives};
 ghost use Rattle.pl_schema_parts.specs.Names.{is_name, is_taken, name_in, taken, also_taken};
@@ -8,7 +7,7 @@ ghost use Rattle.pl_schema_parts.specs.Names.{is_name, is_taken, name_in, taken,
 use crate::fault::{SchemaCode, SchemaFault};
 use crate::rows::at_node;
 use crate::scalars::text_in;
-use pl_base::{MarkedNode, Memory, Text};
+use pl_base::{MarkedNode, Memory, Text, in_upper_case};
 use std::alloc::Global;
 use std::collections::BTreeSet;
 
@@ -34,7 +33,7 @@ pub fn no_names(alloc: Global) -> Names
 pub fn take(alloc: Global, names: &mut Names, name: &Text) -> Result<(), Memory>
     ensures { OnOk result (taken names.new ≡ also_taken (taken names.old) (Some name.now)) }
 {
-    let name = in_upper_case(alloc, name)?;
+    let name = Text::from_string(in_upper_case(alloc, name)?);
     names.folded.insert(name)?;
     Ok(())
 }
@@ -43,17 +42,9 @@ pub fn take(alloc: Global, names: &mut Names, name: &Text) -> Result<(), Memory>
 fn is_taken(alloc: Global, names: &Names, name: &Text) -> Result<bool, Memory>
     ensures { IfOk result (λ is. is ≡ taken names.now name.now) }
 {
-    let name = in_upper_case(alloc, name)?;
+    let name = Text::from_string(in_upper_case(alloc, name)?);
     let is = names.folded.contains(&name);
     Ok(is)
-}
-
-fn in_upper_case(alloc: Global, name: &Text) -> Result<Text, Memory>
-    ensures { IfOk result (λ upper. upper ≡ folded name.now) }
-{
-    let mut upper = String::from_str(alloc, name.as_str())?;
-    upper.make_ascii_uppercase();
-    Ok(Text::from_string(upper))
 }
 
 /// Whether a text is a name: a letter or `_`, then letters, digits and `_`, at most 100 bytes.

@@ -1,4 +1,4 @@
-use pl_base::{Behaviour, FileKey, List, MarkedNode, Place, Repository, Text};
+use pl_base::{Behaviour, FileKey, List, MarkedNode, Place, RepoRef, Repository, Text};
 use pl_expr::Expr;
 
 /// A pipeline as it is written, before its stages and jobs are put in order.
@@ -15,13 +15,6 @@ pub struct Pipeline {
     pub variables: List<Variable>,
     pub groups: List<Text>,
     pub stages: List<StageSpec>,
-}
-
-/// A repository and the ref under which it is read.
-#[derive(Debug, Drop, PartialEq, Eq)]
-pub struct RepoRef {
-    pub repo: Text,
-    pub git_ref: Text,
 }
 
 /// A stage. Its place is that of its mapping.

@@ -71,8 +71,8 @@ job Ship depends [] pool Default
 step script shared refs/heads/main /pipeline.yml:27:13 via extends
 ";
 
-/// Three stages that wait for one another in a circle.
-const CIRCLE: &[u8] = b"%%% app refs/heads/main /ci.yml
+/// Three stages that wait for one another in a cycle.
+const CYCLE: &[u8] = b"%%% app refs/heads/main /ci.yml
 stages:
 - stage: A
   dependsOn: C
@@ -111,7 +111,7 @@ const INPUTS: [(&[&str], &[u8], Status, &[u8]); 6] = [
     (&["compile"], EXTENDING, Status::Finished, EXTENDED),
     (
         &["compile"],
-        CIRCLE,
+        CYCLE,
         Status::Refused,
         b"refused L2 app refs/heads/main /ci.yml:2:3 A C B\n",
     ),

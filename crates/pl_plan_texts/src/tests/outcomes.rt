@@ -12,7 +12,7 @@ fn push_names(said: &mut String, names: &List<Text>) -> Result<(), Memory> {
     Ok(())
 }
 
-/// A fault's code and place, then the names of a circle.
+/// A fault's code and place, then the names of a cycle.
 fn refusal(alloc: Global, fault: &PlanFault) -> Result<String, Memory> {
     let PlanFault::Refused(code, place) = fault else {
         return Ok(String::from_str(alloc, "memory")?);

@@ -49,9 +49,9 @@ const STAGES: &str = r#"{stage: A, dependsOn: ^B, jobs: [{job: J, steps: []}]} =
 {stage: A, dependsOn: A, jobs: [{job: J, strategy: {matrix: ^''}, steps: []}]} => L5
 {stage: A, jobs: [{job: J, steps: []}]}, {stage: B, jobs: [{job: J, strategy: {matrix: {^a: x}}, steps: []}, {job: K, strategy: {matrix: ''}, steps: []}]} => L5"#;
 
-/// Names that no one has, and circles, each at its first place.
+/// Names that no one has, and cycles, each at its first place.
 #[test]
-fn names_and_circles_are_refused(rt: HostRuntime) -> Result<(), Fail> {
+fn names_and_cycles_are_refused(rt: HostRuntime) -> Result<(), Fail> {
     let wrong = first_not_refused(rt.alloc(), "{stages: [", STAGES, "]}")?;
     assert_eq!(rt; wrong.as_str(), "");
     Ok(())

@@ -1,9 +1,9 @@
 use Rattle.std.proofs.Common.{List, ap, subst, sym, ◌∙◌}
 use Rattle.std.specs.List.{All}
-use Rattle.pl_rules.specs.declared.repo_ref.RepoRef.{RepoRef}
+use Rattle.pl_base.specs.declared.repo_ref.RepoRef.{RepoRef}
 use Rattle.pl_rules.specs.declared.rule.Rule.TheVariants as rules
 use Rattle.pl_checks.specs.Branches.{IsAllowed}
-use Rattle.pl_checks.specs.First.{IsFirst}
+use Rattle.pl_base.specs.Firsts.{IsFirst}
 use Rattle.pl_checks.proofs.FirstPlaces.{first_item}
 use Rattle.pl_checks.proofs.branch.branch_verdict.Goals as goal
 

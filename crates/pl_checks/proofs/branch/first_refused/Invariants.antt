@@ -1,5 +1,5 @@
 use Rattle.std.proofs.Common.{◌<◌, ℕ, get_or}
-use Rattle.pl_rules.specs.declared.repo_ref.RepoRef.{RepoRef}
+use Rattle.pl_base.specs.declared.repo_ref.RepoRef.{RepoRef}
 use Rattle.pl_checks.specs.Branches.{IsAllowed}
 use Rattle.pl_checks.proofs.branch.first_refused.Given as goal
 

@@ -1,4 +1,4 @@
-use Rattle.pl_depends.proofs.Circles.{goes_on, job_cycle_at, acyclic_at, none_more, none_in_all}
+use Rattle.pl_depends.proofs.FirstCycles.{goes_on, job_cycle_at, acyclic_at, none_more, none_in_all}
 use Rattle.pl_depends.proofs.cycles.judge_stages.Goals as goal
 
 pub loop-stage-preserved : goal.loop-stage-preserved

@@ -1,6 +1,6 @@
 use Rattle.std.proofs.Common.{◌≡◌, [], drop}
 use Rattle.pl_schema_parts.specs.Names.{is_taken}
-use Rattle.pl_depends.specs.Gives.{in_turn}
+use Rattle.pl_schema_parts.specs.Rows.{in_turn}
 use Rattle.pl_depends.specs.Places.{knows}
 use Rattle.pl_plan.specs.Legs.{leg_names, matrix_leg}
 use Rattle.pl_plan.proofs.legs.matrix_legs.Given as goal

@@ -1,5 +1,5 @@
 use Rattle.std.proofs.Common.{◌≡◌, [], drop}
-use Rattle.pl_depends.specs.Gives.{in_turn}
+use Rattle.pl_schema_parts.specs.Rows.{in_turn}
 use Rattle.pl_plan.specs.Legs.{leg_variable}
 use Rattle.pl_plan.proofs.legs.variables_of.Given as goal
 

@@ -1,5 +1,5 @@
 use Rattle.std.proofs.Common.{◌++◌, List, ℕ, ap, ◌∙◌}
-use Rattle.pl_depends.specs.Graph.{edges_of_one}
+use Rattle.pl_graph.specs.Waits.{edges_of_one}
 use Rattle.pl_plan.specs.declared.plan.PlanStage.{PlanStage}
 use Rattle.pl_results.proofs.EdgeTurns.{edges_more}
 use Rattle.pl_results.proofs.edges.stage_edges.Goals as goal

@@ -1,5 +1,6 @@
 use Rattle.std.proofs.Common.{◌≡◌, take}
-use Rattle.pl_plan.specs.Laws.{edges_by, waits_of_stages}
+use Rattle.pl_graph.specs.Waits.{edges_by}
+use Rattle.pl_plan.specs.Laws.{waits_of_stages}
 use Rattle.pl_results.proofs.edges.stage_edges.Given as goal
 
 abbrev pub invariant-loop-at : goal.invariant-loop-at

@@ -1,4 +1,4 @@
--- Stage after stage, until one has a circle.
+-- Stage after stage, until one has a cycle.
 use Rattle.std.proofs.Common.{◌≡◌, ℕ, ◌+◌, ◌<◌, ◌≤◌, Some, None, Ok, Err, Option, List, [], ◌∷◌}
 use Rattle.std.proofs.Common.{length, get_or, take}
 use Rattle.std.proofs.Common.{drop, refl, sym, ap, subst, ◌∙◌}
@@ -7,11 +7,12 @@ use Rattle.std.proofs.lemmas.List.{drop_more, drop_all, take_all}
 use Rattle.std.proofs.lemmas.List.Elements.{All-more}
 use Rattle.pl_schema_parts.specs.declared.pipeline.StageSpec.{StageSpec}
 use Rattle.pl_schema_parts.specs.declared.pipeline.JobSpec.{JobSpec}
-use Rattle.pl_depends.specs.declared.fault.PlanFault.{PlanFault}
-use Rattle.pl_depends.specs.declared.fault.PlanFault.TheVariants.{Refused, Memory}
+use Rattle.pl_schema_parts.specs.declared.fault.PlacedFault.{PlacedFault}
+use Rattle.pl_schema_parts.specs.declared.fault.PlacedFault.TheVariants.{Refused, Memory}
+use Rattle.pl_depends.specs.declared.fault.PlanCode.{PlanCode}
 use Rattle.pl_depends.specs.declared.graph.Waiting.{Waiting}
 use Rattle.pl_depends.specs.Cycles.{IsAcyclic, IsCycleOf, JobCycle, JobCycles, FirstCycle, IsBefore}
-use Rattle.pl_depends.specs.Cycles.{cycle_fault, stages_before, HaveNoCircle}
+use Rattle.pl_depends.specs.Cycles.{cycle_fault, stages_before, HaveNoCycle}
 use Rattle.pl_depends.specs.Gives.{Fault, Faults, FaultIs, Judges}
 use Rattle.pl_depends.specs.Graph.{stage_graph, job_graph}
 
@@ -55,20 +56,20 @@ acyclic_at jobs made same acyclic =
     let P : List JobSpec → Type 0 = λ js. IsAcyclic (job_graph js) in subst P same acyclic
 
 pub none_more : (stages : List StageSpec) (i : ℕ) (stage : StageSpec) →
-    HaveNoCircle (take i stages) → i < length stages → stage ≡ get_or stages i stage →
-    IsAcyclic (job_graph stage.jobs) → HaveNoCircle (take (i + 1) stages)
+    HaveNoCycle (take i stages) → i < length stages → stage ≡ get_or stages i stage →
+    IsAcyclic (job_graph stage.jobs) → HaveNoCycle (take (i + 1) stages)
 none_more stages i stage before within is acyclic =
     let P : StageSpec → Type 0 = λ s. IsAcyclic (job_graph s.jobs) in
     All-more P stages i stage within before (subst P is acyclic)
 
-pub none_in_all : (stages : List StageSpec) (i : ℕ) → HaveNoCircle (take i stages) →
-    length stages ≤ i → HaveNoCircle stages
-none_in_all stages i before past = subst HaveNoCircle (take_all i stages past) before
+pub none_in_all : (stages : List StageSpec) (i : ℕ) → HaveNoCycle (take i stages) →
+    length stages ≤ i → HaveNoCycle stages
+none_in_all stages i before past = subst HaveNoCycle (take_all i stages past) before
 
-abbrev FoundBy : (Option Fault → Type 0) → PlanFault → Type 0
+abbrev FoundBy : (Option Fault → Type 0) → PlacedFault PlanCode → Type 0
 FoundBy there_is fault = Judges {U = Unit {0}} (Err fault) there_is
 
-pub stops_by : (stages : List StageSpec) (i : ℕ) (stage : StageSpec) (fault : PlanFault) →
+pub stops_by : (stages : List StageSpec) (i : ℕ) (stage : StageSpec) (fault : PlacedFault PlanCode) →
     SoFar stages i → i < length stages → stage ≡ get_or stages i stage →
     FoundBy (JobCycle stage.jobs) fault → FoundBy (JobCycles stages) fault
 stops_by stages i stage Memory so_far within is own = tt
@@ -77,19 +78,19 @@ stops_by stages i stage (Refused code place) so_far within is own =
 
 -- ---- the jobs of one stage
 
-pub no_job_circle : (jobs : List JobSpec) (graph : List Waiting) → graph ≡ job_graph jobs →
+pub no_job_cycle : (jobs : List JobSpec) (graph : List Waiting) → graph ≡ job_graph jobs →
     IsAcyclic graph → JobCycle jobs None
-no_job_circle jobs graph same acyclic = record {
+no_job_cycle jobs graph same acyclic = record {
   found = None;
   is = subst IsAcyclic same acyclic;
   told = refl;
 }
 
-pub job_circle : (jobs : List JobSpec) (graph : List Waiting) (nodes : List ℕ) (fault : PlanFault) →
+pub job_cycle : (jobs : List JobSpec) (graph : List Waiting) (nodes : List ℕ) (fault : PlacedFault PlanCode) →
     graph ≡ job_graph jobs → IsCycleOf graph (Some nodes) →
     Faults fault (cycle_fault graph nodes) → FoundBy (JobCycle jobs) fault
-job_circle jobs graph nodes Memory same cycle told = tt
-job_circle jobs graph nodes (Refused code place) same cycle told =
+job_cycle jobs graph nodes Memory same cycle told = tt
+job_cycle jobs graph nodes (Refused code place) same cycle told =
     let P : List Waiting → Type 0 = λ g. IsCycleOf g (Some nodes) in
     record {
       found = Some nodes;
@@ -100,7 +101,7 @@ job_circle jobs graph nodes (Refused code place) same cycle told =
 -- ---- the stages
 
 pub before_by_jobs : (stages before : List StageSpec) (graph : List Waiting) (nodes : List ℕ)
-    (fault : PlanFault) → before ≡ stages_before (Some nodes) stages →
+    (fault : PlacedFault PlanCode) → before ≡ stages_before (Some nodes) stages →
     FoundBy (JobCycles before) fault → FaultIs fault (IsBefore stages graph nodes)
 before_by_jobs stages before graph nodes Memory same found = tt
 before_by_jobs stages before graph nodes (Refused code place) same found =
@@ -108,18 +109,18 @@ before_by_jobs stages before graph nodes (Refused code place) same found =
     record { of_jobs = Some (code, place); before = subst P same found; told = refl }
 
 pub before_by_stages : (stages before : List StageSpec) (graph : List Waiting) (nodes : List ℕ)
-    (fault : PlanFault) → before ≡ stages_before (Some nodes) stages → JobCycles before None →
+    (fault : PlacedFault PlanCode) → before ≡ stages_before (Some nodes) stages → JobCycles before None →
     Faults fault (cycle_fault graph nodes) → FaultIs fault (IsBefore stages graph nodes)
 before_by_stages stages before graph nodes Memory same none told = tt
 before_by_stages stages before graph nodes (Refused code place) same none told =
     let P : List StageSpec → Type 0 = λ left. JobCycles left None in
     record { of_jobs = None; before = subst P same none; told = sym told }
 
-pub stage_circle : (stages : List StageSpec) (graph : List Waiting) (nodes : List ℕ)
-    (fault : PlanFault) → graph ≡ stage_graph stages → IsCycleOf graph (Some nodes) →
+pub stage_cycle : (stages : List StageSpec) (graph : List Waiting) (nodes : List ℕ)
+    (fault : PlacedFault PlanCode) → graph ≡ stage_graph stages → IsCycleOf graph (Some nodes) →
     FaultIs fault (IsBefore stages graph nodes) → FoundBy (FirstCycle stages) fault
-stage_circle stages graph nodes Memory same cycle first = tt
-stage_circle stages graph nodes (Refused code place) same cycle first =
+stage_cycle stages graph nodes Memory same cycle first = tt
+stage_cycle stages graph nodes (Refused code place) same cycle first =
     let P : List Waiting → Type 0 = λ g. IsCycleOf g (Some nodes) in
     record {
       found = Some nodes;

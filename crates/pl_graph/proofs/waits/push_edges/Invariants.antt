@@ -1,6 +1,6 @@
 use Rattle.std.proofs.Common.{◌≡◌, ◌++◌, take}
-use Rattle.pl_depends.specs.Graph.{edges_of_one}
-use Rattle.pl_depends.proofs.graph.push_edges.Given as goal
+use Rattle.pl_graph.specs.Waits.{edges_of_one}
+use Rattle.pl_graph.proofs.waits.push_edges.Given as goal
 
 abbrev pub invariant-loop-other : goal.invariant-loop-other
 invariant-loop-other l =
