@@ -5,7 +5,7 @@ ghost use Rattle.pl_base.specs.Folding.{folded};
 ghost use Rattle.pl_frame.specs.Variables.{placed};
 
 use crate::frame::Variable;
-use pl_base::{List, Memory, Text};
+use pl_base::{List, Memory, in_upper_case};
 use std::alloc::Global;
 use std::collections::HashMap;
 
@@ -85,13 +85,4 @@ fn place_in(places: &HashMap<String, usize>, upper: &str) -> Option<usize>
     ensures { result ≡ get_by_text places.now upper.now }
 {
     places.get(upper).copied()
-}
-
-/// A name in upper case, that of ASCII's letters.
-fn in_upper_case(alloc: Global, name: &Text) -> Result<String, Memory>
-    ensures { IfOk result (λ upper. string_bytes upper ≡ folded name.now) }
-{
-    let mut upper = String::from_str(alloc, name.as_str())?;
-    upper.make_ascii_uppercase();
-    Ok(upper)
 }

@@ -7,8 +7,7 @@ use Rattle.std.proofs.lemmas.Bool.{cases_lt}
 use Rattle.std.proofs.lemmas.Bool.Decides.{nat_tests}
 use Rattle.std.proofs.lemmas.Str.{IsCharBoundary-end, IsCharBoundary-before_ascii}
 use Rattle.pl_texts.proofs.Bytes.{boundary_behind_ascii}
-use Rattle.pl_template.specs.Words.{is_in_word}
-use Rattle.pl_reading.specs.Bytes.{is_blank}
+use Rattle.pl_template.specs.Words.{is_blank, is_in_word}
 
 blank_is_ascii : (byte : ℕ) → is_blank byte ≡ true → byte < 128
 blank_is_ascii byte blank = grind (arith, nat_tests)

@@ -1,10 +1,13 @@
--- The words of an expression in a key. Blanks are the space and the tab.
+-- The words of an expression in a key.
 use Rattle.std.specs.Prelude.{ℕ, Bool, false, not, List, [], ◌∷◌, drop, take_while, nat_eq, ◌==◌}
 use Rattle.std.specs.Prelude.{◌&&◌, ◌||◌}
 use Rattle.std.specs.List.{prefix_len, list_all}
 use Rattle.std.specs.Char.{is_ascii_alphabetic, is_ascii_alphanumeric}
 use Rattle.std.specs.Cmp.Lexicographic.{pointwise}
-use Rattle.pl_reading.specs.Bytes.{is_blank}
+
+-- blanks are those of expressions: the space, the tab and the line feed
+abbrev pub is_blank : ℕ → Bool
+is_blank byte = byte == 32 || byte == 9 || byte == 10
 
 abbrev pub is_in_word : ℕ → Bool
 is_in_word byte = not (is_blank byte)

@@ -15,9 +15,8 @@ use std::alloc::Global;
 ///
 /// A key that is one expression whose first word is exactly `if`, `elseif`, `else`, `each` or
 /// `insert` is that
-/// directive. Blanks, which are spaces and tabs, may stand before the word, and it ends at a blank
-/// or at the
-/// expression's end. Bad where another piece stands beside a directive, where no expression stands
+/// directive. Blanks, which are spaces, tabs and line feeds, may stand before the word, and it ends
+/// at a blank or at the expression's end. Bad where another piece stands beside a directive, where no expression stands
 /// behind `if` or
 /// `elseif`, where `each` isn't followed by a name, `in` and an expression, where anything stands
 /// behind `else` or

@@ -1,14 +1,14 @@
 ghost use Rattle.std.specs.Prelude.{◌≡◌, ◌≤◌, length, take, drop};
 ghost use Rattle.std.specs.List.{prefix_len, list_all};
-ghost use Rattle.pl_template.specs.Words.{is_in_word, unblanked, first_word, behind_word};
-ghost use Rattle.pl_reading.specs.Bytes.{is_blank};
+ghost use Rattle.pl_template.specs.Words.{is_blank, is_in_word, unblanked, first_word};
+ghost use Rattle.pl_template.specs.Words.{behind_word};
 ghost use Rattle.pl_template.specs.Words.{is_name, begins_name, goes_on_name};
 
-/// Whether a byte is a space or a tab.
+/// Whether a byte is a space, a tab or a line feed.
 fn is_blank(byte: u8) -> bool
     ensures { result ≡ is_blank byte }
 {
-    byte == b' ' || byte == b'\t'
+    byte == b' ' || byte == b'\t' || byte == b'\n'
 }
 
 /// How many blanks a text begins with.

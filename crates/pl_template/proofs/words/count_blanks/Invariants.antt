@@ -1,6 +1,6 @@
 use Rattle.std.proofs.Common.{◌≡◌, ◌+◌, drop}
 use Rattle.std.specs.List.{prefix_len}
-use Rattle.pl_reading.specs.Bytes.{is_blank}
+use Rattle.pl_template.specs.Words.{is_blank}
 use Rattle.pl_template.proofs.words.count_blanks.Given as goal
 
 abbrev pub invariant-loop-count : goal.invariant-loop-count
