@@ -14,15 +14,12 @@ use std::alloc::Global;
 /// What a key is (Microsoft Learn, Azure Pipelines, "Template expressions").
 ///
 /// A key that is one expression whose first word is exactly `if`, `elseif`, `else`, `each` or
-/// `insert` is that
-/// directive. Blanks, which are spaces, tabs and line feeds, may stand before the word, and it ends
-/// at a blank or at the expression's end. Bad where another piece stands beside a directive, where no expression stands
-/// behind `if` or
-/// `elseif`, where `each` isn't followed by a name, `in` and an expression, where anything stands
-/// behind `else` or
-/// `insert`, and where an expression has no end. Every other key in which `${{` stands is Computed.
-/// Memory where
-/// memory is wanting.
+/// `insert` is that directive. Blanks, which are spaces, tabs and line feeds, may stand before the
+/// word, and it ends at a blank or at the expression's end. Bad where another piece stands beside a
+/// directive, where no expression stands behind `if` or `elseif`, where `each` isn't followed by a
+/// name, `in` and an expression, where anything stands behind `else` or `insert`, and where an
+/// expression has no end. Every other key in which `${{` stands is Computed. Memory where memory is
+/// wanting.
 pub fn key_form(alloc: Global, text: &Text) -> Result<KeyForm, Memory>
     ensures { IfOk result (λ form. form ≡ key_form_of text.now) }
 {
