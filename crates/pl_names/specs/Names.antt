@@ -16,6 +16,10 @@ is_plain most text = not (nat_eq (length text) 0) && (nat_le (length text) most 
 abbrev pub is_name : List ℕ → Bool
 is_name text = is_plain 100 text
 
+-- the label of a job: its name, and behind a dot its leg's where it has legs
+abbrev pub is_label : List ℕ → Bool
+is_label text = not (nat_eq (length text) 0) && not (list_any is_control (chars text))
+
 abbrev pub is_repository : List ℕ → Bool
 is_repository text = is_plain 64 text
 

@@ -5,4 +5,4 @@ mod keys;
 mod names;
 
 pub use keys::{is_key, is_path, is_ref, is_repository};
-pub use names::{is_name, is_plain};
+pub use names::{is_label, is_name, is_plain};

@@ -2,7 +2,7 @@ ghost use Rattle.std.specs.Prelude.{◌≡◌};
 ghost use Rattle.std.specs.Char.{is_control};
 ghost use Rattle.std.specs.List.{list_any};
 ghost use Rattle.std.specs.Str.{chars};
-ghost use Rattle.pl_names.specs.Names.{is_name, is_plain};
+ghost use Rattle.pl_names.specs.Names.{is_label, is_name, is_plain};
 
 /// Whether a text has from one byte to so many, and no control character (U+0000 to U+001F and
 /// U+007F to U+009F). It takes no memory.
@@ -17,6 +17,14 @@ pub fn is_name(text: &str) -> bool
     ensures { result ≡ is_name text.now }
 {
     is_plain(100, text)
+}
+
+/// Whether a text is the label of a job: at least one byte, without control characters. It takes no
+/// memory.
+pub fn is_label(text: &str) -> bool
+    ensures { result ≡ is_label text.now }
+{
+    !text.is_empty() && !has_control(text)
 }
 
 /// Whether a text has a control character.
