@@ -1,6 +1,7 @@
 -- Members that are put in one after the other, as entries of a map, and in order.
 use Rattle.std.proofs.Common.{◌≡◌, ℕ, Bool, true, false, not, ◌&&◌, List, [], ◌∷◌, ◌++◌, map, refl, sym, ap, subst, ◌∙◌, append_assoc}
 use Rattle.std.specs.Prelude.{T as Holds}
+use Rattle.std.proofs.lemmas.List.{append-nil}
 use Rattle.std.specs.declared.cmp.Ordering.{Ordering}
 use Rattle.std.specs.declared.cmp.Ordering.TheVariants.{Less, Equal, Greater}
 use Rattle.std.specs.Ordering.{is_lt, match_ordering, nat_cmp, ordering_reverse}
@@ -44,6 +45,13 @@ before_all : (a b c : List ℕ) → is_before a b ≡ true → is_before b c ≡
 before_all a b c p q =
     ap is_lt (nat_list_cmp_total.trans a b c (less (slice_cmp nat_cmp a b) p)
     (less (slice_cmp nat_cmp b c) q))
+
+rest_in_order :
+    (name : List ℕ) (names : List (List ℕ)) →
+    ascends name names ≡ true →
+    is_in_order names ≡ true
+rest_in_order name [] h = refl
+rest_in_order name (next ∷ names) h = and_second (is_before name next) _ h
 
 module _ {X : Type 0} where
   -- a member is put where an entry is
@@ -133,13 +141,6 @@ module _ {X : Type 0} where
       before_all name one.name last.name (and_first (is_before name one.name) _ h)
       (last_behind one.name more last (and_second (is_before name one.name) _ h))
 
-  rest_in_order :
-      (name : List ℕ) (names : List (List ℕ)) →
-      ascends name names ≡ true →
-      is_in_order names ≡ true
-  rest_in_order name [] h = refl
-  rest_in_order name (next ∷ names) h = and_second (is_before name next) _ h
-
   front_ascends :
       (name : List ℕ) (front more : List (Member X)) →
       ascends name (names_of (front ++ more)) ≡ true →
@@ -175,7 +176,7 @@ module _ {X : Type 0} where
   put_where_they_are front (one ∷ more) h =
       let there : (front ++ one ∷ []) ++ more ≡ front ++ one ∷ more = append_assoc front (one ∷ []) more in
       let whole : is_in_order (names_of ((front ++ one ∷ []) ++ more)) ≡ true =
-          ap (λ members. is_in_order (names_of members)) there ∙ h in
+      ap (λ members. is_in_order (names_of members)) there ∙ h in
       ap (λ members. put_all members more)
       (put_last front one (front_in_order (front ++ one ∷ []) more whole)) ∙
       put_where_they_are (front ++ one ∷ []) more whole ∙ there

@@ -1,4 +1,4 @@
-ghost use Rattle.std.specs.Prelude.{◌≡◌, [], length, map, IfOk};
+ghost use Rattle.std.specs.Prelude.{◌≡◌, [], ◌∷◌, map, IfOk};
 ghost use Rattle.pl_json.specs.Members.{ascends, in_order, is_in_order, member, names_of};
 ghost use Rattle.pl_json.specs.Entries.{entries_of};
 
@@ -67,6 +67,15 @@ impl<T> Members<T> {
 }
 
 impl<T: Drop> Members<T> {
+    /// One member alone.
+    pub fn one(alloc: Global, one: Member<T>) -> Result<Members<T>, Memory>
+        ensures { IfOk result (λ members. members ≡ one ∷ []) }
+    {
+        let mut members = List::new(alloc);
+        members.push(one)?;
+        Ok(Members { members })
+    }
+
     /// These members in byte order of their names; of one name the last counts. Members that stand
     /// in that order already are taken over, without memory.
     pub fn in_order(alloc: Global, members: List<Member<T>>) -> Result<Members<T>, Memory>

@@ -1,9 +1,9 @@
 -- How `Members` hold their values, so that a type may lead back to itself through them.
-use mathlib.Core.Path.{◌≡◌, refl, sym, ap, subst, ◌∙◌}
+use mathlib.Core.Path.{◌≡◌, refl, sym, ap, ◌∙◌}
 use mathlib.Core.List.{List as list, [], ◌∷◌, map}
 use mathlib.Core.Former.{Former, this, const, pair, list as list_of, via, children}
 use base.Stored.{code_map, gcons, coded_list, coded_ℕ}
-use mathlib.Core.Bool.{Bool, true, Bool-set}
+use mathlib.Core.Bool.{true, Bool-set}
 use denote.RattleType.{RattleType}
 use denote.HoleLaws.{Alike}
 use denote.HolePlaces.{Recodes, struct_places, laid}
@@ -92,9 +92,11 @@ module _ (R S : RattleType) (h : R.Denot → S.Denot) where
       (λ u e. in_order_kept u.members e) (λ u e. in_order_back u.members e)
       (over (inner.the_row R)) (over (inner.the_row S))
       (struct_places (inner.the_type R) (inner.the_type S) (map (revalued h), tt) _ (λ members. refl)
-      refl
-      (laid _ _ _ (lists.the_places (one.the_row R) (one.the_row S) (revalued h)
-      (one_member alike)), tt))
+      refl (
+        laid _ _ _ (lists.the_places (one.the_row R) (one.the_row S) (revalued h)
+            (one_member alike)),
+        tt,
+      ))
 
   pub the_codes_placed :
       Recodes R S h →
