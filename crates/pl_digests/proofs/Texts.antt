@@ -9,7 +9,7 @@ use Rattle.hex.specs.Hex.{IsBytes, decode_pairs, decode_sized, digit_or_error, h
 use Rattle.hex.specs.Hex.{encode_lower, encode_with, lower_digits, pair_value, value_at, ◌>>=◌}
 use Rattle.hex.specs.declared.error.FromHexError.{FromHexError}
 use Rattle.hex.proofs.HexLemmas.{decode_of-even, decode_of-ok, decode_sized-encode_lower}
-use Rattle.hex.proofs.HexLemmas.{decode_sized-ok, decode_sized-twice}
+use Rattle.hex.proofs.HexLemmas.{decode_sized-ok, decode_sized-twice, length-encode_with}
 use Rattle.pl_base.specs.declared.digest.Digest.{Digest}
 use Rattle.pl_digests.specs.Digests.{IsDigest, digest_in, hex_of, is_lower_hex, made_of}
 
@@ -110,6 +110,9 @@ all_lower (b ∷ rest) is =
     rw (high, low, later) refl
 
 -- ---- digests
+
+pub hex_len : (told : Digest) → IsDigest told → length (hex_of told) ≡ 64
+hex_len told is = omega (arith, length-encode_with lower_digits told.bytes, is.len)
 
 pub text_is_read : (told : Digest) → IsDigest told → digest_in (hex_of told) ≡ Some told
 text_is_read told is =

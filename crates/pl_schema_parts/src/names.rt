@@ -55,7 +55,8 @@ fn is_name(text: &Text) -> bool
     begins_name(bytes) && are_name_bytes(bytes) && bytes.len() <= LONGEST_NAME
 }
 
-fn are_name_bytes(bytes: &[u8]) -> bool
+/// Whether all bytes are letters, digits or `_`. It takes no memory.
+pub fn are_name_bytes(bytes: &[u8]) -> bool
     ensures { result ≡ list_all is_name_byte bytes.now }
 {
     bytes.iter().all(|byte| is_name_byte(*byte))
