@@ -2,5 +2,6 @@ pub mod Labels
 pub mod Laws
 pub mod Legs
 pub mod Limits
+pub mod Making
 pub mod Planned
 pub mod Plans

@@ -3,11 +3,12 @@ ghost use Rattle.pl_depends.specs.Graph.{job_waits};
 ghost use Rattle.pl_depends.specs.Places.{leg_entries, places_under, under};
 ghost use Rattle.pl_plan.specs.Plans as spec;
 ghost use Rattle.pl_plan.specs.Plans.{plan_step};
+ghost use Rattle.pl_plan.specs.Making as making;
 
 use crate::legs::{Leg, legs_of};
 use crate::plan::{PlanJob, PlanStep};
-use crate::steps::{both, plan_steps};
-use pl_base::{ExactCopy, List, Memory, Shared};
+use crate::steps::{plan_steps, push_copies};
+use pl_base::{ExactCopy, List, Memory, Shared, Text};
 use pl_depends::{Places, job_waits, leg_places};
 use pl_schema::{JobSpec, Pipeline, PoolSpec, StageSpec};
 use pl_uses::{demands_of, pool_name, pool_of};
@@ -36,6 +37,56 @@ fn common_of(alloc: Global, places: &Places, job: &JobSpec) -> Result<Common, Me
     Ok(Common { depends, steps })
 }
 
+/// A leg without what is its own.
+fn new_leg(alloc: Global, depends: Shared<List<u32>>, steps: Shared<List<PlanStep>>) -> PlanJob
+    ensures { result ≡ making.new_leg depends steps }
+{
+    PlanJob {
+        name: Text::new(alloc),
+        leg: None,
+        deployment: false,
+        depends,
+        condition: None,
+        variables: List::new(alloc),
+        groups: List::new(alloc),
+        pool: Text::new(alloc),
+        demands: List::new(alloc),
+        max_parallel: MOST_AT_ONCE,
+        timeout: USUAL_MINUTES,
+        go_on: false,
+        steps,
+    }
+}
+
+fn add_job(alloc: Global, made: &mut PlanJob, job: &JobSpec) -> Result<(), Memory>
+    ensures { OnOk result (made.new ≡ making.with_job made.old job.now) }
+{
+    made.name = job.name.copy(alloc)?;
+    made.deployment = job.deployment;
+    made.condition = job.condition.copy(alloc)?;
+    made.groups = job.groups.copy(alloc)?;
+    made.max_parallel = job.max_parallel.unwrap_or(MOST_AT_ONCE);
+    made.timeout = job.timeout.unwrap_or(USUAL_MINUTES);
+    made.go_on = job.go_on;
+    Ok(())
+}
+
+fn add_leg(alloc: Global, made: &mut PlanJob, job: &JobSpec, leg: &Leg) -> Result<(), Memory>
+    ensures { OnOk result (made.new ≡ making.with_leg made.old job.now leg.now) }
+{
+    made.leg = leg.name.copy(alloc)?;
+    made.variables = job.variables.copy(alloc)?;
+    push_copies(alloc, &mut made.variables, leg.variables.as_slice())
+}
+
+fn add_pool(alloc: Global, made: &mut PlanJob, pool: &Option<PoolSpec>) -> Result<(), Memory>
+    ensures { OnOk result (made.new ≡ making.with_pool made.old pool.now) }
+{
+    made.pool = pool_name(alloc, pool)?;
+    made.demands = demands_of(alloc, pool)?;
+    Ok(())
+}
+
 fn plan_leg(
     alloc: Global,
     pool: &Option<PoolSpec>,
@@ -46,28 +97,12 @@ fn plan_leg(
     ensures { IfOk result (λ made. made ≡
         spec.plan_leg pool.now common.now.depends common.now.steps job.now leg.now) }
 {
-    let name = job.name.copy(alloc)?;
-    let own_name = leg.name.copy(alloc)?;
-    let condition = job.condition.copy(alloc)?;
-    let variables = both(alloc, &job.variables, &leg.variables)?;
-    let groups = job.groups.copy(alloc)?;
-    let pool_text = pool_name(alloc, pool)?;
-    let demands = demands_of(alloc, pool)?;
-    Ok(PlanJob {
-        name,
-        leg: own_name,
-        deployment: job.deployment,
-        depends: common.depends.copy(alloc)?,
-        condition,
-        variables,
-        groups,
-        pool: pool_text,
-        demands,
-        max_parallel: job.max_parallel.unwrap_or(MOST_AT_ONCE),
-        timeout: job.timeout.unwrap_or(USUAL_MINUTES),
-        go_on: job.go_on,
-        steps: common.steps.copy(alloc)?,
-    })
+    let depends = common.depends.copy(alloc)?;
+    let mut made = new_leg(alloc, depends, common.steps.copy(alloc)?);
+    add_job(alloc, &mut made, job)?;
+    add_leg(alloc, &mut made, job, leg)?;
+    add_pool(alloc, &mut made, pool)?;
+    Ok(made)
 }
 
 fn push_legs(

@@ -1,5 +1,7 @@
 ghost use Rattle.std.specs.Prelude.{◌≡◌, ◌∷◌, [], IfOk};
+ghost use Rattle.std.specs.List.{list_all};
 ghost use Rattle.pl_base.specs.declared.value.Value.{out-Value};
+ghost use Rattle.pl_expr.specs.Grammar.{is_name_byte};
 ghost use Rattle.pl_schema_parts.specs.Names.{is_taken};
 ghost use Rattle.pl_depends.specs.declared.fault.PlanCode.TheVariants.{BadLeg};
 ghost use Rattle.pl_schema_parts.specs.Gives.{Gives};
@@ -11,7 +13,7 @@ ghost use Rattle.pl_depends.specs.Places.{knows};
 use pl_base::{ExactCopy, List, MarkedNode, MarkedPair, Memory, Text, Value};
 use pl_depends::{Places, PlanCode, PlanFault, is_known, no_places, put};
 use pl_schema::{JobSpec, LegSpec, SchemaFault, StageSpec, Variable, variable_in};
-use pl_schema_parts::{are_name_bytes, refusal};
+use pl_schema_parts::refusal;
 use std::alloc::Global;
 
 /// How long a leg's name may be, in bytes.
@@ -85,6 +87,14 @@ fn begins_with_letter(bytes: &[u8]) -> bool
         [first, ..] => first.is_ascii_alphabetic(),
         [] => false,
     }
+}
+
+fn are_name_bytes(bytes: &[u8]) -> bool
+    ensures { result ≡ list_all is_name_byte bytes.now }
+{
+    bytes
+        .iter()
+        .all(|byte| byte.is_ascii_alphanumeric() || *byte == b'_')
 }
 
 /// The refusal of a leg, at its name.

@@ -25,17 +25,8 @@ pub fn plan_steps(alloc: Global, steps: &[StepSpec]) -> Result<List<PlanStep>, M
     Ok(made)
 }
 
-/// The items of two lists once more, those of the first one in front.
-pub fn both<T: ExactCopy>(alloc: Global, first: &List<T>, second: &List<T>) -> Result<List<T>, Memory>
-    ensures { IfOk result (λ all. all ≡ first.now ++ second.now) }
-{
-    let mut all = first.copy(alloc)?;
-    push_copies(alloc, &mut all, second.as_slice())?;
-    Ok(all)
-}
-
 /// Puts the same items once more behind those that are there.
-fn push_copies<T: ExactCopy>(
+pub fn push_copies<T: ExactCopy>(
     alloc: Global,
     list: &mut List<T>,
     items: &[T],

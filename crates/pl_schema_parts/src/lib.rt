@@ -19,7 +19,7 @@ pub use pl_base::RepoRef;
 pub use fault::{PlacedFault, SchemaCode, SchemaFault, refusal};
 pub use legs::{Legs, legs_in, no_legs};
 pub use lists::depends_in;
-pub use names::{Names, are_name_bytes, name_in, no_names, take};
+pub use names::{Names, name_in, no_names, take};
 pub use pipeline::{
     DependSpec, JobSpec, LegSpec, Pipeline, PoolSpec, StageSpec, StepSpec, Variable,
 };

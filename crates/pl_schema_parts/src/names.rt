@@ -55,8 +55,7 @@ fn is_name(text: &Text) -> bool
     begins_name(bytes) && are_name_bytes(bytes) && bytes.len() <= LONGEST_NAME
 }
 
-/// Whether all bytes are letters, digits or `_`. It takes no memory.
-pub fn are_name_bytes(bytes: &[u8]) -> bool
+fn are_name_bytes(bytes: &[u8]) -> bool
     ensures { result ≡ list_all is_name_byte bytes.now }
 {
     bytes.iter().all(|byte| is_name_byte(*byte))
