@@ -116,7 +116,9 @@ pub(crate) fn change_all(rows: &mut Vec<Row>, changes: Vec<Change>)
     ensures rows { rows.new.items ≡ all_changed changes.items rows.old.items }
     ensures order { IsInOrder rows.new.items }
 {
-    for change in changes {
+    let mut left = changes;
+    left.reverse();
+    while let Some(change) = left.pop() {
         change_row(rows, change);
     }
 }
