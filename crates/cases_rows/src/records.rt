@@ -57,12 +57,22 @@ fn show(alloc: Global, out: &mut Text, kept: &Record) -> Result<(), Memory> {
 /// Whether the row is torn where its key or its body is cut at any byte.
 fn cuts(alloc: Global, row: &Row) -> Result<&'static str, Memory> {
     for at in 0..row.key.len() {
-        if !is_torn(alloc, row.table, row.key.as_slice().split_at(at).0, row.body.as_slice())? {
+        if !is_torn(
+            alloc,
+            row.table,
+            row.key.as_slice().split_at(at).0,
+            row.body.as_slice(),
+        )? {
             return Ok("read");
         }
     }
     for at in 0..row.body.len() {
-        if !is_torn(alloc, row.table, row.key.as_slice(), row.body.as_slice().split_at(at).0)? {
+        if !is_torn(
+            alloc,
+            row.table,
+            row.key.as_slice(),
+            row.body.as_slice().split_at(at).0,
+        )? {
             return Ok("read");
         }
     }

@@ -6,8 +6,8 @@ use crate::alone::Alone;
 use crate::buffer::Buffer;
 use crate::served::{Broken, Served, Unread};
 use crate::serving::{answer_on, next_piece, read_on, refuse};
-use pl_streams::PIECE;
 use pl_base::{Clock, Link};
+use pl_streams::PIECE;
 use pl_wire::Waiting;
 use std::alloc::Global;
 

@@ -1,6 +1,7 @@
 -- Digests as texts and back.
 use Rattle.std.proofs.Common.{◌≡◌, ℕ, zero, suc, ◌+◌, ◌*◌, ◌/◌, ◌%◌, ◌<◌, ◌==◌, Bool, true, false}
-use Rattle.std.proofs.Common.{if◌then◌else◌, ◌&&◌, ◌||◌, not, List, [], ◌∷◌, length, slice_index, Option, Some}
+use Rattle.std.proofs.Common.{if◌then◌else◌, ◌&&◌, ◌||◌, not, List, [], ◌∷◌, length, slice_index}
+use Rattle.std.proofs.Common.{Option, Some}
 use Rattle.std.proofs.Common.{None, unwrap_or, Result, Ok, Err, refl, sym, ap, ◌∙◌, arith, inl, inr}
 use Rattle.std.specs.List.{list_all}
 use Rattle.std.specs.Result.{result_unwrap_or}

@@ -50,8 +50,8 @@ changed rows change = filter (λ row. comes_before row (row_at change)) rows ++ 
 abbrev pub all_changed : List Change → List Row → List Row
 all_changed changes rows = fold changed rows changes
 
--- what is said of the rows before and after a call: who tells rows after it told them before it, and
--- then the fact holds of both; where none are told after it, nothing is said
+-- what is said of the rows before and after a call: who tells rows after it told them before it,
+-- and then the fact holds of both; where none are told after it, nothing is said
 abbrev pub WhereTold : Option (List Row) → Option (List Row) → (List Row → List Row → Type 0) →
     Type 0
 WhereTold before None fact = Unit {0}

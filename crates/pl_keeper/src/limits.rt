@@ -24,11 +24,13 @@ pub(crate) fn is_within(alloc: Global, kept: &Record) -> Result<bool, Memory>
     ensures { IfOk result (λ is. is ≡ is_within kept.now) }
 {
     match kept {
-        Record::Meta(row) => Ok(row.moment <= LAST_MOMENT
-            && is_counted(row.run)
-            && is_counted(row.version)
-            && is_counted(row.change)
-            && 1 <= row.change),
+        Record::Meta(row) => Ok(
+            row.moment <= LAST_MOMENT
+                && is_counted(row.run)
+                && is_counted(row.version)
+                && is_counted(row.change)
+                && 1 <= row.change,
+        ),
         Record::File(row) => Ok(is_file(row)),
         Record::Pipeline(row) => {
             Ok(named(&row.name) && is_repository(row.repo.as_str()) && is_path(row.path.as_str()))

@@ -40,6 +40,7 @@ one_more old new all item copy key copied updated same =
     ∙ either (same_text key copy) (list_any (same_text key) all)
     ∙ sym (list_any-append (same_text key) all (copy ∷ []))
     ∙ ap (λ last. list_any (same_text key) (all ++ last ∷ [])) copied
+
 -- the set of those before the next place
 pub one_later :
     (old new : BTreeSet (List ℕ)) (all : List (List ℕ)) (i : ℕ) (item copy key : List ℕ) →

@@ -1,6 +1,6 @@
 ghost use Rattle.std.specs.Prelude.{◌≡◌, IfOk};
 ghost use Rattle.std.specs.List.{list_all};
-ghost use Rattle.pl_checks.specs.declared.check.Check.TheVariants.{Approval as ApprovalCheck, Hours};
+ghost use Rattle.pl_checks.specs.declared.check.Check.TheVariants.{Approval as Approvals, Hours};
 ghost use Rattle.pl_limits.specs.Limits.{is_check};
 ghost use Rattle.pl_names.specs.Names.{is_key};
 
@@ -42,14 +42,16 @@ pub fn is_check(alloc: Global, check: &Check) -> Result<bool, Memory>
 
 /// Whether an approval is within its limits.
 fn is_approval(alloc: Global, told: &Approval) -> Result<bool, Memory>
-    ensures { IfOk result (λ is. is ≡ is_check (ApprovalCheck told.now)) }
+    ensures { IfOk result (λ is. is ≡ is_check (Approvals told.now)) }
 {
     let distinct = are_distinct_texts(alloc, told.approvers.as_slice())?;
-    Ok(are_names(&told.approvers)
-        && distinct
-        && 1 <= told.least
-        && told.least as usize <= told.approvers.len()
-        && are_minutes(told.minutes))
+    Ok(
+        are_names(&told.approvers)
+            && distinct
+            && 1 <= told.least
+            && told.least as usize <= told.approvers.len()
+            && are_minutes(told.minutes),
+    )
 }
 
 /// Whether business hours are within their limits.

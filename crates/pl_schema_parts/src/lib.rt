@@ -15,7 +15,6 @@ mod scalars;
 mod steps;
 mod variables;
 
-pub use pl_base::RepoRef;
 pub use fault::{PlacedFault, SchemaCode, SchemaFault, refusal};
 pub use legs::{Legs, legs_in, no_legs};
 pub use lists::depends_in;
@@ -23,6 +22,7 @@ pub use names::{Names, name_in, no_names, take};
 pub use pipeline::{
     DependSpec, JobSpec, LegSpec, Pipeline, PoolSpec, StageSpec, StepSpec, Variable,
 };
+pub use pl_base::RepoRef;
 pub use pools::{environment_in, pool_in};
 pub use rows::{at_key, at_node, has};
 pub use scalars::{behaviour_in, condition_in, items_in, limited_in, pairs_in, truth_in};

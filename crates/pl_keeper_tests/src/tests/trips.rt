@@ -6,8 +6,8 @@ use std::test::Fail;
 /// The row of the service's numbers, by hand.
 fn row(alloc: Global) -> Result<Row, Memory> {
     let body: [u8; 32] = [
-        0, 0, 0, 0, 0x65, 0x92, 0, 0x80, 0, 0, 0, 0, 0, 0, 0, 3, 0, 0, 0, 0, 0, 0, 0, 2, 0, 0, 0, 0,
-        0, 0, 0, 9,
+        0, 0, 0, 0, 0x65, 0x92, 0, 0x80, 0, 0, 0, 0, 0, 0, 0, 3, 0, 0, 0, 0, 0, 0, 0, 2, 0, 0, 0,
+        0, 0, 0, 0, 9,
     ];
     Ok(Row {
         table: 0,
