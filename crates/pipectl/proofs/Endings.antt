@@ -13,7 +13,7 @@ use Rattle.pipectl.specs.declared.served.Served.TheVariants as served
 use Rattle.pipectl.specs.Acts.{Acts, Tells, refused, replies, joined}
 use Rattle.pipectl.specs.Replay.{Advances, Breaks}
 use Rattle.pipectl.specs.Session.{Point, Session, Ends, EndsTold, CountsReads, CountsWrites}
-use Rattle.pipectl.specs.Session.{taken_limit}
+use Rattle.pl_streams.specs.Whole.{taken_limit}
 use Rattle.pipectl.specs.Told.{SameWriting, Writes, Begun, IsAtEnd}
 use Rattle.pipectl.proofs.Sessions.{append-nil, with_front-nil, with_end-append, stays, goes_on}
 use Rattle.pipectl.proofs.Sessions.{breaks_off, breaks_here, breaks_unread, reads_on, bad_cut}

@@ -16,7 +16,8 @@ use Rattle.pipectl.specs.declared.status.Status.{Status}
 use Rattle.pipectl.specs.Acts.{messages_of}
 use Rattle.pipectl.specs.Messages.{Spelled, NoneFirst}
 use Rattle.pipectl.specs.Run.{Outside, Replays, FinishesUnlessBroken}
-use Rattle.pipectl.specs.Session.{Point, Session, taken_limit}
+use Rattle.pl_streams.specs.Whole.{taken_limit}
+use Rattle.pipectl.specs.Session.{Point, Session}
 use Rattle.pipectl.specs.Statuses.{status_of}
 use Rattle.pipectl.specs.Told.{Told}
 use Rattle.pipectl.proofs.Sessions.{append-nil, Spelled-more}

@@ -10,12 +10,12 @@ use Rattle.pipectl.specs.declared.status.Status.TheVariants as status
 use Rattle.pl_base.specs.declared.expanded.Argument.{Argument}
 use Rattle.pl_offline.specs.Running.{Runs as RunsOffline}
 use Rattle.pl_offline.specs.declared.ending.Ending.{Ending}
-use Rattle.pl_streams.specs.Whole.{Inflow, Outflow}
+use Rattle.pl_streams.specs.Whole.{Inflow, Outflow, taken_limit}
 use Rattle.pl_words.specs.declared.command.Command.{Command}
 use Rattle.pl_words.specs.declared.command.Command.TheVariants.{Compile, Replay}
 use Rattle.pipectl.specs.Acts.{Parts}
 use Rattle.pipectl.specs.Messages.{Spelled}
-use Rattle.pipectl.specs.Session.{Point, Session, taken_limit}
+use Rattle.pipectl.specs.Session.{Point, Session}
 use Rattle.pipectl.specs.Statuses.{compile_status, status_of}
 use Rattle.pipectl.specs.Told.{Told, Writes, Begun}
 

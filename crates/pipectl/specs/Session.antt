@@ -7,6 +7,7 @@ use Rattle.pl_base.specs.Streams.{with_front, with_end}
 use Rattle.pl_base.specs.declared.clock.Clock as the_clock
 use Rattle.pl_base.specs.declared.link.Link as the_link
 use Rattle.pl_heads.specs.declared.fault.HttpFault.{HttpFault}
+use Rattle.pl_streams.specs.Whole.{taken_limit}
 use Rattle.pl_wire.specs.Message.{IsPartial, IsBad}
 use Rattle.pipectl.specs.declared.alone.Alone.{Alone}
 use Rattle.pipectl.specs.declared.served.Served.{Served}
@@ -29,10 +30,6 @@ point links clocks link clock desk = record {
   coming = clocks.coming clock;
   desk = parts desk;
 }
-
--- how many bytes a session takes at most
-abbrev pub taken_limit : ℕ
-taken_limit = 67108864
 
 -- replies that broke off: all of them whole but at most the last
 pub record IsCut (all : List (List ℕ)) (wrote : List ℕ) : Type 0 where

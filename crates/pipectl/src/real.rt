@@ -64,12 +64,14 @@ impl<R: io::Read> Source for Reading<R> {
 
     ghost faults = { λ reading. reading.faults };
 
-    // A call that a signal interrupted is tried again.
+    // A call that a signal interrupted is tried again. The end is told only by a read that asks for
+    // a byte.
     fn read(&mut self, into: &mut [u8]) -> Result<usize, Failed> {
+        let asks = !into.is_empty();
         for _ in 0..u64::MAX {
             match self.reader.read(into) {
                 Ok(count) => {
-                    self.ended = self.ended || count == 0;
+                    self.ended = self.ended || (asks && count == 0);
                     return Ok(count);
                 }
                 Err(fault) if fault.kind() == ErrorKind::Interrupted => {}

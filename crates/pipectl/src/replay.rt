@@ -5,8 +5,9 @@ ghost use Rattle.pipectl.specs.Session.{point, Session};
 use crate::alone::Alone;
 use crate::buffer::Buffer;
 use crate::served::{Broken, Served, Unread};
-use crate::serving::{PIECE, answer_on, next_piece, read_on, refuse};
+use crate::serving::{answer_on, next_piece, read_on, refuse};
 use pl_base::{Clock, Link};
+use pl_streams::PIECE;
 use pl_wire::Waiting;
 use std::alloc::Global;
 

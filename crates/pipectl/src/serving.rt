@@ -8,7 +8,8 @@ ghost use Rattle.pl_wire.specs.Waiting.{Awaits};
 ghost use Rattle.pipectl.specs.Acts.{sent, refused};
 ghost use Rattle.pipectl.specs.Replay.{Answers, CountsUnread, EndsAtNone, OnlyWrites, ReadsPiece};
 ghost use Rattle.pipectl.specs.Replay.{Sends};
-ghost use Rattle.pipectl.specs.Session.{point, taken_limit};
+ghost use Rattle.pl_streams.specs.Whole.{taken_limit};
+ghost use Rattle.pipectl.specs.Session.{point};
 ghost use Rattle.pipectl.specs.Told.{told, Begun, SameWriting, Writes};
 
 use crate::alone::{Alone, Answer};
@@ -146,12 +147,6 @@ pub fn read_on<L: Link>(
         Err(_) => Err(Unread::Memory),
     }
 }
-
-/// How many bytes a session takes from its source at most.
-const TAKEN_LIMIT: usize = 67_108_864;
-
-/// How many bytes a read asks for at most.
-pub const PIECE: usize = 65_536;
 
 /// How many bytes the next read asks for, where so many were taken: none past the limit.
 pub fn next_piece(taken: usize) -> usize

@@ -69,8 +69,8 @@ none_in_all stages i before past = subst HaveNoCycle (take_all i stages past) be
 abbrev FoundBy : (Option Fault → Type 0) → PlacedFault PlanCode → Type 0
 FoundBy there_is fault = Judges {U = Unit {0}} (Err fault) there_is
 
-pub stops_by : (stages : List StageSpec) (i : ℕ) (stage : StageSpec) (fault : PlacedFault PlanCode) →
-    SoFar stages i → i < length stages → stage ≡ get_or stages i stage →
+pub stops_by : (stages : List StageSpec) (i : ℕ) (stage : StageSpec)
+    (fault : PlacedFault PlanCode) → SoFar stages i → i < length stages → stage ≡ get_or stages i stage →
     FoundBy (JobCycle stage.jobs) fault → FoundBy (JobCycles stages) fault
 stops_by stages i stage Memory so_far within is own = tt
 stops_by stages i stage (Refused code place) so_far within is own =
@@ -86,8 +86,8 @@ no_job_cycle jobs graph same acyclic = record {
   told = refl;
 }
 
-pub job_cycle : (jobs : List JobSpec) (graph : List Waiting) (nodes : List ℕ) (fault : PlacedFault PlanCode) →
-    graph ≡ job_graph jobs → IsCycleOf graph (Some nodes) →
+pub job_cycle : (jobs : List JobSpec) (graph : List Waiting) (nodes : List ℕ)
+    (fault : PlacedFault PlanCode) → graph ≡ job_graph jobs → IsCycleOf graph (Some nodes) →
     Faults fault (cycle_fault graph nodes) → FoundBy (JobCycle jobs) fault
 job_cycle jobs graph nodes Memory same cycle told = tt
 job_cycle jobs graph nodes (Refused code place) same cycle told =
@@ -109,7 +109,8 @@ before_by_jobs stages before graph nodes (Refused code place) same found =
     record { of_jobs = Some (code, place); before = subst P same found; told = refl }
 
 pub before_by_stages : (stages before : List StageSpec) (graph : List Waiting) (nodes : List ℕ)
-    (fault : PlacedFault PlanCode) → before ≡ stages_before (Some nodes) stages → JobCycles before None →
+    (fault : PlacedFault PlanCode) → before ≡ stages_before (Some nodes) stages →
+    JobCycles before None →
     Faults fault (cycle_fault graph nodes) → FaultIs fault (IsBefore stages graph nodes)
 before_by_stages stages before graph nodes Memory same none told = tt
 before_by_stages stages before graph nodes (Refused code place) same none told =

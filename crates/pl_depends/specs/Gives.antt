@@ -21,13 +21,15 @@ FaultIs Memory is_meant = Unit {0}
 FaultIs (Refused code place) is_meant = is_meant (code, place)
 
 -- a refusal is the fault that there is, and Ok says that there is none; want of memory is free
-abbrev pub Judges : {U : Type 0} → Result U (PlacedFault PlanCode) → (Option Fault → Type 0) → Type 0
+abbrev pub Judges : {U : Type 0} → Result U (PlacedFault PlanCode) → (Option Fault → Type 0) →
+    Type 0
 Judges (Ok done) there_is = there_is None
 Judges (Err Memory) there_is = Unit {0}
 Judges (Err (Refused code place)) there_is = there_is (Some (code, place))
 
 -- an answer of which a fact holds; want of memory is free
-abbrev pub Means : {X : Type 0} → Result X (PlacedFault PlanCode) → (Result X Fault → Type 0) → Type 0
+abbrev pub Means : {X : Type 0} → Result X (PlacedFault PlanCode) → (Result X Fault → Type 0) →
+    Type 0
 Means (Ok value) is_meant = is_meant (Ok value)
 Means (Err Memory) is_meant = Unit {0}
 Means (Err (Refused code place)) is_meant = is_meant (Err (code, place))

@@ -1,6 +1,7 @@
 -- Digests as texts and back.
 use Rattle.std.proofs.Common.{◌≡◌, ℕ, zero, suc, ◌+◌, ◌*◌, ◌/◌, ◌%◌, ◌<◌, ◌==◌, Bool, true, false}
-use Rattle.std.proofs.Common.{if◌then◌else◌, ◌&&◌, ◌||◌, not, List, [], ◌∷◌, length, slice_index, Option, Some}
+use Rattle.std.proofs.Common.{if◌then◌else◌, ◌&&◌, ◌||◌, not, List, [], ◌∷◌, length, slice_index}
+use Rattle.std.proofs.Common.{Option, Some}
 use Rattle.std.proofs.Common.{None, unwrap_or, Result, Ok, Err, refl, sym, ap, ◌∙◌, arith, inl, inr}
 use Rattle.std.specs.List.{list_all}
 use Rattle.std.specs.Result.{result_unwrap_or}
@@ -9,7 +10,7 @@ use Rattle.hex.specs.Hex.{IsBytes, decode_pairs, decode_sized, digit_or_error, h
 use Rattle.hex.specs.Hex.{encode_lower, encode_with, lower_digits, pair_value, value_at, ◌>>=◌}
 use Rattle.hex.specs.declared.error.FromHexError.{FromHexError}
 use Rattle.hex.proofs.HexLemmas.{decode_of-even, decode_of-ok, decode_sized-encode_lower}
-use Rattle.hex.proofs.HexLemmas.{decode_sized-ok, decode_sized-twice}
+use Rattle.hex.proofs.HexLemmas.{decode_sized-ok, decode_sized-twice, length-encode_with}
 use Rattle.pl_base.specs.declared.digest.Digest.{Digest}
 use Rattle.pl_digests.specs.Digests.{IsDigest, digest_in, hex_of, is_lower_hex, made_of}
 
@@ -110,6 +111,9 @@ all_lower (b ∷ rest) is =
     rw (high, low, later) refl
 
 -- ---- digests
+
+pub hex_len : (told : Digest) → IsDigest told → length (hex_of told) ≡ 64
+hex_len told is = omega (arith, length-encode_with lower_digits told.bytes, is.len)
 
 pub text_is_read : (told : Digest) → IsDigest told → digest_in (hex_of told) ≡ Some told
 text_is_read told is =

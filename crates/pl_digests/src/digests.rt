@@ -1,6 +1,7 @@
 ghost use Rattle.std.specs.Prelude.{◌≡◌};
 ghost use Rattle.std.specs.List.{list_all};
-ghost use Rattle.pl_digests.specs.Digests.{digest_in, hex_of, is_lower_hex, is_of_nothing, made_of};
+ghost use Rattle.pl_digests.specs.Digests.{digest_in, hex_of, is_lower_hex, is_of_nothing};
+ghost use Rattle.pl_digests.specs.Digests.{IsDigest};
 
 use hex::FromHex;
 use pl_base::Digest;
@@ -22,7 +23,8 @@ pub fn digest_in(text: &[u8]) -> Option<Digest>
 
 /// A digest's 64 hexadecimal digits in lower case. It takes no memory.
 pub fn hex_of(digest: &Digest) -> [u8; 64]
-    ensures { result ≡ hex_of digest.now }
+    ensures text { result ≡ hex_of digest.now }
+    ensures is { IsDigest digest.now }
 {
     let mut text = [0; 64];
     let bytes = digest.bytes.as_slice();

@@ -10,7 +10,8 @@ use Rattle.pl_fields.specs.declared.fault.DecodeFault.{DecodeFault}
 use Rattle.pl_fields.specs.declared.fault.DecodeFault.TheVariants.{Torn, Memory}
 use Rattle.pl_fields.specs.Checks.{check_fields, check_number, file_key, IsCheck, IsFileKey, IsZone}
 use Rattle.pl_fields.specs.Fields.{number, flag, text, list, IsText, IsListOf}
-use Rattle.pl_fields.specs.Kinds.{arguments_number, day_number}
+use Rattle.pl_rules.specs.Days.{day_number}
+use Rattle.pl_fields.specs.Kinds.{arguments_number}
 use Rattle.pl_fields.specs.Reading.{Begins, BeginsNot, Misses}
 
 -- what a check of a kind is

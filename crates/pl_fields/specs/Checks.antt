@@ -1,5 +1,5 @@
 -- Keys of files and of resources, arguments, and checks, and how each is written.
-use Rattle.std.specs.Prelude.{◌≡◌, ℕ, ◌<◌, ◌^◌, List, [], ◌∷◌, ◌++◌, length}
+use Rattle.std.specs.Prelude.{ℕ, ◌<◌, ◌^◌, List, [], ◌∷◌, ◌++◌}
 use Rattle.pl_base.specs.declared.digest.Digest.{Digest}
 use Rattle.pl_base.specs.declared.expanded.Argument.{Argument}
 use Rattle.pl_base.specs.declared.place.FileKey.{FileKey}
@@ -11,9 +11,11 @@ use Rattle.pl_checks.specs.declared.check.Check.{Check}
 use Rattle.pl_checks.specs.declared.check.Check.TheVariants.{RequiredTemplate, Branch}
 use Rattle.pl_checks.specs.declared.check.Check.TheVariants.{Approval as Approvals, Hours}
 use Rattle.pl_checks.specs.declared.check.RequiredTemplate.{RequiredTemplate as Templates}
+use Rattle.pl_digests.specs.Digests.{hex_of}
+use Rattle.pl_rules.specs.Days.{day_number}
 use Rattle.pl_zones.specs.Zones.{IsZoneText}
 use Rattle.pl_fields.specs.Fields.{number, flag, text, list, IsShort, IsText, IsListOf}
-use Rattle.pl_fields.specs.Kinds.{kind_number, day_number, arguments_number}
+use Rattle.pl_fields.specs.Kinds.{kind_number, arguments_number}
 
 -- a file's key: its repository, its ref, its path
 abbrev pub file_key : FileKey → List ℕ
@@ -39,12 +41,9 @@ IsShortArgument given = IsShort given.name × IsShort given.text
 abbrev pub IsArgument : Argument → Type 0
 IsArgument given = IsText given.name × IsText given.text
 
--- a digest: a text of its 32 bytes
+-- a digest: its 64 hexadecimal digits in lower case, as a text
 abbrev pub digest : Digest → List ℕ
-digest told = text told.bytes
-
-abbrev pub IsDigest : Digest → Type 0
-IsDigest told = length told.bytes ≡ 32
+digest told = text (hex_of told)
 
 -- a zone: its text, which names a zone
 pub record IsZone (zone : List ℕ) : Type 0 where

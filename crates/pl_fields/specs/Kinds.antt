@@ -50,15 +50,6 @@ role_number Reader = 4
 abbrev pub days : List Day
 days = Mon ∷ Tue ∷ Wed ∷ Thu ∷ Fri ∷ Sat ∷ Sun ∷ []
 
-abbrev pub day_number : Day → ℕ
-day_number Mon = 0
-day_number Tue = 1
-day_number Wed = 2
-day_number Thu = 3
-day_number Fri = 4
-day_number Sat = 5
-day_number Sun = 6
-
 -- 0 Any, 1 Values
 abbrev pub argument_rules : List Arguments
 argument_rules = Any ∷ Values ∷ []

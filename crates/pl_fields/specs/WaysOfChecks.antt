@@ -14,7 +14,8 @@ use Rattle.pl_rules.specs.declared.day.Day.{Day}
 use Rattle.pl_fields.specs.Checks.{approval, branch, check, check_fields, file_key, hours}
 use Rattle.pl_fields.specs.Checks.{templates, IsCheck, IsFileKey, IsZone}
 use Rattle.pl_fields.specs.Fields.{number, flag, text, list, IsText, IsListOf}
-use Rattle.pl_fields.specs.Kinds.{arguments_number, argument_rules, day_number, days}
+use Rattle.pl_rules.specs.Days.{day_number}
+use Rattle.pl_fields.specs.Kinds.{arguments_number, argument_rules, days}
 use Rattle.pl_fields.specs.Reading.{IsOneWay}
 use Rattle.pl_fields.specs.WaysOfCompounds.{list_one_way, pair_one_way}
 use Rattle.pl_fields.specs.WaysOfKinds.{arguments_back, day_back, numbered_one_way}

@@ -1,12 +1,15 @@
 -- No spelling of a key, an argument, a digest or a zone begins another one.
 use Rattle.std.proofs.Common.{◌≡◌, ℕ, ◌<◌, ◌^◌, List, [], ◌∷◌, ◌++◌, length, refl, sym, ap, ◌∙◌}
 use Rattle.std.proofs.Common.{arith}
+use Rattle.std.proofs.lemmas.Option.{same_Some}
 use Rattle.pl_base.specs.declared.digest.Digest.{Digest}
 use Rattle.pl_base.specs.declared.expanded.Argument.{Argument}
 use Rattle.pl_base.specs.declared.place.FileKey.{FileKey}
 use Rattle.pl_base.specs.declared.resource.Kind.{Kind}
 use Rattle.pl_base.specs.declared.resource.ResourceKey.{ResourceKey}
-use Rattle.pl_fields.specs.Checks.{argument, digest, file_key, resource_key, IsArgument, IsDigest}
+use Rattle.pl_digests.specs.Digests.{digest_in, hex_of, IsDigest}
+use Rattle.pl_digests.proofs.Texts.{hex_len, text_is_read}
+use Rattle.pl_fields.specs.Checks.{argument, digest, file_key, resource_key, IsArgument}
 use Rattle.pl_fields.specs.Checks.{IsFileKey, IsZone}
 use Rattle.pl_fields.specs.Fields.{text, IsText}
 use Rattle.pl_fields.specs.Kinds.{kind_number, kinds}
@@ -55,8 +58,11 @@ argument_one_way = via_one_way {X = Argument} {Y = List ℕ × List ℕ}
 
 pub digest_one_way : IsOneWay digest IsDigest
 digest_one_way x y r s is_x is_y e =
-    let parts = piece_one_way x.bytes y.bytes r s (omega (arith, is_x)) (omega (arith, is_y)) e in
-    (ap (λ (bytes : List ℕ). let made : Digest = record { bytes = bytes } in made) parts.0, parts.1)
+    let parts = piece_one_way (hex_of x) (hex_of y) r s (omega (arith, hex_len x is_x))
+    (omega (arith, hex_len y is_y)) e in (
+      same_Some x y (sym (text_is_read x is_x) ∙ (ap digest_in parts.0 ∙ text_is_read y is_y)),
+      parts.1,
+    )
 
 pub zone_one_way : IsOneWay text IsZone
 zone_one_way x y r s is_x is_y e = text_one_way x y r s is_x.is_text is_y.is_text e

@@ -3,7 +3,7 @@ use Rattle.std.proofs.Common.{◌≡◌, ℕ, zero, suc, List, [], ◌∷◌, �
 use Rattle.std.proofs.Common.{ap, ◌∙◌}
 use Rattle.std.specs.Prelude.{slice_get}
 use Rattle.std.proofs.lemmas.Option.{same_Some}
-use Rattle.pl_fields.specs.Kinds.{arguments_number, day_number, kind_number, outcome_number}
+use Rattle.pl_fields.specs.Kinds.{arguments_number, kind_number, outcome_number}
 use Rattle.pl_fields.specs.Kinds.{role_number, argument_rules, days, kinds, outcomes, roles}
 use Rattle.pl_fields.specs.Reading.{IsOneWay}
 use Rattle.pl_fields.specs.WaysOfFields.{head_is, tail_is}
@@ -15,6 +15,7 @@ use Rattle.pl_base.specs.declared.resource.Kind.TheVariants.{Environment, Connec
 use Rattle.pl_base.specs.declared.resource.Kind.TheVariants.{Repository}
 use Rattle.pl_rules.specs.declared.role.Role.{Role}
 use Rattle.pl_rules.specs.declared.role.Role.TheVariants.{Admin, Author, Approver, Agent, Reader}
+use Rattle.pl_rules.specs.Days.{day_number}
 use Rattle.pl_rules.specs.declared.day.Day.{Day}
 use Rattle.pl_rules.specs.declared.day.Day.TheVariants.{Mon, Tue, Wed, Thu, Fri, Sat, Sun}
 use Rattle.pl_checks.specs.declared.check.Arguments.{Arguments}

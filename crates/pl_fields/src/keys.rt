@@ -1,7 +1,8 @@
 ghost use Rattle.std.specs.Prelude.{◌≡◌, length};
 ghost use Rattle.pl_fields.specs.Fields.{text, IsShort};
 ghost use Rattle.pl_fields.specs.Checks.{argument, digest, file_key, resource_key, IsArgument};
-ghost use Rattle.pl_fields.specs.Checks.{IsDigest, IsFileKey, IsShortArgument, IsShortFileKey};
+ghost use Rattle.pl_digests.specs.Digests.{IsDigest};
+ghost use Rattle.pl_fields.specs.Checks.{IsFileKey, IsShortArgument, IsShortFileKey};
 ghost use Rattle.pl_fields.specs.Checks.{IsZone};
 ghost use Rattle.pl_fields.specs.Fields.{IsText};
 ghost use Rattle.pl_fields.specs.WaysOfKeys.{argument_one_way, digest_one_way, file_key_one_way};
@@ -13,6 +14,7 @@ use crate::field::{Field, Written};
 use crate::texts::RawSlice;
 use pl_base::{Argument, Digest, FileKey, Kind, Memory, ResourceKey, Text};
 use pl_checks::{Zone, ZoneFault, zone_of};
+use pl_digests::{digest_in, hex_of};
 use std::alloc::Global;
 
 impl Written for FileKey {
@@ -95,7 +97,7 @@ impl Field for Argument {
     ghost one_way = { argument_one_way };
 }
 
-/// A digest: a text of its 32 bytes.
+/// A digest: its 64 hexadecimal digits in lower case, as a text.
 impl Written for Digest {
     ghost spelled = { digest };
 
@@ -104,12 +106,14 @@ impl Written for Digest {
     ghost fits = { IsDigest };
 
     fn size(&self) -> usize {
-        let bytes = self.bytes.as_slice();
+        let text = hex_of(self);
+        let bytes = text.as_slice();
         RawSlice { bytes }.size()
     }
 
     fn put(&self, out: &mut Vec<u8>) -> Result<(), Memory> {
-        let bytes = self.bytes.as_slice();
+        let text = hex_of(self);
+        let bytes = text.as_slice();
         RawSlice { bytes }.put(out)
     }
 }
@@ -119,9 +123,9 @@ impl Field for Digest {
         let Some((piece, rest)) = piece_at(bytes) else {
             return Err(DecodeFault::Torn);
         };
-        match <[u8; 32]>::try_from(piece) {
-            Ok(bytes) => Ok((Digest { bytes }, rest)),
-            Err(_) => Err(DecodeFault::Torn),
+        match digest_in(piece) {
+            Some(digest) => Ok((digest, rest)),
+            None => Err(DecodeFault::Torn),
         }
     }
 

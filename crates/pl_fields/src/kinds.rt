@@ -1,5 +1,6 @@
 ghost use Rattle.std.specs.Prelude.{◌≡◌, ◌∷◌, ◌++◌, [], ℕ, Option, Some, List, OnOk, slice_get};
-ghost use Rattle.pl_fields.specs.Kinds.{arguments_number, day_number, kind_number, outcome_number};
+ghost use Rattle.pl_rules.specs.Days.{day_number};
+ghost use Rattle.pl_fields.specs.Kinds.{arguments_number, kind_number, outcome_number};
 ghost use Rattle.pl_fields.specs.Kinds.{role_number};
 ghost use Rattle.pl_fields.specs.Kinds.{argument_rules, days, kinds, outcomes, roles};
 ghost use Rattle.pl_fields.specs.Reading.{Reads};
@@ -212,7 +213,7 @@ impl Numbered for Day {
     ghost listed = { days };
 
     fn number(self) -> u8 {
-        self as u8
+        Day::number(self)
     }
 
     fn numbered(number: u8) -> Option<Day> {

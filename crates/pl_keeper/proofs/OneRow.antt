@@ -4,7 +4,8 @@ use Rattle.std.specs.Prelude.{IfSome}
 use Rattle.pl_base.specs.declared.row.Row.{Row}
 use Rattle.pl_fields.specs.declared.texts.Raw.{Raw}
 use Rattle.pl_fields.specs.Checks.{argument, check, digest, file_key, resource_key, IsArgument}
-use Rattle.pl_fields.specs.Checks.{IsCheck, IsDigest, IsFileKey}
+use Rattle.pl_digests.specs.Digests.{IsDigest}
+use Rattle.pl_fields.specs.Checks.{IsCheck, IsFileKey}
 use Rattle.pl_fields.specs.Fields.{number, flag, text, option, list, IsShort, IsText, IsListOf}
 use Rattle.pl_fields.specs.Kinds.{role_number, roles}
 use Rattle.pl_fields.specs.Reading.{IsOneWay}

@@ -13,7 +13,8 @@ use Rattle.pl_fields.specs.declared.fault.DecodeFault.{DecodeFault}
 use Rattle.pl_fields.specs.declared.fault.DecodeFault.TheVariants.{Torn, Memory}
 use Rattle.pl_fields.specs.declared.texts.Raw.{Raw}
 use Rattle.pl_fields.specs.Checks.{argument, check, digest, file_key, resource_key, IsArgument}
-use Rattle.pl_fields.specs.Checks.{IsCheck, IsDigest, IsFileKey}
+use Rattle.pl_digests.specs.Digests.{IsDigest}
+use Rattle.pl_fields.specs.Checks.{IsCheck, IsFileKey}
 use Rattle.pl_fields.specs.Fields.{number, flag, text, option, list, IsShort, IsText, IsListOf}
 use Rattle.pl_fields.specs.Kinds.{role_number}
 use Rattle.pl_keeper.specs.Parts.{job_end, kept_file, stage_end, taking, texts, ArePartsOf}

@@ -1,5 +1,6 @@
 -- Who keeps rows: the order of the rows, and what changes make of them.
-use Rattle.std.specs.Prelude.{◌≡◌, ℕ, Bool, not, List, [], ◌∷◌, ◌++◌, filter, fold}
+use Rattle.std.specs.Prelude.{◌≡◌, ℕ, Bool, not, List, [], ◌∷◌, ◌++◌, filter, fold, Option, Some}
+use Rattle.std.specs.Prelude.{None}
 use Rattle.std.specs.declared.cmp.Ordering.{Ordering}
 use Rattle.std.specs.Ordering.{is_lt, nat_cmp, ordering_then}
 use Rattle.std.specs.Cmp.Lexicographic.{slice_cmp}
@@ -48,3 +49,11 @@ changed rows change = filter (λ row. comes_before row (row_at change)) rows ++ 
 -- rows after changes, one after the other
 abbrev pub all_changed : List Change → List Row → List Row
 all_changed changes rows = fold changed rows changes
+
+-- what is said of the rows before and after a call: who tells rows after it told them before it,
+-- and then the fact holds of both; where none are told after it, nothing is said
+abbrev pub WhereTold : Option (List Row) → Option (List Row) → (List Row → List Row → Type 0) →
+    Type 0
+WhereTold before None fact = Unit {0}
+WhereTold None (Some new) fact = ⊥
+WhereTold (Some old) (Some new) fact = fact old new

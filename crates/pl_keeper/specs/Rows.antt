@@ -4,7 +4,8 @@ use Rattle.pl_base.specs.declared.row.Row.{Row}
 use Rattle.pl_fields.specs.declared.fault.DecodeFault.{DecodeFault}
 use Rattle.pl_fields.specs.declared.fault.DecodeFault.TheVariants.{Torn, Memory}
 use Rattle.pl_fields.specs.Checks.{argument, check, digest, file_key, resource_key, IsArgument}
-use Rattle.pl_fields.specs.Checks.{IsCheck, IsDigest, IsFileKey, IsShortArgument, IsShortCheck}
+use Rattle.pl_digests.specs.Digests.{IsDigest}
+use Rattle.pl_fields.specs.Checks.{IsCheck, IsFileKey, IsShortArgument, IsShortCheck}
 use Rattle.pl_fields.specs.Checks.{IsShortFileKey}
 use Rattle.pl_fields.specs.Fields.{number, flag, text, option, list, IsShort, IsText, IsListOf}
 use Rattle.pl_fields.specs.Kinds.{role_number}

@@ -19,7 +19,9 @@ use std::alloc::Global;
 ///
 /// Torn comes exactly where the row is no record's that is within the limits: its key or its body
 /// isn't one of its table's, or has a byte too many, or a name, a ref, a path, a text, a number, a
-/// check or an output is past its limit. Memory comes where there was none for the record.
+/// check, a rule or an output is past its limit, or an approver, a day or a capability stands
+/// twice, or capabilities don't ascend, or a run has the number 0, or a digest is that of no bytes.
+/// Memory comes where there was none for the record.
 pub fn decode(alloc: Global, row: &Row) -> Result<Record, DecodeFault>
     ensures ok { IfOk result (λ kept. IsKept kept × IsTrue (is_within kept) ×
         (row.now ≡ row_of kept)) }
@@ -27,7 +29,7 @@ pub fn decode(alloc: Global, row: &Row) -> Result<Record, DecodeFault>
         (kept : Kept) → IsKept kept → IsTrue (is_within kept) → row.now ≢ row_of kept }
 {
     let record = record_of(alloc, row)?;
-    let is_good = is_within(&record);
+    let is_good = is_within(alloc, &record)?;
     kept_if(record, is_good)
 }
 

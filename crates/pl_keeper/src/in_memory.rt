@@ -1,10 +1,9 @@
 ghost use Rattle.std.specs.Prelude.{◌≡◌, ◌↔◌, if◌then◌else◌, Some, IfOk, IfSome, IsErrOf};
 ghost use Rattle.std.specs.Prelude.{IsPermutation, IsTrue, OnErr, OnOk};
 ghost use Rattle.std.specs.List.Sorted.{IsSorted};
-ghost use Rattle.std.specs.Option.{option_map};
 ghost use Rattle.pl_base.specs.Counts.{one_more};
 ghost use Rattle.pl_base.specs.Streams.{is_listed};
-ghost use Rattle.pl_keeper.specs.Keeping.{all_changed, row_cmp, IsInOrder};
+ghost use Rattle.pl_keeper.specs.Keeping.{all_changed, row_cmp, IsInOrder, WhereTold};
 
 use crate::copies::{change_copies, row_copies};
 use crate::fault::KeeperFault;
@@ -13,7 +12,7 @@ use crate::order::{change_all, put_in_order};
 use pl_base::{Change, List, Row};
 use std::alloc::Global;
 
-/// Rows in memory.
+/// Rows in memory, which it always tells.
 #[derive(Debug, Drop)]
 pub struct MemKeeper {
     rows: Vec<Row>,
@@ -69,13 +68,17 @@ impl Keeper for MemKeeper {
 
     /// Memory is answered before anything changed, so the rows are as before; the call is counted.
     fn apply(&mut self, alloc: Global, changes: &List<Change>) -> Result<(), KeeperFault>
-        ensures applied { OnOk result (Some self.new.rows.items ≡
-            option_map (all_changed changes.now) (Some self.old.rows.items)) }
-        ensures kept { OnErr result (Some self.new.rows.items ≡ Some self.old.rows.items) }
+        ensures applied { OnOk result (WhereTold (Some self.old.rows.items)
+            (Some self.new.rows.items) (λ before after. after ≡ all_changed changes.now before)) }
+        ensures kept { OnErr result (WhereTold (Some self.old.rows.items)
+            (Some self.new.rows.items) (λ before after. after ≡ before)) }
         ensures quiet { OnOk result (self.new.faults ≡ self.old.faults) }
         ensures failed { IsErrOf result KeeperFault.Failed →
             self.new.faults ≡ one_more self.old.faults }
         ensures memory { IsErrOf result KeeperFault.Memory → self.new.faults ≡ self.old.faults }
+        ensures all { OnOk result
+            (self.new.rows.items ≡ all_changed changes.now self.old.rows.items) }
+        ensures none { OnErr result (self.new.rows.items ≡ self.old.rows.items) }
         ensures calls { self.new.calls ≡ one_more self.old.calls }
         ensures listed { self.new.failing ≡ self.old.failing }
         ensures failing { IsErrOf result KeeperFault.Failed ↔
@@ -91,14 +94,17 @@ impl Keeper for MemKeeper {
     }
 
     fn rows(&mut self, alloc: Global) -> Result<List<Row>, KeeperFault>
-        ensures told { IfOk result (λ rows. IfSome (Some self.old.rows.items)
+        ensures told { IfOk result (λ rows. IfSome (Some self.new.rows.items)
             (λ held. rows ≡ held)) }
         ensures ordered { IfOk result IsInOrder }
-        ensures kept { Some self.new.rows.items ≡ Some self.old.rows.items }
+        ensures kept { WhereTold (Some self.old.rows.items) (Some self.new.rows.items)
+            (λ before after. after ≡ before) }
         ensures quiet { OnOk result (self.new.faults ≡ self.old.faults) }
         ensures failed { IsErrOf result KeeperFault.Failed →
             self.new.faults ≡ one_more self.old.faults }
         ensures memory { IsErrOf result KeeperFault.Memory → self.new.faults ≡ self.old.faults }
+        ensures all { IfOk result (λ rows. rows ≡ self.old.rows.items) }
+        ensures same { self.new.rows.items ≡ self.old.rows.items }
         ensures calls { self.new.calls ≡ one_more self.old.calls }
         ensures listed { self.new.failing ≡ self.old.failing }
         ensures failing { IsErrOf result KeeperFault.Failed ↔

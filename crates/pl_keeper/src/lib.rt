@@ -21,6 +21,7 @@ pub use fault::KeeperFault;
 pub use in_memory::MemKeeper;
 pub use keeper::Keeper;
 pub use laws::record_laws;
+pub use order::put_in_order;
 pub use pl_fields::DecodeFault;
 pub use records::{
     JobEnd, KeptAgent, KeptDecision, KeptFile, KeptJob, KeptPipeline, KeptPrincipal, KeptResource,

@@ -36,8 +36,9 @@ fn row_order(left: &Row, right: &Row) -> Ordering
     order_to(left, right.table, &right.key).then(left.body.as_slice().cmp(right.body.as_slice()))
 }
 
-/// Puts rows in order of table and key, and rows of one table and key in order of their bodies.
-pub(crate) fn put_in_order(rows: &mut [Row])
+/// Puts rows in order of table and key, and rows of one table and key in order of their bodies. It
+/// takes no memory.
+pub fn put_in_order(rows: &mut [Row])
     ensures rows { IsPermutation rows.old rows.new }
     ensures sorted { IsSorted row_cmp rows.new }
     ensures order { IsInOrder rows.new }
@@ -73,9 +74,7 @@ fn take_out(rows: &mut Vec<Row>, from: usize, to: usize)
     ensures len { vec_len rows.new ≤ vec_len rows.old }
     ensures capacity { vec_capacity rows.new ≡ vec_capacity rows.old }
 {
-    for _ in from..to {
-        let _gone = rows.remove(from);
-    }
+    rows.drain(from..to);
 }
 
 /// Makes a change among rows that are in order. There is room for one row more.
@@ -118,8 +117,8 @@ pub(crate) fn change_all(rows: &mut Vec<Row>, changes: Vec<Change>)
     ensures order { IsInOrder rows.new.items }
 {
     let mut left = changes;
-    while !left.is_empty() {
-        let change = left.remove(0);
+    left.reverse();
+    while let Some(change) = left.pop() {
         change_row(rows, change);
     }
 }

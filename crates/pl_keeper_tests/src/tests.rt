@@ -1,6 +1,3 @@
-mod cuts;
-mod hostile;
+mod fields;
 mod keepers;
-mod records;
-mod rows;
 mod trips;

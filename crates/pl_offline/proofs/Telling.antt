@@ -1,11 +1,13 @@
 -- What is told of the bytes of a source that was read to its end.
-use Rattle.std.proofs.Common.{◌≡◌, ℕ, List, Option, Some, None, inl, inr, refl, subst}
+use Rattle.std.proofs.Common.{◌≡◌, ℕ, List, Option, Some, None, Err, inl, inr, refl, subst, arith}
 use Rattle.pl_base.specs.declared.expanded.Argument.{Argument}
 use Rattle.pl_bundle.specs.Bundles.{bundle_of}
 use Rattle.pl_bundle.specs.declared.bundle.Bundle.{Bundle}
-use Rattle.pl_streams.specs.Whole.{Inflow, IsWhole}
+use Rattle.pl_streams.specs.Whole.{Inflow, IsRead, IsWhole, Outflow}
+use Rattle.pl_streams.specs.declared.reading.Unread.TheVariants as unread
 use Rattle.pl_offline.specs.Output.{IsLine, IsOutput, IsPlan}
-use Rattle.pl_offline.specs.Running.{Holds, Told}
+use Rattle.pl_offline.specs.Running.{Holds, Runs, Told}
+use Rattle.pl_offline.specs.declared.ending.Ending.TheVariants as ending
 use Rattle.pl_offline.specs.declared.output.Output.TheVariants as output
 
 module _ (arguments : List Argument) (bytes given : List ℕ) (old new : Inflow)
@@ -66,3 +68,15 @@ module _ (arguments : List Argument) (text : List ℕ) (old new : Inflow) where
     bundle_is = held.bundle_is;
     tells = inr held.tells;
   }
+
+-- ---- where memory was wanting
+
+module _ (arguments : List Argument) (old new : Inflow) (before after : Outflow)
+    (same : after ≡ before) where
+  pub cut_memory :
+      IsRead (Err unread.Memory) old new → Runs arguments ending.Memory old new before after
+  cut_memory cut = (cut.bytes, cut.gave, cut.within, cut.broken, same)
+
+  pub whole_memory :
+      (bytes : List ℕ) → IsWhole bytes old new → Runs arguments ending.Memory old new before after
+  whole_memory bytes whole = (bytes, whole.gave, omega (arith, whole.few), whole.quiet, same)

@@ -1,10 +1,10 @@
 -- A bundle that a source holds, compiled onto a sink.
-use Rattle.std.specs.Prelude.{◌≡◌, ◌⊎◌, ℕ, List, Some, None, Err}
+use Rattle.std.specs.Prelude.{◌≡◌, ◌≤◌, ◌⊎◌, ℕ, List, length, Some, None, Err}
 use Rattle.pl_base.specs.declared.expanded.Argument.{Argument}
 use Rattle.pl_bundle.specs.Bundles.{bundle_of}
 use Rattle.pl_bundle.specs.declared.bundle.Bundle.{Bundle}
 use Rattle.pl_base.specs.Streams.{with_front}
-use Rattle.pl_streams.specs.Whole.{Inflow, IsBegun, IsRead, IsSent, IsWhole, Outflow}
+use Rattle.pl_streams.specs.Whole.{Inflow, IsBegun, IsRead, IsSent, IsWhole, Outflow, taken_limit}
 use Rattle.pl_streams.specs.declared.reading.Unread.TheVariants as unread
 use Rattle.pl_offline.specs.Output.{IsLine, IsPlan}
 use Rattle.pl_offline.specs.declared.ending.Ending.{Ending}
@@ -38,5 +38,5 @@ Runs arguments ending.Spent old new before after =
 Runs arguments ending.WriteFault old new before after =
     (text : List ℕ) × Holds Told arguments text old new × IsBegun text before after
 Runs arguments ending.Memory old new before after =
-    (bytes : List ℕ) × (old.left ≡ with_front bytes new.left)
+    (bytes : List ℕ) × (old.left ≡ with_front bytes new.left) × (length bytes ≤ taken_limit)
     × (new.faults ≡ old.faults) × (after ≡ before)

@@ -12,8 +12,9 @@ use std::alloc::Global;
 /// The source is read to its end. Where its bytes are a bundle (files behind lines `%%% REPO REF
 /// PATH`, the root file first), the sink gets the text of the pipeline's plan, or the line `refused
 /// CODE REPO REF PATH:LINE:COL` of the first refusal; where they are none, nothing. At most
-/// 67,108,864 bytes are taken. The text is made before the first byte is written, so where memory
-/// is wanting nothing is written.
+/// 67,108,864 bytes are taken, however it ends. The text is made before the first byte is written,
+/// so where memory is wanting nothing is written.
+#[tactic(auto, using(crate::proofs::Telling::cut_memory, crate::proofs::Telling::whole_memory))]
 pub fn compile_bundle<S: Source, K: Sink>(
     alloc: Global,
     arguments: &List<Argument>,

@@ -29,7 +29,8 @@ one_cycle_of graph (Some c) (Some d) a b =
 
 one_of_jobs : (jobs : List JobSpec) (f g : Option Fault) → JobCycle jobs f → JobCycle jobs g → f ≡ g
 one_of_jobs jobs f g a b =
-    a.told ∙ (ap (fault_of (job_graph jobs)) (one_cycle_of (job_graph jobs) a.found b.found a.is b.is)
+    a.told ∙ (ap (fault_of (job_graph jobs))
+    (one_cycle_of (job_graph jobs) a.found b.found a.is b.is)
     ∙ sym b.told)
 
 one_going : (own : Option Fault) (later : Option Fault → Type 0) (f g : Option Fault) →

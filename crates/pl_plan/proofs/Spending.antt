@@ -127,7 +127,8 @@ refused_on Memory whole refused = tt
 refused_on (Refused code place) whole refused = ap (λ r. r >>= λ left. Ok tt) refused
 
 pub stops_in : (code : PlanCode) (seats : JobSpec → List Place) (most left : ℕ)
-    (stages : List StageSpec) (i : ℕ) (stage : StageSpec) (jobs : List JobSpec) (fault : PlacedFault PlanCode)
+    (stages : List StageSpec) (i : ℕ) (stage : StageSpec) (jobs : List JobSpec)
+    (fault : PlacedFault PlanCode)
     → left_over code most (seats_in seats stages) ≡
     left_over code left (seats_in seats (drop i stages))
     → i < length stages → stage ≡ get_or stages i stage → jobs ≡ stage.jobs

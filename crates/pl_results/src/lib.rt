@@ -12,12 +12,11 @@ mod places;
 mod statuses;
 mod view;
 
-pub use combining::{combined, worse};
-pub use legs::{KeyForm, Leg, all_legs, direct_legs};
-pub use members::{Member, PlanNode, is_named, job_at, jobs_of, members_of, result_of};
+pub use combining::combined;
+pub use legs::{KeyForm, Leg, direct_legs};
+pub use members::{Member, PlanNode, is_named, jobs_of, members_of};
 pub use parts::{
     Group, Part, job_part, job_parts, stage_group, stage_groups, stage_part, stage_parts,
 };
-pub use places::{all_places, direct, jobs_before, stages_before};
 pub use statuses::Statuses;
-pub use view::{JobView, RunView, result_at, view_outputs, view_result, views_of};
+pub use view::{JobView, RunView, views_of};

@@ -1,5 +1,5 @@
 -- A source that is read to its end, and bytes that are written whole.
-use Rattle.std.specs.Prelude.{◌≡◌, ◌<◌, ℕ, Bool, IsTrue, List, [], ◌++◌, length, Option}
+use Rattle.std.specs.Prelude.{◌≡◌, ◌<◌, ◌≤◌, ℕ, Bool, IsTrue, List, [], ◌++◌, length, Option}
 use Rattle.std.specs.Prelude.{Result, Ok, Err}
 use Rattle.std.specs.Option.{IfSome}
 use Rattle.pl_base.specs.Counts.{one_more}
@@ -37,16 +37,23 @@ pub record IsWhole (bytes : List ℕ) (old new : Inflow) : Type 0 where
   pub few : length bytes < taken_limit
   pub quiet : new.faults ≡ old.faults
 
--- It stopped before its end: a read failed, as many bytes were taken as may be, or memory was
+-- Why it stopped before its end: a read failed, as many bytes were taken as may be, or memory was
 -- wanting.
 abbrev pub IsBroken : Unread → List ℕ → Inflow → Inflow → Type 0
 IsBroken ReadFault bytes old new = new.faults ≡ one_more old.faults
 IsBroken Spent bytes old new = (length bytes ≡ taken_limit) × (new.faults ≡ old.faults)
 IsBroken Memory bytes old new = new.faults ≡ old.faults
 
+-- These bytes were taken, no more than may be, and then it stopped.
+pub record IsCutShort (why : Unread) (old new : Inflow) : Type 0 where
+  pub bytes : List ℕ
+  pub gave : Gave bytes old new
+  pub within : length bytes ≤ taken_limit
+  pub broken : IsBroken why bytes old new
+
 abbrev pub IsRead : Result (List ℕ) Unread → Inflow → Inflow → Type 0
 IsRead (Ok bytes) old new = IsWhole bytes old new
-IsRead (Err why) old new = (bytes : List ℕ) × (Gave bytes old new × IsBroken why bytes old new)
+IsRead (Err why) old new = IsCutShort why old new
 
 -- ---- writing
 

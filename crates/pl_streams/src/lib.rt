@@ -4,5 +4,5 @@
 mod reading;
 mod writing;
 
-pub use reading::{TAKEN_LIMIT, Unread, read_to_end};
+pub use reading::{PIECE, TAKEN_LIMIT, Unread, read_to_end};
 pub use writing::write_all;

@@ -9,7 +9,7 @@ use std::alloc::Global;
 pub const TAKEN_LIMIT: usize = 67_108_864;
 
 /// How many bytes one read asks for at most.
-const PIECE: usize = 65_536;
+pub const PIECE: usize = 65_536;
 
 /// Why a source wasn't read to its end.
 #[derive(Clone, Copy, Debug, PartialEq, Eq)]
@@ -24,8 +24,8 @@ pub enum Unread {
 
 /// All bytes of a source, in whatever pieces they come. Ok where the source told its end behind
 /// fewer than `TAKEN_LIMIT` bytes. ReadFault where a read failed, and its count of faults rose;
-/// Spent where `TAKEN_LIMIT` bytes were taken; Memory where memory was wanting. What was read
-/// before an error is lost.
+/// Spent where `TAKEN_LIMIT` bytes were taken; Memory where memory was wanting. At most
+/// `TAKEN_LIMIT` bytes are taken, whatever the answer. What was read before an error is lost.
 pub fn read_to_end<S: Source>(alloc: Global, source: &mut S) -> Result<Bytes, Unread>
     ensures { IsRead result (inflow S.Source source.old) (inflow S.Source source.new) }
 {

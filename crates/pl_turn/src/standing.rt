@@ -2,8 +2,8 @@ ghost use Rattle.std.specs.Prelude.{◌≡◌, ℕ, List};
 
 /// A value that threads take turns with.
 ///
-/// It stands for a list of entries, its history, and for the number of the first of them. Each
-/// entry names the number of a seat. Contracts see besides a label, which never changes.
+/// It stands for a list of entries, its history. Each entry names the number of a seat. Contracts
+/// see besides a label, which never changes.
 pub trait Standing {
     /// One entry of the history.
     type Entry;
@@ -16,9 +16,6 @@ pub trait Standing {
 
     /// The label of a value.
     ghost label: { Self → Self.Label };
-
-    /// The number of the first entry of a history. It never changes, and so the label tells it.
-    ghost first: { Self.Label → ℕ };
 
     /// The number of the seat that an entry names.
     ghost names: { Self.Entry → ℕ };

@@ -37,8 +37,6 @@ impl Standing for Notes {
 
     ghost label = { λ n. n.opening };
 
-    ghost first = { λ l. 1 };
-
     ghost names = { λ e. e.seat };
 
     ghost counted = { λ n. n.faults };

@@ -80,6 +80,10 @@ impl<T: Standing + Drop> TurnLock<T> {
     /// Waits for a turn and takes the value, whose history begins with what the seat has seen, and
     /// from then on is what it has seen. The value has the seat's label. The turn ends with
     /// `give_back`. After 2^64 - 1 turns of the lock it waits for ever.
+    ///
+    /// No clause keeps a caller from dropping the value or the seat now, or from returning early
+    /// between the two calls: then the turn never ends, and each later `take` of the lock waits for
+    /// ever. So nothing that may fail with `?` stands between `take` and `give_back`.
     pub fn take<R: Wait>(&self, rt: &R, seat: &mut Seat<T>) -> T
         requires own { seat.old.lock ≡ self.now }
         requires free { seat.old.turn ≡ false }

@@ -8,11 +8,9 @@ use Rattle.std.specs.Char.{is_ascii_digit}
 use Rattle.std.specs.List.{after_first, before_first, list_all, list_any, position_or_len}
 use Rattle.std.specs.List.{starts_with}
 use Rattle.std.specs.Cmp.Lexicographic.{pointwise}
-use Rattle.hex.specs.Hex.{decode_sized}
-use Rattle.hex.specs.declared.FromHexError.{FromHexError}
-use Rattle.sha2.specs.Sha256.{sha256}
 use Rattle.pl_base.specs.declared.digest.Digest.{Digest}
 use Rattle.pl_base.specs.declared.expanded.Argument.{Argument}
+use Rattle.pl_digests.specs.Digests.{digest_in, is_of_nothing}
 use Rattle.pl_words.specs.declared.command.Command.{Command}
 use Rattle.pl_words.specs.declared.command.Command.TheVariants.{Compile, Replay}
 
@@ -21,19 +19,14 @@ is_word text word = pointwise nat_eq text word
 
 -- ---- `--admin HEX`, or `--admin=HEX`
 
-abbrev pub is_lower_hex : ℕ → Bool
-is_lower_hex digit = is_ascii_digit digit || (nat_le 97 digit && nat_le digit 102)
-
 -- the digest of no bytes is nobody's
-abbrev pub unless_of_nothing : Result (List ℕ) FromHexError → Option Digest
-unless_of_nothing (Ok bytes) =
-    if pointwise nat_eq bytes (sha256 []) then None else Some (record { bytes = bytes })
-unless_of_nothing (Err fault) = None
+abbrev pub unless_of_nothing : Option Digest → Option Digest
+unless_of_nothing None = None
+unless_of_nothing (Some digest) = if is_of_nothing digest then None else Some digest
 
--- the 32 bytes that 64 lower-case hexadecimal digits are
+-- the digest that 64 lower-case hexadecimal digits are
 abbrev pub digest_of : List ℕ → Option Digest
-digest_of text =
-    if list_all is_lower_hex text then unless_of_nothing (decode_sized text 32) else None
+digest_of text = unless_of_nothing (digest_in text)
 
 abbrev pub admin_of : List (List ℕ) → Option Digest
 admin_of [] = None

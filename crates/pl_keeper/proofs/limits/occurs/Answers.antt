@@ -1,7 +1,0 @@
-use Rattle.std.proofs.lemmas.Str.Pattern.{contains_text}
-use Rattle.pl_texts.proofs.Contained.{contained}
-use Rattle.pl_keeper.proofs.limits.occurs.Goals as goal
-
-pub returns : goal.returns
-returns c = contained c.contains.result c.args.text.now c.args.piece.now
-    (contains_text c.contains.result _ _ c.contains.ensures.cases)

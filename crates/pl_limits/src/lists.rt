@@ -1,0 +1,129 @@
+ghost use Rattle.std.specs.Prelude.{◌≡◌, IfOk};
+ghost use Rattle.std.specs.Cmp.Lexicographic.{slice_cmp};
+ghost use Rattle.std.specs.List.{list_all};
+ghost use Rattle.std.specs.Ordering.{is_lt, nat_cmp};
+ghost use Rattle.pl_limits.specs.Limits.{are_capabilities, are_distinct, are_outputs, ascend};
+ghost use Rattle.pl_limits.specs.Limits.{follows, is_file_text, is_new, is_output, may_be_granted};
+ghost use Rattle.pl_limits.specs.Limits.{same_day, same_text};
+ghost use Rattle.pl_names.specs.Names.{is_name};
+
+use pl_base::{Bytes, ExactCopy, List, Memory, Text};
+use pl_names::is_name;
+use pl_rules::Day;
+use std::alloc::Global;
+use std::collections::BTreeSet;
+
+/// Whether a file's text has at most 262,144 bytes.
+pub fn is_file_text(text: &Bytes) -> bool
+    ensures { result ≡ is_file_text text.now }
+{
+    text.len() <= 262_144
+}
+
+/// Whether texts are names.
+pub(crate) fn are_names(texts: &List<Text>) -> bool
+    ensures { result ≡ list_all is_name texts.now }
+{
+    texts.as_slice().iter().all(|text| is_name(text.as_str()))
+}
+
+/// Whether the pipelines that may use a resource, where not all may, have names.
+pub fn may_be_granted(pipelines: &Option<List<Text>>) -> bool
+    ensures { result ≡ may_be_granted pipelines.now }
+{
+    match pipelines {
+        None => true,
+        Some(names) => are_names(names),
+    }
+}
+
+/// Whether an agent's capabilities have names that ascend in byte order, so that none stands twice.
+pub fn are_capabilities(told: &List<(Text, Text)>) -> bool
+    ensures { result ≡ are_capabilities told.now }
+{
+    have_names(told) && ascend(told.as_slice())
+}
+
+/// Whether what stands by names has names.
+fn have_names(pairs: &List<(Text, Text)>) -> bool
+    ensures { result ≡ list_all (λ told. is_name told.0) pairs.now }
+{
+    pairs.as_slice().iter().all(|pair| is_name(pair.0.as_str()))
+}
+
+/// Whether each name comes behind the one before it.
+fn ascend(pairs: &[(Text, Text)]) -> bool
+    ensures { result ≡ ascend pairs.now }
+{
+    for (at, pair) in pairs.iter().enumerate() {
+        if !follows(pairs.split_at(at).0, pair) {
+            return false;
+        }
+    }
+    true
+}
+
+/// Whether a name comes behind the last one of those before it.
+fn follows(before: &[(Text, Text)], pair: &(Text, Text)) -> bool
+    ensures { result ≡ follows before.now pair.now }
+{
+    match before.last() {
+        Some(last) => comes_before(&last.0, &pair.0),
+        None => true,
+    }
+}
+
+/// Whether a text comes before another one, byte by byte.
+fn comes_before(one: &Text, other: &Text) -> bool
+    ensures { result ≡ is_lt (slice_cmp nat_cmp one.now other.now) }
+{
+    one.as_bytes().cmp(other.as_bytes()).is_lt()
+}
+
+/// Whether a report's outputs are within their limits: at most 100, with names of at most 200 bytes
+/// and values of at most 4,096.
+pub fn are_outputs(told: &List<(Text, Text)>) -> bool
+    ensures { result ≡ are_outputs told.now }
+{
+    told.len() <= 100 && told.as_slice().iter().all(|one| is_output(one))
+}
+
+/// Whether an output is within its limits.
+fn is_output(told: &(Text, Text)) -> bool
+    ensures { result ≡ is_output told.now }
+{
+    told.0.len() <= 200 && told.1.len() <= 4096
+}
+
+/// Whether no text stands twice.
+pub(crate) fn are_distinct_texts(alloc: Global, texts: &[Text]) -> Result<bool, Memory>
+    ensures { IfOk result (λ are. are ≡ are_distinct same_text texts.now) }
+{
+    let mut before = BTreeSet::new(alloc);
+    for text in texts {
+        if before.contains(text) {
+            return Ok(false);
+        }
+        before.insert(text.copy(alloc)?)?;
+    }
+    Ok(true)
+}
+
+/// Whether no day stands twice.
+pub(crate) fn are_distinct_days(days: &[Day]) -> bool
+    ensures { result ≡ are_distinct same_day days.now }
+{
+    for (at, day) in days.iter().enumerate() {
+        if !is_new_day(days.split_at(at).0, *day) {
+            return false;
+        }
+    }
+    true
+}
+
+/// Whether a day isn't among those before it.
+fn is_new_day(before: &[Day], sought: Day) -> bool
+    ensures { result ≡ is_new same_day before.now sought }
+{
+    !before.iter().any(|day| sought.number() == day.number())
+}
