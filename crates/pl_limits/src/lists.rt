@@ -1,6 +1,6 @@
 ghost use Rattle.std.specs.Prelude.{◌≡◌, IfOk};
 ghost use Rattle.std.specs.Cmp.Lexicographic.{slice_cmp};
-ghost use Rattle.std.specs.List.{list_all};
+ghost use Rattle.std.specs.List.{list_all, list_any};
 ghost use Rattle.std.specs.Ordering.{is_lt, nat_cmp};
 ghost use Rattle.pl_limits.specs.Limits.{are_capabilities, are_distinct, are_outputs, ascend};
 ghost use Rattle.pl_limits.specs.Limits.{follows, is_file_text, is_new, is_output, may_be_granted};
@@ -85,7 +85,14 @@ fn comes_before(one: &Text, other: &Text) -> bool
 pub fn are_outputs(told: &List<(Text, Text)>) -> bool
     ensures { result ≡ are_outputs told.now }
 {
-    told.len() <= 100 && told.as_slice().iter().all(|one| is_output(one))
+    told.len() <= 100 && are_short(told)
+}
+
+/// Whether outputs have names of at most 200 bytes and values of at most 4,096.
+fn are_short(told: &List<(Text, Text)>) -> bool
+    ensures { result ≡ list_all is_output told.now }
+{
+    told.as_slice().iter().all(|one| is_output(one))
 }
 
 /// Whether an output is within its limits.
@@ -125,5 +132,19 @@ pub(crate) fn are_distinct_days(days: &[Day]) -> bool
 fn is_new_day(before: &[Day], sought: Day) -> bool
     ensures { result ≡ is_new same_day before.now sought }
 {
-    !before.iter().any(|day| sought.number() == day.number())
+    !is_among(before, sought)
+}
+
+/// Whether a day is among days.
+fn is_among(days: &[Day], sought: Day) -> bool
+    ensures { result ≡ list_any (same_day sought) days.now }
+{
+    days.iter().any(|day| same_day(sought, *day))
+}
+
+/// Whether two days are the same.
+fn same_day(one: Day, other: Day) -> bool
+    ensures { result ≡ same_day one other }
+{
+    one.number() == other.number()
 }
