@@ -42,7 +42,13 @@ fn stages_array(
         (zip stages.now statuses.now))) }
 {
     let mut items = List::new(alloc);
-    for (stage, status) in stages.as_slice().iter().zip(statuses.as_slice()) {
+    for at in 0..stages.len() {
+        let Some(stage) = stages.get(at) else {
+            return Ok(Json::Array(items));
+        };
+        let Some(status) = statuses.get(at) else {
+            return Ok(Json::Array(items));
+        };
         items.push(stage_status(alloc, stage, status)?)?;
     }
     Ok(Json::Array(items))
@@ -69,7 +75,13 @@ fn jobs_array(
         (zip jobs.now statuses.now))) }
 {
     let mut items = List::new(alloc);
-    for (job, status) in jobs.as_slice().iter().zip(statuses.as_slice()) {
+    for at in 0..jobs.len() {
+        let Some(job) = jobs.get(at) else {
+            return Ok(Json::Array(items));
+        };
+        let Some(status) = statuses.get(at) else {
+            return Ok(Json::Array(items));
+        };
         items.push(job_status(alloc, job, status)?)?;
     }
     Ok(Json::Array(items))
