@@ -4,10 +4,12 @@
 mod copies;
 mod entry;
 mod fact;
+mod sizes;
 
 pub use entry::Entry;
 pub use fact::{Event, Fact, QueuedRun};
 pub use pl_plan::Compiled;
+pub use sizes::{facts_size, fits, size_of, size_with};
 pub use pl_requests::{
     AgentSetting, Approval, Arguments, Body, BranchControl, BusinessHours, Call, Check, FileText,
     JobName, Json, Member, Members, Order, PipelineSetting, PrincipalSetting, Reply, Report,

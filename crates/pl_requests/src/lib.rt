@@ -6,6 +6,7 @@ mod copies;
 mod reply;
 mod request;
 mod settings;
+mod well_formed;
 
 pub use call::Call;
 pub use pl_checks::{
@@ -18,3 +19,4 @@ pub use request::{JobName, Order, Report, Request};
 pub use settings::{
     AgentSetting, FileText, PipelineSetting, PrincipalSetting, ResourceSetting,
 };
+pub use well_formed::{is_request, is_well_formed};

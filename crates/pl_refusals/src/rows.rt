@@ -1,0 +1,67 @@
+ghost use Rattle.std.specs.Prelude.{◌≡◌};
+ghost use Rattle.pl_refusals.specs.Rows.{name_of};
+
+use pl_rules::Rule;
+
+/// What a rule is called. It takes no memory.
+pub fn name_of(rule: &Rule) -> &'static str
+    ensures { result.now ≡ name_of rule.now }
+{
+    match rule {
+        Rule::JobUnknown => "job.unknown",
+        Rule::JobEnded { .. } => "job.ended",
+        Rule::JobTaken { .. } => "job.taken",
+        Rule::AgentBusy { .. } => "agent.busy",
+        Rule::PoolMismatch { .. } => "pool.mismatch",
+        Rule::CapabilityMissing { .. } => "capability.missing",
+        Rule::StageDepends { .. } => "stage.depends",
+        Rule::PermissionMissing { .. } => "permission.missing",
+        Rule::ApprovalOpen { .. } => "approval.open",
+        Rule::HoursClosed { .. } => "hours.closed",
+        Rule::LockHeld { .. } => "lock.held",
+        Rule::LockBehind { .. } => "lock.behind",
+        Rule::JobDepends { .. } => "job.depends",
+        Rule::ParallelFull { .. } => "parallel.full",
+        Rule::ConditionFalse => "condition.false",
+        Rule::RunCanceled => "run.canceled",
+        Rule::JobTimeout => "job.timeout",
+        Rule::TemplateRequired => "template.required",
+        Rule::TemplateArgument { .. } => "template.argument",
+        Rule::BranchRefused { .. } => "branch.refused",
+        Rule::ApprovalRejected { .. } => "approval.rejected",
+        Rule::ApprovalTimeout => "approval.timeout",
+        Rule::HoursTimeout => "hours.timeout",
+        Rule::LockSuperseded { .. } => "lock.superseded",
+        Rule::TokenUnknown => "token.unknown",
+        Rule::RoleMissing { .. } => "role.missing",
+        Rule::KeeperFault => "keeper.fault",
+        Rule::Memory => "memory",
+        Rule::NoRule => "none",
+        Rule::JournalFull => "journal.full",
+        Rule::FileUnknown => "file.unknown",
+        Rule::PipelineUnknown => "pipeline.unknown",
+        Rule::RunUnknown => "run.unknown",
+        Rule::StageUnknown => "stage.unknown",
+        Rule::AgentUnknown => "agent.unknown",
+        Rule::ApproverUnlisted => "approver.unlisted",
+        Rule::ApproverRequester => "approver.requester",
+        Rule::PrincipalReserved => "principal.reserved",
+        Rule::PipelineReserved => "pipeline.reserved",
+        Rule::RunEnded => "run.ended",
+        Rule::DecisionClosed { .. } => "decision.closed",
+        Rule::DecisionChanged { .. } => "decision.changed",
+        Rule::ReportStranger { .. } => "report.stranger",
+        Rule::ReportChanged { .. } => "report.changed",
+        Rule::ResourceBusy { .. } => "resource.busy",
+        Rule::TokenTaken { .. } => "token.taken",
+        Rule::ResourceUnknown { .. } => "resource.unknown",
+        Rule::CompileRefused { .. } => "compile.refused",
+        Rule::HeadLarge => "head.large",
+        Rule::HeadBad => "head.bad",
+        Rule::LengthMissing => "length.missing",
+        Rule::BodyLarge => "body.large",
+        Rule::RouteUnknown => "route.unknown",
+        Rule::MethodUnknown => "method.unknown",
+        Rule::BodyBad => "body.bad",
+    }
+}
