@@ -1,4 +1,3 @@
-use crate::parameters::put_parameters;
 use crate::pipelines::{Asked, put_pipeline_in};
 use crate::plans::Aspect;
 use crate::repeats::repeated;
@@ -17,8 +16,8 @@ pub fn first_line(text: &str) -> (&str, &str) {
     text.split_once('\n').unwrap_or((text, ""))
 }
 
-/// What a question of a pipeline asks.
-fn pipeline_question(question: &str) -> Option<Asked> {
+/// What a question asks.
+fn asked_by(question: &str) -> Option<Asked> {
     match question {
         "schema" => Some(Asked::Schema),
         "pipeline" => Some(Asked::Pipeline),
@@ -37,13 +36,9 @@ fn pipeline_question(question: &str) -> Option<Asked> {
 
 /// Puts the answer to a case.
 fn answer(alloc: Global, out: &mut Text, question: &str, case: &str) -> Result<(), Memory> {
-    match question {
-        "parameters" => put_parameters(alloc, out, false, case),
-        "message of parameters" => put_parameters(alloc, out, true, case),
-        _ => match pipeline_question(question) {
-            Some(asked) => put_pipeline_in(alloc, out, asked, case),
-            None => put_line(out, "%%% not read: ", question),
-        },
+    match asked_by(question) {
+        Some(asked) => put_pipeline_in(alloc, out, asked, case),
+        None => put_line(out, "%%% not read: ", question),
     }
 }
 

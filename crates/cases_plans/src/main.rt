@@ -1,4 +1,4 @@
-//! Cases of parameters, of pipelines as they are written, and of their plans.
+//! Cases of pipelines as they are written, and of their plans.
 //!
 //! The words of the command line name files of cases, whose answers are put in order. Behind a
 //! file's title stand questions, each on a line `%%% ask QUESTION`, and behind a question, after
@@ -8,13 +8,13 @@
 //! An answer is the line `%%% case NAME`, and then what comes of the case. A case is YAML without
 //! directives, in which a line `%%% times N` stands for N times the line below it: the expanded tree
 //! of `/ci.yml` in the repository `r` at the ref `m`, which extends itself and has the repository
-//! `n` under the alias `s` and `other` under `Self`, both at `t`. Questions of pipelines and plans:
+//! `n` under the alias `s` (for plans also `other` under `Self`), both at `t`. Questions are:
 //!
 //! - `schema`: `ok`, or the fault's code and place.
 //! - `pipeline`: what is written of it behind `=>`, then a line for each stage and each job. Places
 //!   are `LINE:COLUMN`.
 //! - `waits of a plan`: `[STAGE THAT IT WAITS FOR ..](JOB THAT IT WAITS FOR ..)` and so on, or the
-//!   fault's code and place and the names of a circle. A leg is `JOB.LEG`.
+//!   fault's code and place and the names of a cycle. A leg is `JOB.LEG`.
 //! - `variables of a plan`: `NAME=VALUE`, `NAME~VALUE` where it is an expression, `+GROUP`.
 //! - `pools of a plan`: `(JOB@POOL DEMAND DEMAND=VALUE)`.
 //! - `uses of a plan`: by stage environments `e:`, connections `c:`, groups `g:`, pools `p:`,
@@ -23,22 +23,10 @@
 //! - `steps of a plan`: `(JOB FORM@LINE:COLUMN ..)`.
 //! - `text of a plan`: as `pipectl compile` writes it.
 //! - `files of a pipeline`, `files of a plan`: what it tells of files beside stages.
-//!
-//! Questions of parameters:
-//!
-//! - `parameters`: the first line declares them. Without a second one the answer is what is
-//!   declared, each `NAME@PLACE TYPE`, its default behind `=`, its allowed values behind `|`. With a
-//!   second line, a mapping of what is given, it is what is bound, each `NAME = VALUE@PLACE+BORDERS`.
-//!   A text is in quotes, of a sequence or mapping the number of parts is told. In what is given
-//!   `'!true'`, `'!null'`, `'!5'` and the like are the atom behind the mark.
-//! - `message of parameters`: what a developer is told of a refusal.
 #![tactic(auto)]
 
 mod asking;
-mod bindings;
-mod given;
 mod numbers;
-mod parameters;
 mod pipelines;
 mod plans;
 mod pools;

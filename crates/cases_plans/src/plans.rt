@@ -82,8 +82,8 @@ fn put_names(out: &mut Text, names: &List<Text>) -> Result<(), Memory> {
     out.push_str("\n")
 }
 
-/// The names of a circle, if the fault is one.
-fn put_circle(out: &mut Text, code: &PlanCode) -> Result<(), Memory> {
+/// The names of a cycle, if the fault is one.
+fn put_cycle(out: &mut Text, code: &PlanCode) -> Result<(), Memory> {
     match code {
         PlanCode::Cycle(names) => put_names(out, names),
         _ => out.push_str("\n"),
@@ -94,7 +94,7 @@ fn put_refusal(alloc: Global, out: &mut Text, fault: &PlanFault) -> Result<(), M
     match fault {
         PlanFault::Refused(code, place) => {
             put_fault(alloc, out, code.code(), place)?;
-            put_circle(out, code)
+            put_cycle(out, code)
         }
         PlanFault::Memory => Err(Memory),
     }

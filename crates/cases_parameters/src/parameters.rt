@@ -1,9 +1,8 @@
 use crate::asking::first_line;
 use crate::bindings::{put_bounds, put_params};
 use crate::given::given_in;
-use crate::pipelines::put_fault;
-use crate::world::file;
-use pl_base::{List, Memory, Node, Text};
+use crate::numbers::put_place;
+use pl_base::{FileKey, List, Memory, Node, Text};
 use pl_params::{Complaint, Declared, Given, ParamFault, bind, declare};
 use pl_yaml::{YamlFault, read};
 use std::alloc::Global;
@@ -17,7 +16,9 @@ fn put_message(alloc: Global, out: &mut Text, complaint: &Complaint) -> Result<(
 }
 
 fn put_code(alloc: Global, out: &mut Text, complaint: &Complaint) -> Result<(), Memory> {
-    put_fault(alloc, out, complaint.problem.code(), &complaint.place)?;
+    out.push_str(complaint.problem.code())?;
+    out.push_str(" ")?;
+    put_place(alloc, out, &complaint.place)?;
     out.push_str("\n")
 }
 
@@ -69,6 +70,18 @@ fn put_given(
 ) -> Result<(), Memory> {
     let given = given_in(alloc, node)?;
     put_bound(alloc, out, is_message, declared, &given)
+}
+
+/// The file of all cases.
+fn file(alloc: Global) -> Result<FileKey, Memory> {
+    let repo = Text::from_str(alloc, "app")?;
+    let git_ref = Text::from_str(alloc, "refs/heads/main")?;
+    let path = Text::from_str(alloc, "/t.yml")?;
+    Ok(FileKey {
+        repo,
+        git_ref,
+        path,
+    })
 }
 
 /// A text's node.
