@@ -1,7 +1,9 @@
 use crate::fields::{field, file, number, texts};
 use pl_base::{FileKey, List, Memory, Text};
-use pl_checks::{Approval, Arguments, BranchControl, BusinessHours, Check, RequiredTemplate};
-use pl_checks::{Zone, ZoneFault, zone_of};
+use pl_checks::{
+    Approval, Arguments, BranchControl, BusinessHours, Check, RequiredTemplate, Zone, ZoneFault,
+    zone_of,
+};
 use pl_rules::Day;
 use std::alloc::Global;
 

@@ -53,12 +53,7 @@ fn enter(out: &mut Text, lists: &mut Contenders, stage: Contender) -> Result<(),
     write_line(out, "", " is there")
 }
 
-fn hold(
-    out: &mut Text,
-    lists: &mut Contenders,
-    run: u64,
-    position: u32,
-) -> Result<(), Memory> {
+fn hold(out: &mut Text, lists: &mut Contenders, run: u64, position: u32) -> Result<(), Memory> {
     if let Some((next_run, next_position)) = lists.next()
         && next_run == run
         && next_position == position

@@ -1,7 +1,7 @@
 use crate::fields::{field, file};
 use crate::steps::steps_of;
 use pl_base::{FileKey, LAST_MOMENT, List, Memory, Moment, RepoRef, Text};
-use pl_checks::{Check, CheckView, StepMark};
+use pl_checks::{Check, CheckView};
 use std::alloc::Global;
 
 /// The two parts of a line that its last bar parts; the second one is empty where there is none.
@@ -27,45 +27,34 @@ pub fn moment_of(check: &Check, view: &CheckView, line: &str) -> Moment {
 
 /// What a line tells of a stage to a check of its kind: decisions, a moment at which it was ready,
 /// the file that its run extends and its steps, or the refs that its run is linked to.
-pub fn view_of(
-    alloc: Global,
-    world: &str,
-    check: &Check,
-    line: &str,
-) -> Result<CheckView, Memory> {
+pub fn view_of(alloc: Global, world: &str, check: &Check, line: &str) -> Result<CheckView, Memory> {
     let (front, behind) = parts(line);
     match check {
         Check::Approval(_) => decided(alloc, world, front),
-        Check::Hours(_) => ready(alloc, seconds(front)),
+        Check::Hours(_) => ready_at(alloc, seconds(front)),
         Check::RequiredTemplate(_) => extending(alloc, front, behind),
         Check::Branch(_) => linked(alloc, line),
     }
 }
 
-/// A stage that was ready then, whose run this one queued.
-fn ready_for(alloc: Global, requester: Text, ready: Moment) -> CheckView {
-    CheckView {
-        requester,
+/// A stage that was ready then.
+fn ready_at(alloc: Global, ready: Moment) -> Result<CheckView, Memory> {
+    Ok(CheckView {
+        requester: Text::new(alloc),
         decisions: List::new(alloc),
         ready,
         linked: List::new(alloc),
         extends: None,
         steps: List::new(alloc),
-    }
-}
-
-fn ready(alloc: Global, ready: Moment) -> Result<CheckView, Memory> {
-    Ok(ready_for(alloc, Text::new(alloc), ready))
+    })
 }
 
 fn decision(alloc: Global, word: &str) -> Result<(Text, bool), Memory> {
-    match word.strip_prefix('+') {
-        Some(name) => Ok((Text::from_str(alloc, name)?, true)),
-        None => Ok((
-            Text::from_str(alloc, word.strip_prefix('-').unwrap_or(word))?,
-            false,
-        )),
-    }
+    let (name, is_approval) = match word.strip_prefix('+') {
+        Some(name) => (name, true),
+        None => (word.strip_prefix('-').unwrap_or(word), false),
+    };
+    Ok((Text::from_str(alloc, name)?, is_approval))
 }
 
 fn decisions(alloc: Global, words: &str) -> Result<List<(Text, bool)>, Memory> {
@@ -76,11 +65,18 @@ fn decisions(alloc: Global, words: &str) -> Result<List<(Text, bool)>, Memory> {
     Ok(decisions)
 }
 
+/// A stage with these decisions.
 fn decided(alloc: Global, world: &str, words: &str) -> Result<CheckView, Memory> {
     let requester = Text::from_str(alloc, field(world, "queuedBy"))?;
     let decisions = decisions(alloc, words)?;
-    let view = ready_for(alloc, requester, seconds(field(world, "ready")));
-    Ok(CheckView { decisions, ..view })
+    Ok(CheckView {
+        requester,
+        decisions,
+        ready: seconds(field(world, "ready")),
+        linked: List::new(alloc),
+        extends: None,
+        steps: List::new(alloc),
+    })
 }
 
 fn repo_ref(alloc: Global, name: &str) -> Result<RepoRef, Memory> {
@@ -97,10 +93,17 @@ fn repo_refs(alloc: Global, refs: &str) -> Result<List<RepoRef>, Memory> {
     Ok(linked)
 }
 
+/// A stage whose run is linked to these refs.
 fn linked(alloc: Global, refs: &str) -> Result<CheckView, Memory> {
     let linked = repo_refs(alloc, refs)?;
-    let view = ready_for(alloc, Text::new(alloc), 0);
-    Ok(CheckView { linked, ..view })
+    Ok(CheckView {
+        requester: Text::new(alloc),
+        decisions: List::new(alloc),
+        ready: 0,
+        linked,
+        extends: None,
+        steps: List::new(alloc),
+    })
 }
 
 fn named(alloc: Global, path: &str) -> Result<Option<FileKey>, Memory> {
@@ -110,19 +113,16 @@ fn named(alloc: Global, path: &str) -> Result<Option<FileKey>, Memory> {
     Ok(Some(file(alloc, path)?))
 }
 
+/// A stage with these steps, whose run extends this file.
 fn extending(alloc: Global, path: &str, words: &str) -> Result<CheckView, Memory> {
-    let extends = named(alloc, path)?;
     let steps = steps_of(alloc, words)?;
-    Ok(extended(alloc, extends, steps))
-}
-
-fn extended(alloc: Global, extends: Option<FileKey>, steps: List<StepMark>) -> CheckView {
-    CheckView {
+    let extends = named(alloc, path)?;
+    Ok(CheckView {
         requester: Text::new(alloc),
         decisions: List::new(alloc),
         ready: 0,
         linked: List::new(alloc),
         extends,
         steps,
-    }
+    })
 }

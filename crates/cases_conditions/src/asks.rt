@@ -76,12 +76,7 @@ fn answer_lines(
 }
 
 /// Answers whether a stage or a job runs, each case being how a run stands.
-fn answer_runs(
-    alloc: Global,
-    out: &mut Text,
-    pipeline: &str,
-    cases: &str,
-) -> Result<(), Memory> {
+fn answer_runs(alloc: Global, out: &mut Text, pipeline: &str, cases: &str) -> Result<(), Memory> {
     for case in cases.split("\n%%% case ") {
         let (name, run) = case.split_once('\n').unwrap_or((case, ""));
         write_line(out, "%%% case ", name)?;
@@ -93,7 +88,11 @@ fn answer_runs(
 fn answer_run(alloc: Global, out: &mut Text, pipeline: &str, run: &str) -> Result<(), Memory> {
     let (place, stages) = run.split_once('\n').unwrap_or((run, ""));
     let view = view_of(alloc, stages)?;
-    write_line(out, answer_condition(alloc, pipeline, place, &view, "")?, "")
+    write_line(
+        out,
+        answer_condition(alloc, pipeline, place, &view, "")?,
+        "",
+    )
 }
 
 /// Answers which variables a job is handed, each case being how a run stands.

@@ -51,12 +51,7 @@ fn answer_line(alloc: Global, out: &mut Text, question: &str, line: &str) -> Res
     }
 }
 
-fn answer_bytes(
-    alloc: Global,
-    out: &mut Text,
-    question: &str,
-    bytes: &[u8],
-) -> Result<(), Memory> {
+fn answer_bytes(alloc: Global, out: &mut Text, question: &str, bytes: &[u8]) -> Result<(), Memory> {
     match str::from_utf8(bytes) {
         Ok(text) => answer_text(alloc, out, question, text),
         Err(_) => write_line(out, "no text", ""),

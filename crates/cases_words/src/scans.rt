@@ -22,7 +22,9 @@ fn stop_of(bytes: &[u8], piece: usize) -> Option<usize> {
 fn stays_at_the_last(bytes: &[u8]) -> bool {
     let len = bytes.len();
     let front = bytes.split_at(len.saturating_sub(1)).0;
-    stop_of(bytes, 1) == Some(len) && stop_of(bytes, len) == Some(len) && stop_of(front, 3).is_none()
+    stop_of(bytes, 1) == Some(len)
+        && stop_of(bytes, len) == Some(len)
+        && stop_of(front, 3).is_none()
 }
 
 /// Writes whether a scanner stays in front of the last byte.
