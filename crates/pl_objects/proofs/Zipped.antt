@@ -20,7 +20,7 @@ drop_past [] (suc at) e = refl
 drop_past (x ∷ xs) zero e = absurd (none-some x (sym e))
 drop_past (x ∷ xs) (suc at) e = drop_past xs at e
 
-zip_none : {X Y : Type 0} (xs : List X) → zip xs ([] : List Y) ≡ []
+zip_none : {X Y : Type 0} (xs : List X) → zip {K = X} {X = Y} xs [] ≡ []
 zip_none [] = refl
 zip_none (x ∷ xs) = refl
 

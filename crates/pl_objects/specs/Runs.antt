@@ -68,4 +68,4 @@ run_object run status =
     ∷ text (codes "requester") run.requester
     ∷ number (codes "run") run.run
     ∷ member (codes "stages") (json.Array (map stage_status (zip run.compiled.plan.stages
-        status.stages))) ∷ [])
+    status.stages))) ∷ [])

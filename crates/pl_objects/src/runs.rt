@@ -9,9 +9,7 @@ use pl_base::{List, Memory};
 use pl_facts::QueuedRun;
 use pl_json::{Json, Member};
 use pl_plan::{PlanJob, PlanStage, label_of};
-use pl_refusals::{
-    number, outcome_name, push, rule_object, state_name, text, text_or_null, word,
-};
+use pl_refusals::{number, outcome_name, push, rule_object, state_name, text, text_or_null, word};
 use pl_rules::State;
 use std::alloc::Global;
 
@@ -142,7 +140,8 @@ fn rule_in(alloc: Global, progress: &Progress) -> Result<Json, Memory>
 {
     match progress {
         Progress::Ended {
-            rule: Some(rule), ..
+            rule: Some(rule),
+            ..
         } => rule_object(alloc, rule),
         Progress::Ended { rule: None, .. } => Ok(Json::Null),
         Progress::Waiting => Ok(Json::Null),

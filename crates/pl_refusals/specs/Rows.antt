@@ -142,9 +142,11 @@ row (ResourceBusy stages) =
     (codes "resource.busy", member (codes "stages") (json.Array (map stage_object stages)) ∷ [])
 row (TokenTaken name) = (codes "token.taken", text (codes "name") name ∷ [])
 row (ResourceUnknown told) = (codes "resource.unknown", resource told)
-row (CompileRefused told) =
-    (codes "compile.refused", member (codes "at") (place_object told.place)
-    ∷ text (codes "code") told.code ∷ member (codes "detail") (texts told.detail) ∷ [])
+row (CompileRefused told) = (
+  codes "compile.refused",
+  member (codes "at") (place_object told.place)
+      ∷ text (codes "code") told.code ∷ member (codes "detail") (texts told.detail) ∷ [],
+)
 row HeadLarge = (codes "head.large", [])
 row HeadBad = (codes "head.bad", [])
 row LengthMissing = (codes "length.missing", [])

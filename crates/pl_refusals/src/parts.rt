@@ -6,11 +6,10 @@ ghost use Rattle.pl_json.specs.declared.json.Json.TheVariants as json;
 ghost use Rattle.pl_refusals.specs.Rows.{file_members, file_object, number, place_object, resource};
 ghost use Rattle.pl_refusals.specs.Rows.{stage_at, stage_object, text, text_or_null, texts};
 
+use crate::names::kind_name;
 use pl_base::{ExactCopy, FileKey, List, Memory, Place, ResourceKey, Text};
 use pl_json::{Json, Member};
 use std::alloc::Global;
-
-use crate::names::kind_name;
 
 /// A member that is a copy of a text, whose characters it shares where they are shared.
 pub fn text(alloc: Global, name: &str, told: &Text) -> Result<Member<Json>, Memory>

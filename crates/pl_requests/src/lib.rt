@@ -16,7 +16,5 @@ pub use pl_json::{Json, Member, Members};
 pub use pl_rules::{Role, Rule};
 pub use reply::{Body, Reply};
 pub use request::{JobName, Order, Report, Request};
-pub use settings::{
-    AgentSetting, FileText, PipelineSetting, PrincipalSetting, ResourceSetting,
-};
+pub use settings::{AgentSetting, FileText, PipelineSetting, PrincipalSetting, ResourceSetting};
 pub use well_formed::{is_request, is_well_formed};

@@ -1,6 +1,4 @@
-use crate::settings::{
-    AgentSetting, FileText, PipelineSetting, PrincipalSetting, ResourceSetting,
-};
+use crate::settings::{AgentSetting, FileText, PipelineSetting, PrincipalSetting, ResourceSetting};
 use pl_base::{Argument, Bytes, FileKey, List, Outcome, Shared, Text};
 
 /// A request to the service: one variant a route, with the route's parts and its body. What may be
@@ -26,9 +24,13 @@ pub enum Request {
     /// `POST /runs`: a run of a pipeline.
     Queue(Shared<Order>),
     /// `GET /runs/{n}`: how the run stands.
-    ReadRun { run: u64 },
+    ReadRun {
+        run: u64,
+    },
     /// `POST /runs/{n}/cancel`: the run is to end.
-    Cancel { run: u64 },
+    Cancel {
+        run: u64,
+    },
     /// `POST /runs/{n}/stages/{s}/decision`: the caller approves the stage, or rejects it.
     Decide {
         run: u64,
@@ -40,9 +42,15 @@ pub enum Request {
     /// `POST /runs/{n}/stages/{s}/jobs/{j}/claim`: this job for the calling agent.
     Claim(JobName),
     /// `GET /runs/{n}/stages/{s}/jobs/{j}/why/{agent}`: why the agent can't have this job.
-    Why { job: JobName, agent: Text },
+    Why {
+        job: JobName,
+        agent: Text,
+    },
     /// `POST /runs/{n}/stages/{s}/jobs/{j}/report`: how the calling agent's job ended.
-    Report { job: JobName, report: Shared<Report> },
+    Report {
+        job: JobName,
+        report: Shared<Report>,
+    },
     /// `POST /shutdown`: the service is to stop.
     Shutdown,
 }

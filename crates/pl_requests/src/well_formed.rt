@@ -14,9 +14,7 @@ use crate::request::{JobName, Order, Report, Request};
 use crate::settings::{AgentSetting, PipelineSetting, PrincipalSetting, ResourceSetting};
 use pl_base::{Argument, LAST_MOMENT, List, Memory, Outcome, Text};
 use pl_digests::is_of_nothing;
-use pl_limits::{
-    are_capabilities, are_checks, are_outputs, is_file_text, is_run, may_be_granted,
-};
+use pl_limits::{are_capabilities, are_checks, are_outputs, is_file_text, is_run, may_be_granted};
 use pl_names::{is_key, is_label, is_name, is_path, is_ref, is_repository};
 use std::alloc::Global;
 use std::cmp::Ordering;
@@ -63,9 +61,7 @@ pub fn is_request(alloc: Global, request: &Request) -> Result<bool, Memory>
 fn is_pipeline(told: &PipelineSetting) -> bool
     ensures { result ≡ is_request (SetPipeline told.now) }
 {
-    is_name(told.name.as_str())
-        && is_repository(told.repo.as_str())
-        && is_path(told.path.as_str())
+    is_name(told.name.as_str()) && is_repository(told.repo.as_str()) && is_path(told.path.as_str())
 }
 
 fn is_resource(alloc: Global, told: &ResourceSetting) -> Result<bool, Memory>
@@ -113,9 +109,7 @@ fn are_arguments(told: &List<Argument>) -> bool
 fn have_names(told: &List<Argument>) -> bool
     ensures { result ≡ list_all (λ one. is_name one.name) told.now }
 {
-    told.as_slice()
-        .iter()
-        .all(|one| is_name(one.name.as_str()))
+    told.as_slice().iter().all(|one| is_name(one.name.as_str()))
 }
 
 /// Whether each argument's name stands before the next one's.

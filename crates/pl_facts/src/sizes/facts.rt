@@ -77,7 +77,10 @@ impl Counted for QueuedRun {
     ghost bytes = { run_size };
 
     fn size(&self) -> u64 {
-        let rest = self.requester.size().saturating_add(self.compiled.sources.size());
+        let rest = self
+            .requester
+            .size()
+            .saturating_add(self.compiled.sources.size());
         self.pipeline.size().saturating_add(rest)
     }
 }
@@ -98,9 +101,7 @@ impl Counted for Event {
             Event::StageStarted { .. } => 0,
             Event::StageEnded { rule, .. } => rule.size(),
             Event::JobTaken { agent, .. } => agent.size(),
-            Event::JobEnded { rule, outputs, .. } => {
-                rule.size().saturating_add(outputs.size())
-            }
+            Event::JobEnded { rule, outputs, .. } => { rule.size().saturating_add(outputs.size()) }
             Event::RunCanceled { .. } => 0,
         }
     }

@@ -120,9 +120,7 @@ impl Counted for Request {
             Request::Draw => 0,
             Request::Claim(job) => job.size(),
             Request::Why { job, agent } => job.size().saturating_add(agent.size()),
-            Request::Report { job, report } => {
-                job.size().saturating_add(report.outputs.size())
-            }
+            Request::Report { job, report } => { job.size().saturating_add(report.outputs.size()) }
             Request::Shutdown => 0,
         }
     }
