@@ -20,11 +20,19 @@ pub enum Asked {
     Plan(Aspect),
 }
 
-/// How many repositories the root file has.
-fn repositories_at(asked: Asked) -> usize {
+/// Whether the root file has both repositories.
+fn has_both(asked: Asked) -> bool {
     match asked {
-        Asked::Plan(_) => 2,
-        _ => 1,
+        Asked::Plan(_) => true,
+        _ => false,
+    }
+}
+
+/// What is said of a text that isn't in the profile of YAML.
+fn no_yaml(asked: Asked) -> &'static str {
+    match asked {
+        Asked::Plan(_) => "no pipeline\n",
+        _ => "no YAML\n",
     }
 }
 
@@ -123,7 +131,7 @@ fn put_expanded(
 }
 
 fn put_tree(alloc: Global, out: &mut Text, asked: Asked, node: &Node) -> Result<(), Memory> {
-    let whole = expanded(alloc, node, repositories_at(asked))?;
+    let whole = expanded(alloc, node, has_both(asked))?;
     put_expanded(alloc, out, asked, &whole)
 }
 
@@ -136,7 +144,7 @@ fn put_read(
 ) -> Result<(), Memory> {
     match read(alloc, case.as_bytes(), file) {
         Ok(node) => put_tree(alloc, out, asked, &node),
-        Err(_) => out.push_str("no YAML\n"),
+        Err(_) => out.push_str(no_yaml(asked)),
     }
 }
 

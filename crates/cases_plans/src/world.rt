@@ -25,21 +25,22 @@ fn repository(alloc: Global, alias: &str, name: &str) -> Result<Repository, Memo
     })
 }
 
-/// The first so many repositories.
-fn repositories(alloc: Global, most: usize) -> Result<List<Repository>, Memory> {
+/// The alias `s` of `n`, and where both are wanted the alias `Self` of `other`.
+fn repositories(alloc: Global, both: bool) -> Result<List<Repository>, Memory> {
     let mut all = List::new(alloc);
-    for (alias, name) in [("s", "n"), ("Self", "other")].into_iter().take(most) {
-        all.push(repository(alloc, alias, name)?)?;
+    all.push(repository(alloc, "s", "n")?)?;
+    if both {
+        all.push(repository(alloc, "Self", "other")?)?;
     }
     Ok(all)
 }
 
-/// A node as it is written, in a file that extends itself and has so many repositories besides.
-pub fn expanded(alloc: Global, node: &Node, most: usize) -> Result<Expanded, Memory> {
+/// A node as it is written, in a file that extends itself and has one repository or both.
+pub fn expanded(alloc: Global, node: &Node, both: bool) -> Result<Expanded, Memory> {
     let tree = literal(alloc, node, &SharedList::new(alloc)?)?;
     let root = file(alloc)?;
     let extends = Some(file(alloc)?);
-    let repositories = repositories(alloc, most)?;
+    let repositories = repositories(alloc, both)?;
     Ok(Expanded {
         tree,
         root,
