@@ -2,8 +2,6 @@
 #![tactic(auto)]
 
 mod laws;
-#[cfg(test)]
-mod tests;
 mod utf8;
 
 pub use laws::what_is_printed_reads_back;

@@ -1,9 +1,10 @@
 -- What was written and what was read, a piece more.
-use Rattle.std.proofs.Common.{◌≡◌, ℕ, ◌+◌, List, [], ◌∷◌, ◌++◌, Option, Some, None, take, drop}
-use Rattle.std.proofs.Common.{refl}
-use Rattle.std.proofs.Common.{ap, sym, ◌∙◌}
+use Rattle.std.proofs.Common.{◌≡◌, ℕ, ◌+◌, ◌≤◌, List, [], ◌∷◌, ◌++◌, Option, Some, None, take, drop}
+use Rattle.std.proofs.Common.{length, refl, ap, sym, ◌∙◌, arith}
+use Rattle.std.specs.Prelude.{min}
+use Rattle.std.proofs.Math.Nat.{min-le_left, min-le_right}
 use Rattle.std.proofs.Math.Seq.{take-add}
-use Rattle.std.proofs.lemmas.List.{append_assoc}
+use Rattle.std.proofs.lemmas.List.{append_assoc, length-take}
 use Rattle.pl_base.specs.Streams.{with_end, with_front}
 
 end_more :
@@ -38,3 +39,11 @@ read_more old between new bytes more so_far next =
 pub none_read : (left : Option (List ℕ)) → left ≡ with_front [] left
 none_read None = refl
 none_read (Some rest) = refl
+
+-- ---- how much a piece may be
+
+pub taken_most : (count : ℕ) (xs : List ℕ) → length (take count xs) ≤ count
+taken_most count xs = omega (arith, length-take count xs, min-le_left count (length xs))
+
+pub room_within : (room a b : ℕ) → room ≡ min a b → room ≤ b
+room_within room a b is = omega (arith, min-le_right a b, is)

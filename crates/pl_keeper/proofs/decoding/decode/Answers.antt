@@ -17,7 +17,7 @@ pub returns-clause-torn : goal.returns-clause-torn
 returns-clause-torn c = λ torn kept is within same.
     let one = one_record c.in_ok-record.record kept c.in_ok-record.ensures.ok.0 is
     (sym c.in_ok-record.ensures.ok.1 ∙ same) in
-    let not_good = refused c.in_ok-record.record c.kept_if.result c.is_within-is_good.result
+    let not_good = refused c.in_ok-record.record c.kept_if.result c.in_ok-is_good.is_good
     c.kept_if.ensures torn in
     true≢false (sym within ∙ (ap is_within (sym one) ∙
-    (sym c.is_within-is_good.ensures ∙ not_good)))
+    (sym c.in_ok-is_good.ensures ∙ not_good)))

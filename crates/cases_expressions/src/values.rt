@@ -1,0 +1,113 @@
+//! Values as cases write them, their conversions, and how they are compared.
+use crate::trees::push_expr_printed;
+use pl_base::{List, Memory, Text, Value};
+use pl_expr::{Expr, Mode, loosely_equal, order, parse, to_bool, to_number, to_text, to_version};
+use std::alloc::Global;
+use std::cmp::Ordering;
+
+/// A number of at most 32 bits, or 0 where the text is none.
+pub fn number(text: &str) -> u32 {
+    text.parse::<u32>().unwrap_or(0)
+}
+
+/// The value that a text writes: `[` is an empty array, `{` an empty object, `letters N` a text of
+/// N times the letter x, and anything else a literal of the expression language, or Null.
+pub fn value_of(alloc: Global, text: &str) -> Result<Value, Memory> {
+    match text {
+        "[" => Ok(Value::Array(List::new(alloc))),
+        "{" => Ok(Value::Object(List::new(alloc))),
+        _ => match text.strip_prefix("letters ") {
+            Some(count) => letters(alloc, number(count)),
+            None => literal(alloc, text),
+        },
+    }
+}
+
+fn letters(alloc: Global, count: u32) -> Result<Value, Memory> {
+    let mut content = Text::new(alloc);
+    for _ in 0..count {
+        content.push_str("x")?;
+    }
+    Ok(Value::Str(content))
+}
+
+fn literal(alloc: Global, text: &str) -> Result<Value, Memory> {
+    let text = Text::from_str(alloc, text)?;
+    match parse(alloc, &text, Mode::Condition) {
+        Ok(Expr::Lit(value)) => Ok(value),
+        _ => Ok(Value::Null),
+    }
+}
+
+/// A value converted to a text.
+pub fn push_converted(alloc: Global, out: &mut Text, value: &Value) -> Result<(), Memory> {
+    let text = to_text(alloc, value)?;
+    out.push_str(text.as_str())
+}
+
+/// What is printed of a value as a literal.
+pub fn push_literal_printed(alloc: Global, out: &mut Text, text: &str) -> Result<(), Memory> {
+    let expr = Expr::Lit(value_of(alloc, text)?);
+    push_expr_printed(alloc, out, &expr)
+}
+
+/// A value converted: `BOOLEAN|NUMBER|TEXT|VERSION`.
+pub fn push_conversions(alloc: Global, out: &mut Text, text: &str) -> Result<(), Memory> {
+    let value = value_of(alloc, text)?;
+    push_value_converted(alloc, out, &value)
+}
+
+fn push_value_converted(alloc: Global, out: &mut Text, value: &Value) -> Result<(), Memory> {
+    push_bool(out, to_bool(value))?;
+    out.push_str("|")?;
+    push_number(alloc, out, value)?;
+    out.push_str("|")?;
+    push_converted(alloc, out, value)?;
+    out.push_str("|")?;
+    push_version(alloc, out, value)
+}
+
+pub fn push_bool(out: &mut Text, truth: bool) -> Result<(), Memory> {
+    out.push_str(if truth { "true" } else { "false" })
+}
+
+fn push_number(alloc: Global, out: &mut Text, value: &Value) -> Result<(), Memory> {
+    match to_number(value) {
+        Some(number) => push_converted(alloc, out, &Value::Number(number)),
+        None => out.push_str("none"),
+    }
+}
+
+fn push_version(alloc: Global, out: &mut Text, value: &Value) -> Result<(), Memory> {
+    match to_version(alloc, value)? {
+        Some(version) => push_converted(alloc, out, &version),
+        None => Ok(()),
+    }
+}
+
+/// How two values `LEFT|RIGHT` are compared: `EQUAL ORDER`.
+pub fn push_comparison(alloc: Global, out: &mut Text, text: &str) -> Result<(), Memory> {
+    let (left, right) = text.split_once('|').unwrap_or((text, ""));
+    let left = value_of(alloc, left)?;
+    push_compared(alloc, out, &left, right)
+}
+
+fn push_compared(alloc: Global, out: &mut Text, left: &Value, right: &str) -> Result<(), Memory> {
+    let right = value_of(alloc, right)?;
+    push_both_compared(alloc, out, left, &right)
+}
+
+fn push_both_compared(
+    alloc: Global,
+    out: &mut Text,
+    left: &Value,
+    right: &Value,
+) -> Result<(), Memory> {
+    push_bool(out, loosely_equal(alloc, left, right)?)?;
+    match order(alloc, left, right)? {
+        Some(Ordering::Less) => out.push_str(" Less"),
+        Some(Ordering::Equal) => out.push_str(" Equal"),
+        Some(Ordering::Greater) => out.push_str(" Greater"),
+        None => out.push_str(" None"),
+    }
+}

@@ -1,6 +1,0 @@
-mod bindings;
-mod declarations;
-mod messages;
-mod notation;
-mod shown;
-mod table;

@@ -1,0 +1,5 @@
+mod every_list;
+mod plain;
+mod stages;
+mod streams;
+mod zones;
