@@ -42,8 +42,8 @@ pub fn facts_size(facts: &[Fact]) -> u64
 
 /// Whether a request and the facts that it adds have at most so many bytes of texts. It takes no
 /// memory.
-pub fn fits(request: &Request, facts: &[Fact], most: u64) -> bool
+pub fn fits(request: &Request, facts: &[Fact], most: u32) -> bool
     ensures { IsTrue result ↔ (size_with request.now facts.now ≤ most) }
 {
-    size_with(request, facts) <= most
+    size_with(request, facts) <= u64::from(most)
 }
