@@ -79,7 +79,7 @@ fn first_ten(alloc: Global, text: &str) -> Result<Text, Memory> {
 
 /// Writes after how many bytes a head is read, and the first ten characters of its reading.
 pub fn answer_limit(alloc: Global, out: &mut Text, bytes: &[u8]) -> Result<(), Memory> {
-    let place = decided_at(bytes);
+    let place = decided_at(bytes).min(bytes.len());
     let digits = place.to_string(alloc)?;
     out.push_str(digits.as_str())?;
     let reading = shown(alloc, bytes.split_at(place).0)?;
