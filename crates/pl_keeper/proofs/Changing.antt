@@ -1,7 +1,6 @@
 -- Rows that are in order, and what a change leaves of them.
 use Rattle.std.proofs.Common.{◌≡◌, ℕ, zero, suc, ◌+◌, ◌≤◌, ◌<◌, Bool, true, false, not, true≢false}
-use Rattle.std.proofs.Common.{List, [], ◌∷◌, ◌++◌, length, take, drop, get_or, length-drop, reverse}
-use Rattle.std.proofs.Common.{Option}
+use Rattle.std.proofs.Common.{List, [], ◌∷◌, ◌++◌, length, take, drop, get_or, length-drop, Option}
 use Rattle.std.proofs.Common.{Some, None, refl, sym, ap, ◌∙◌, arith}
 use Rattle.std.specs.declared.cmp.Ordering.{Ordering}
 use Rattle.std.specs.declared.cmp.Ordering.TheVariants.{Less, Equal, Greater}
@@ -12,15 +11,13 @@ use Rattle.std.specs.List.{All, AllPairs, AllWithin, filter, insert, remove}
 use Rattle.std.specs.Option.{option_map, option_to_list}
 use Rattle.std.specs.List.Sorted.{IsPartitionedBy}
 use Rattle.std.proofs.lemmas.Cmp.{nat_cmp_total, nat_list_cmp_total, on_total, then_total}
-use Rattle.std.proofs.lemmas.List.{take_at, drop_at, drop-drop, length-take, reverse-append}
-use Rattle.std.proofs.lemmas.List.{reverse-reverse}
+use Rattle.std.proofs.lemmas.List.{take_at, drop_at, drop-drop, length-take}
 use Rattle.std.proofs.lemmas.List.Elements.{All-append, All-cons, All-weaker, filter_passes}
 use Rattle.std.proofs.lemmas.List.Kept.{AllPairs-cons, AllPairs-filter}
 use Rattle.std.proofs.lemmas.List.Sorted.{ranks_by, sorted_far}
 use Rattle.pl_base.specs.declared.row.Change.{Change}
 use Rattle.pl_base.specs.declared.row.Row.{Row}
-use Rattle.pl_keeper.specs.Keeping.{all_changed, changed, comes_before, place, place_cmp, row_at}
-use Rattle.pl_keeper.specs.Keeping.{row_cmp}
+use Rattle.pl_keeper.specs.Keeping.{changed, comes_before, place, place_cmp, row_at, row_cmp}
 use Rattle.pl_keeper.specs.Keeping.{IsInOrder}
 
 places_total : IsTotalOrder place_cmp
@@ -244,17 +241,3 @@ pub first_taken : (xs : List Change) (x : Change) → 0 < length xs → x ≡ ge
     remove xs 0
 first_taken [] x some is = absurd (omega arith)
 first_taken (first ∷ xs) x some is = ap (λ (y : Change). y ∷ xs) (sym is)
-
--- ---- changes that are taken from the back of a list that was turned round
-
-pub turned : (turned changes : List Change) (rows : List Row) → turned ≡ reverse changes →
-    all_changed (reverse turned) rows ≡ all_changed changes rows
-turned turned changes rows is =
-    ap (λ cs. all_changed cs rows) (ap reverse is ∙ reverse-reverse changes)
-
-pub next_change : (changes left : List Change) (change : Change) (rows : List Row) →
-    changes ≡ left ++ change ∷ [] →
-    all_changed (reverse changes) rows ≡ all_changed (reverse left) (changed rows change)
-next_change changes left change rows is =
-    ap (λ cs. all_changed (reverse cs) rows) is
-    ∙ ap (λ cs. all_changed cs rows) (reverse-append left (change ∷ []))

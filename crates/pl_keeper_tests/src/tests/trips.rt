@@ -9,10 +9,11 @@ fn row(alloc: Global) -> Result<Row, Memory> {
         0, 0, 0, 0, 0x65, 0x92, 0, 0x80, 0, 0, 0, 0, 0, 0, 0, 3, 0, 0, 0, 0, 0, 0, 0, 2, 0, 0, 0,
         0, 0, 0, 0, 9,
     ];
+    let body = List::from_slice(alloc, body.as_slice())?;
     Ok(Row {
         table: 0,
         key: List::new(alloc),
-        body: List::from_slice(alloc, body.as_slice())?,
+        body,
     })
 }
 
