@@ -3,11 +3,11 @@ use Rattle.std.specs.Prelude.{◌≡◌, ◌≤◌, ℕ, List, [], ◌∷◌, �
 use Rattle.std.specs.Option.{IfSome}
 use Rattle.pl_base.specs.Streams.{after_next}
 use Rattle.pl_base.specs.declared.digest.Digest.{Digest}
-use Rattle.pl_core.specs.declared.call.Call.{Call}
-use Rattle.pl_core.specs.declared.call.Request.{Request}
-use Rattle.pl_core.specs.Replies.{refusal}
 use Rattle.pl_core.specs.State.{State, reply_of, after}
 use Rattle.pl_heads.specs.declared.fault.HttpFault.{HttpFault}
+use Rattle.pl_requests.specs.declared.call.Call.{Call}
+use Rattle.pl_requests.specs.declared.request.Request.{Request}
+use Rattle.pl_requests.specs.Replies.{refusal}
 use Rattle.pl_wire.specs.declared.message.Message.{Message}
 use Rattle.pl_wire.specs.declared.message.Message.TheVariants.{Ask, Refused}
 use Rattle.pl_wire.specs.Refusals.{reply_to_fault, reply_to_refused}

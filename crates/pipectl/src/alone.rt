@@ -3,7 +3,7 @@ ghost use Rattle.pl_core.specs.Prepared.{IsPlanOf};
 ghost use Rattle.pl_core.specs.State.{opened, reply_of, after};
 
 use pl_base::{Digest, Memory, Moment};
-use pl_core::{Call, Core, FirstPlan, Reply, Request, TextLater, first_plan};
+use pl_core::{Call, Core, FirstPlan, Reply, Request, TextLater, first_plan, text_of};
 use pl_wire::{Message, refused_reply};
 use std::alloc::Global;
 
@@ -78,8 +78,8 @@ impl Alone {
 fn plan(alloc: Global, request: &Request) -> Result<Option<Result<FirstPlan, TextLater>>, Memory>
     ensures { IfOk result (λ planned. IsPlanOf request.now planned) }
 {
-    match request {
-        Request::QueueText(text) => Ok(Some(first_plan(alloc, text.as_slice())?)),
-        Request::Draw => Ok(None),
+    match text_of(request) {
+        Some(text) => Ok(Some(first_plan(alloc, text.as_slice())?)),
+        None => Ok(None),
     }
 }

@@ -1,17 +1,10 @@
--- Replies that hold a JSON object.
-use Rattle.std.specs.Prelude.{ℕ, List, [], ◌∷◌, codes}
-use Rattle.pl_core.specs.declared.reply.Reply.{Reply}
-use Rattle.pl_core.specs.declared.reply.Body.TheVariants as body
-use Rattle.pl_core.specs.declared.reply.Json.{Json}
-use Rattle.pl_core.specs.declared.reply.Json.TheVariants as json
-use Rattle.pl_core.specs.declared.reply.JsonMember.{JsonMember}
+-- Replies that hold an object: members in byte order of their names (RFC 8259).
+use Rattle.std.specs.Prelude.{ℕ, List}
+use Rattle.pl_json.specs.declared.json.Json.{Json}
+use Rattle.pl_json.specs.declared.members.Member.{Member}
+use Rattle.pl_json.specs.Members.{in_order}
+use Rattle.pl_requests.specs.declared.reply.Reply.{Reply}
+use Rattle.pl_requests.specs.Replies.{json_reply}
 
-abbrev pub member : List ℕ → Json → JsonMember
-member name value = record { name = name; value = value }
-
-abbrev pub json_reply : ℕ → List JsonMember → Reply
-json_reply status members = record { status = status; body = body.Json (json.Object members) }
-
--- a refusal names the rule that is broken
-abbrev pub refusal : ℕ → List ℕ → Reply
-refusal status rule = json_reply status (member (codes "rule") (json.Text rule) ∷ [])
+abbrev pub object_reply : ℕ → List (Member Json) → Reply
+object_reply status members = json_reply status (in_order members)

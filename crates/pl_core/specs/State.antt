@@ -1,5 +1,5 @@
 -- The service so far: its state, and what a call is answered and leaves.
-use Rattle.std.specs.Prelude.{map, ℕ, ◌+◌, Bool, List, [], ◌∷◌, Option, Some, None, nat_eq, nat_lt}
+use Rattle.std.specs.Prelude.{map, ℕ, ◌+◌, Bool, true, false, List, [], ◌∷◌, Option, Some, None, nat_eq, nat_lt}
 use Rattle.std.specs.Prelude.{if◌then◌else◌, codes}
 use Rattle.std.specs.Option.{option_map_or}
 use Rattle.std.specs.Cmp.Lexicographic.{pointwise}
@@ -9,18 +9,26 @@ use Rattle.pl_base.specs.declared.value.Value.{Value, out-Value}
 use Rattle.pl_base.specs.declared.value.Value.TheOpen.{Value-F, Str, Object}
 use Rattle.pl_base.specs.declared.value.MarkedNode.{MarkedNode}
 use Rattle.pl_base.specs.declared.value.MarkedPair.{MarkedPair}
-use Rattle.pl_core.specs.declared.call.Call.{Call}
-use Rattle.pl_core.specs.declared.call.Request.{Request}
-use Rattle.pl_core.specs.declared.call.Request.TheVariants.{QueueText, Draw}
+use Rattle.pl_json.specs.declared.json.Json.{Json}
+use Rattle.pl_json.specs.declared.json.Json.TheVariants.{Number, Array}
+use Rattle.pl_json.specs.declared.json.Json.TheVariants as json
+use Rattle.pl_json.specs.Members.{member}
+use Rattle.pl_json.specs.Objects.{object}
+use Rattle.pl_requests.specs.declared.call.Call.{Call}
+use Rattle.pl_requests.specs.declared.reply.Reply.{Reply}
+use Rattle.pl_requests.specs.declared.reply.Body.TheVariants.{Empty}
+use Rattle.pl_requests.specs.declared.request.Request.{Request}
+use Rattle.pl_requests.specs.declared.request.Request.TheVariants.{PutFile, RemoveFile, GetFile}
+use Rattle.pl_requests.specs.declared.request.Request.TheVariants.{SetPipeline, SetResource}
+use Rattle.pl_requests.specs.declared.request.Request.TheVariants.{SetPrincipal, SetAgent}
+use Rattle.pl_requests.specs.declared.request.Request.TheVariants.{QueueText, Queue, ReadRun}
+use Rattle.pl_requests.specs.declared.request.Request.TheVariants.{Cancel, Decide, Draw, Claim, Why}
+use Rattle.pl_requests.specs.declared.request.Request.TheVariants.{Report, Shutdown}
+use Rattle.pl_requests.specs.Replies.{refusal}
 use Rattle.pl_core.specs.declared.plan.PlanStep.{PlanStep}
 use Rattle.pl_core.specs.declared.plan.FirstPlan.{FirstPlan}
-use Rattle.pl_core.specs.declared.reply.Reply.{Reply}
-use Rattle.pl_core.specs.declared.reply.Body.TheVariants.{Empty}
-use Rattle.pl_core.specs.declared.reply.Json.{Json}
-use Rattle.pl_core.specs.declared.reply.Json.TheVariants.{Number, Array}
-use Rattle.pl_core.specs.declared.reply.Json.TheVariants as json
 use Rattle.pl_core.specs.Plan.{plan_of_text}
-use Rattle.pl_core.specs.Replies.{member, json_reply, refusal}
+use Rattle.pl_core.specs.Replies.{object_reply}
 
 -- who is the admin, how many runs were queued, and the plan of the first one
 pub record State : Type 0 where
@@ -41,11 +49,11 @@ no_content = record { status = 204; body = Empty }
 
 -- a run's number
 abbrev pub created : ℕ → Reply
-created run = json_reply 201 (member (codes "run") (Number run) ∷ [])
+created run = object_reply 201 (member (codes "run") (Number run) ∷ [])
 
 -- where a node stands; it crossed no border
 abbrev pub origin_object : Origin → Json
-origin_object origin = json.Object (
+origin_object origin = object (
     member (codes "col") (Number origin.source.col)
     ∷ member (codes "crossings") (Array [])
     ∷ member (codes "line") (Number origin.source.line)
@@ -64,12 +72,12 @@ scalar_object value = json.Null
 
 -- a step of one key: its key's origin, its own origin, and the mapping
 abbrev pub step_with : List ℕ → Origin → List MarkedPair → Json
-step_with form origin (pair ∷ []) = json.Object (
+step_with form origin (pair ∷ []) = object (
     member (codes "form") (json.Text form)
     ∷ member (codes "key") (origin_object pair.key_origin)
     ∷ member (codes "origin") (origin_object origin)
     ∷ member (codes "step")
-    (json.Object (member pair.key (scalar_object (out-Value pair.item.value)) ∷ [])) ∷ [])
+    (object (member pair.key (scalar_object (out-Value pair.item.value)) ∷ [])) ∷ [])
 step_with form origin pairs = json.Null
 
 abbrev pub step_value : List ℕ → Origin → OpenValue → Json
@@ -81,7 +89,7 @@ step_object step = step_value step.form step.body.origin (out-Value step.body.va
 
 -- the job of run 1: it has no groups and no variables, and an hour
 abbrev pub job : FirstPlan → Reply
-job plan = json_reply 200 (
+job plan = object_reply 200 (
     member (codes "groups") (Array [])
     ∷ member (codes "job") (json.Text (codes "Job"))
     ∷ member (codes "run") (Number 1)
@@ -113,22 +121,69 @@ abbrev pub after_plan : State → Option FirstPlan → State
 after_plan state None = state
 after_plan state (Some plan) = if nat_lt state.runs last_run then with_run state plan else state
 
-abbrev pub reply_to : State → Request → Reply
-reply_to state (QueueText text) = reply_to_plan state (plan_of_text text)
-reply_to state Draw = option_map_or job state.first no_content
+-- the requests that are served so far: a text to be queued, and a draw
+abbrev pub is_served : Request → Bool
+is_served (QueueText text) = true
+is_served Draw = true
+is_served (PutFile file) = false
+is_served (RemoveFile key) = false
+is_served (GetFile key) = false
+is_served (SetPipeline told) = false
+is_served (SetResource told) = false
+is_served (SetPrincipal told) = false
+is_served (SetAgent told) = false
+is_served (Queue order) = false
+is_served (ReadRun run) = false
+is_served (Cancel run) = false
+is_served (Decide run stage approve) = false
+is_served (Claim job) = false
+is_served (Why job agent) = false
+is_served (Report job report) = false
+is_served Shutdown = false
 
-abbrev pub after_request : State → Request → State
-after_request state (QueueText text) = after_plan state (plan_of_text text)
-after_request state Draw = state
+-- the text that is to be queued
+abbrev pub text_in : Request → Option (List ℕ)
+text_in (QueueText text) = Some text
+text_in Draw = None
+text_in (PutFile file) = None
+text_in (RemoveFile key) = None
+text_in (GetFile key) = None
+text_in (SetPipeline told) = None
+text_in (SetResource told) = None
+text_in (SetPrincipal told) = None
+text_in (SetAgent told) = None
+text_in (Queue order) = None
+text_in (ReadRun run) = None
+text_in (Cancel run) = None
+text_in (Decide run stage approve) = None
+text_in (Claim job) = None
+text_in (Why job agent) = None
+text_in (Report job report) = None
+text_in Shutdown = None
+
+-- the reply to a text, or to a draw
+abbrev pub reply_to : State → Option (List ℕ) → Reply
+reply_to state (Some text) = reply_to_plan state (plan_of_text text)
+reply_to state None = option_map_or job state.first no_content
+
+abbrev pub after_request : State → Option (List ℕ) → State
+after_request state (Some text) = after_plan state (plan_of_text text)
+after_request state None = state
 
 abbrev pub is_admin : State → Digest → Bool
 is_admin state caller = pointwise nat_eq caller.bytes state.admin.bytes
 
--- the step's reply: a caller who isn't the admin is unknown
+-- the step's reply: what isn't served is no route, and a caller who isn't the admin is unknown
 abbrev pub reply_of : State → Call → Reply
-reply_of state call = if is_admin state call.caller then reply_to state call.request
-    else refusal 401 (codes "token.unknown")
+reply_of state call =
+    if is_served call.request then
+    (if is_admin state call.caller then reply_to state (text_in call.request)
+    else refusal 401 (codes "token.unknown"))
+    else refusal 404 (codes "route.unknown")
 
--- the step's state: an unknown caller changes nothing
+-- the step's state: what isn't served and an unknown caller change nothing
 abbrev pub after : State → Call → State
-after state call = if is_admin state call.caller then after_request state call.request else state
+after state call =
+    if is_served call.request then
+    (if is_admin state call.caller then after_request state (text_in call.request) else state)
+    else state

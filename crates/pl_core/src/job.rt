@@ -1,12 +1,13 @@
 ghost use Rattle.std.specs.Prelude.{◌≡◌, ◌++◌, [], ◌∷◌, map, IfOk, OnOk};
 ghost use Rattle.pl_base.specs.declared.value.Value.{out-Value};
-ghost use Rattle.pl_core.specs.Replies.{member};
+ghost use Rattle.pl_core.specs.Replies.{object_reply};
+ghost use Rattle.pl_json.specs.Members.{member};
 ghost use Rattle.pl_core.specs.State as spec;
 
 use crate::only::only_item;
 use crate::plan::{FirstPlan, PlanStep};
-use crate::reply::{Json, JsonMember, Reply};
 use pl_base::{FileKey, List, MarkedPair, Memory, Origin, Text, Value};
+use pl_requests::{Json, Member, Members, Reply};
 use std::alloc::Global;
 
 /// The reply to a draw: the job of run 1.
@@ -36,7 +37,7 @@ pub(crate) fn job_reply(alloc: Global, plan: &FirstPlan) -> Result<Reply, Memory
         "variables",
         Json::Array(List::new(alloc)),
     )?;
-    Ok(Reply::json(200, members))
+    Ok(object_reply(alloc, 200, members)?)
 }
 
 fn step_objects(alloc: Global, steps: &List<PlanStep>) -> Result<List<Json>, Memory>
@@ -86,8 +87,8 @@ fn step_with(alloc: Global, form: &Text, origin: &Origin, pair: &MarkedPair) -> 
         origin_object(alloc, &pair.key_origin)?,
     )?;
     put(alloc, &mut members, "origin", origin_object(alloc, origin)?)?;
-    put(alloc, &mut members, "step", Json::Object(mapping))?;
-    Ok(Json::Object(members))
+    put(alloc, &mut members, "step", Json::object(alloc, mapping)?)?;
+    Ok(Json::object(alloc, members)?)
 }
 
 /// A scalar as its text.
@@ -143,19 +144,31 @@ fn origin_object(alloc: Global, origin: &Origin) -> Result<Json, Memory>
         "repo",
         Json::text(alloc, file.repo.as_str())?,
     )?;
-    Ok(Json::Object(members))
+    Ok(Json::object(alloc, members)?)
 }
 
 /// Puts a member behind the last one.
 pub(crate) fn put(
     alloc: Global,
-    members: &mut List<JsonMember>,
+    members: &mut List<Member<Json>>,
     name: &str,
     value: Json,
 ) -> Result<(), Memory>
     ensures { OnOk result (members.new ≡ members.old ++ member name.now value ∷ []) }
 {
-    let added = JsonMember::new(alloc, name, value)?;
+    let added = Member::new(alloc, name, value)?;
     members.push(added)?;
     Ok(())
+}
+
+/// A reply that is an object of these members.
+pub(crate) fn object_reply(
+    alloc: Global,
+    status: u16,
+    members: List<Member<Json>>,
+) -> Result<Reply, Memory>
+    ensures { IfOk result (λ reply. reply ≡ object_reply status members) }
+{
+    let members = Members::in_order(alloc, members)?;
+    Ok(Reply::json(status, members))
 }

@@ -1,18 +1,15 @@
-//! The service's calls, replies and step.
+//! The service's step.
 #![tactic(auto)]
 
-mod call;
 mod job;
 mod only;
 mod plan;
 mod prepared;
-mod reply;
+mod served;
 mod service;
-#[cfg(test)]
-mod tests;
 
-pub use call::{Call, Request};
+pub use pl_requests::{Body, Call, Json, Member, Members, Reply, Request};
 pub use plan::{FirstPlan, PlanStep, TextLater, first_plan};
 pub use prepared::{Prepared, Queued};
-pub use reply::{Body, Json, JsonMember, Reply};
+pub use served::text_of;
 pub use service::Core;

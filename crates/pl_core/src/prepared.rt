@@ -1,8 +1,8 @@
 ghost use Rattle.std.specs.Prelude.{◌≡◌, ◌≤◌, None, IfOk};
 
 use crate::plan::FirstPlan;
-use crate::reply::Reply;
 use pl_base::Memory;
+use pl_requests::Reply;
 use std::alloc::Global;
 
 /// A run that is to be queued: its number, and its plan where no run has one yet.
@@ -21,7 +21,7 @@ pub struct Prepared {
 }
 
 impl Prepared {
-    ghost use Rattle.pl_core.specs.Replies.{refusal};
+    ghost use Rattle.pl_requests.specs.Replies.{refusal};
 
     /// A refusal, which changes nothing.
     pub(crate) fn refusal(alloc: Global, status: u16, rule: &str) -> Result<Prepared, Memory>

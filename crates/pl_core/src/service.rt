@@ -3,12 +3,12 @@ ghost use Rattle.std.specs.Option.{option_map_or};
 ghost use Rattle.pl_core.specs.Prepared.{IsPlanOf};
 ghost use Rattle.pl_core.specs.State as state;
 
-use crate::call::Call;
-use crate::job::{job_reply, put};
+use crate::job::{job_reply, object_reply, put};
 use crate::plan::{FirstPlan, TextLater};
 use crate::prepared::{Prepared, Queued};
-use crate::reply::{Body, Json, Reply};
+use crate::served::is_served;
 use pl_base::{Digest, List, Memory};
+use pl_requests::{Body, Call, Json, Reply};
 use std::alloc::Global;
 use std::marker::Model;
 
@@ -67,6 +67,9 @@ impl Core {
             after self.old call.now) }
         ensures same { self.new ≡ self.old }
     {
+        if !is_served(&call.request) {
+            return Prepared::refusal(alloc, 404, "route.unknown");
+        }
         if call.caller != self.admin {
             return Prepared::refusal(alloc, 401, "token.unknown");
         }
@@ -141,5 +144,5 @@ fn created(alloc: Global, run: u64) -> Result<Reply, Memory>
 {
     let mut members = List::new(alloc);
     put(alloc, &mut members, "run", Json::Number(run))?;
-    Ok(Reply::json(201, members))
+    Ok(object_reply(alloc, 201, members)?)
 }

@@ -1,25 +1,41 @@
 -- What parts of a path must be, once they are decoded.
-use Rattle.std.specs.Prelude.{◌≡◌, ◌≢◌, ℕ, ◌≤◌, List, length, codes, slice_index}
-use Rattle.std.specs.Str.Parse.{IsNumeral}
+use Rattle.std.specs.Prelude.{ℕ, nat_le, nat_lt, nat_eq, Bool, true, not, ◌&&◌, ◌==◌, List, [], ◌∷◌}
+use Rattle.std.specs.Prelude.{length, codes, slice_index, Result, Ok, Err, if◌then◌else◌}
+use Rattle.std.specs.Char.{digit_value}
+use Rattle.std.specs.Cmp.Lexicographic.{pointwise}
+use Rattle.std.specs.Str.Parse.{digits_value}
 use Rattle.pl_base.specs.declared.resource.Kind.{Kind}
 use Rattle.pl_base.specs.declared.resource.Kind.TheVariants.{Environment, Connection, Group, Pool}
 use Rattle.pl_base.specs.declared.resource.Kind.TheVariants.{Repository}
+use Rattle.pl_routes.specs.declared.fault.RouteFault.{RouteFault}
+use Rattle.pl_routes.specs.declared.fault.RouteFault.TheVariants.{RouteUnknown}
 
--- at most 18 bytes, no `+` in front and no zero before another byte
-pub record IsPlain (text : List ℕ) : Type 0 where
-  pub short : length text ≤ 18
-  pub unsigned : slice_index text 0 ≢ 43
-  pub no_zero : slice_index text 0 ≡ 48 → length text ≡ 1
+-- at most 18 bytes, the first of which is neither a `+` nor a `0`
+abbrev pub is_plain : List ℕ → Bool
+is_plain text = not (slice_index text 0 == 43) && (not (slice_index text 0 == 48) &&
+    nat_le (length text) 18)
 
--- the number of a run is 1 to 18 decimal digits, and where it has two or more the first isn't 0
-pub record IsRunNumber (text : List ℕ) : Type 0 where
-  pub digits : IsNumeral 10 text
-  pub plain : IsPlain text
+abbrev pub are_digits : List ℕ → Bool
+are_digits [] = true
+are_digits (digit ∷ more) = nat_lt (digit_value digit) 10 && are_digits more
 
--- the word for a kind of resource
-abbrev pub kind_word : Kind → List ℕ
-kind_word Environment = codes "environment"
-kind_word Connection = codes "connection"
-kind_word Group = codes "group"
-kind_word Pool = codes "pool"
-kind_word Repository = codes "repository"
+-- decimal digits, at least one
+abbrev pub is_numeral : List ℕ → Bool
+is_numeral text = nat_lt 0 (length text) && are_digits text
+
+-- the number of a run: 1 to 18 decimal digits, of which the first isn't 0
+unfoldable pub run_said : List ℕ → Result ℕ RouteFault
+run_said text = if is_plain text && is_numeral text then Ok (digits_value 10 text) else Err RouteUnknown
+
+abbrev pub is_word : List ℕ → List ℕ → Bool
+is_word word text = pointwise nat_eq text word
+
+-- the kind of a resource, by its word, which is compared exactly
+abbrev pub kind_said : List ℕ → Result Kind RouteFault
+kind_said text =
+    if is_word (codes "environment") text then Ok Environment
+    else if is_word (codes "connection") text then Ok Connection
+    else if is_word (codes "group") text then Ok Group
+    else if is_word (codes "pool") text then Ok Pool
+    else if is_word (codes "repository") text then Ok Repository
+    else Err RouteUnknown

@@ -1,6 +1,7 @@
 ghost use Rattle.std.specs.Prelude.{◌≡◌, IfOk, map};
-ghost use Rattle.pl_routes.specs.Parts.{Says, spelled_parts};
+ghost use Rattle.pl_routes.specs.Parts.{Gives, said, spelled_parts};
 
+use crate::fault::RouteFault;
 use percent_encoding::{DecodeError, percent_decode};
 use pl_base::{Memory, Text};
 use std::alloc::{AllocError, Global};
@@ -21,14 +22,15 @@ fn cut(alloc: Global, target: &str) -> Result<Vec<&str>, AllocError>
     target.split('/').collect::<Vec<_>>(alloc)
 }
 
-/// What a part says: its escapes are read, and a `%` without two hexadecimal digits stays. None
+/// What a part says: its escapes are read, and a `%` without two hexadecimal digits stays. RouteUnknown
 /// where the bytes aren't UTF-8.
-pub fn decoded(alloc: Global, part: &str) -> Result<Option<Text>, Memory>
-    ensures { IfOk result (λ said. Says part.now said) }
+#[tactic(auto, unfolding(crate::specs::Parts::said))]
+pub fn decoded(alloc: Global, part: &str) -> Result<Text, RouteFault>
+    ensures { Gives result (said part.now) }
 {
     match percent_decode(part.as_bytes()).decode_utf8(alloc) {
-        Ok(text) => Ok(Some(Text::from_string(text.into_owned(alloc)?))),
-        Err(DecodeError::OutOfMemory) => Err(Memory),
-        Err(_) => Ok(None),
+        Ok(text) => Ok(Text::from_string(text.into_owned(alloc)?)),
+        Err(DecodeError::OutOfMemory) => Err(RouteFault::Memory),
+        Err(_) => Err(RouteFault::RouteUnknown),
     }
 }

@@ -1,44 +1,45 @@
 ghost use Rattle.std.specs.Prelude.{◌≡◌};
-ghost use Rattle.pl_routes.specs.Routes.{route_for};
+ghost use Rattle.pl_routes.specs.Table.{path_of};
 
-/// A row of the table of routes.
+/// A path of the table of routes. The routes of one path differ in their methods.
 #[derive(Clone, Copy, Debug, PartialEq, Eq)]
 pub enum Place {
-    /// `/texts`.
+    File,
+    Pipeline,
+    Resource,
+    Principal,
+    Agent,
     Texts,
-    /// `/draw`.
+    Runs,
+    Run,
+    Cancel,
+    Decision,
     Draw,
+    Claim,
+    Why,
+    Report,
+    Shutdown,
 }
 
-/// A row of the table, with one of its methods (RFC 9110, section 9).
-#[derive(Clone, Copy, Debug, PartialEq, Eq)]
-pub enum Route {
-    /// `POST /texts`.
-    QueueText,
-    /// `POST /draw`.
-    Draw,
-}
-
-/// Why a request goes nowhere.
-#[derive(Clone, Copy, Debug, PartialEq, Eq)]
-pub enum RouteFault {
-    /// The target has a `?`, or no row of the table has it: 404 `route.unknown`.
-    RouteUnknown,
-    /// The row doesn't have this method: 405 `method.unknown`.
-    MethodUnknown,
-}
-
-const POST: &[u8] = b"POST";
-
-/// What a row's method is, if the row has it. Methods are compared exactly.
-pub(crate) fn route_for(place: Place, method: &[u8]) -> Option<Route>
-    ensures { result ≡ route_for place method.now }
+/// The path of a place, in which a name in braces stands for a part.
+pub(crate) fn path_of(place: Place) -> &'static str
+    ensures { result.now ≡ path_of place }
 {
-    if method != POST {
-        return None;
-    }
     match place {
-        Place::Texts => Some(Route::QueueText),
-        Place::Draw => Some(Route::Draw),
+        Place::File => "/files/{repo}/{ref}/{path}",
+        Place::Pipeline => "/pipelines/{name}",
+        Place::Resource => "/resources/{kind}/{name}",
+        Place::Principal => "/principals/{name}",
+        Place::Agent => "/agents/{name}",
+        Place::Texts => "/texts",
+        Place::Runs => "/runs",
+        Place::Run => "/runs/{run}",
+        Place::Cancel => "/runs/{run}/cancel",
+        Place::Decision => "/runs/{run}/stages/{stage}/decision",
+        Place::Draw => "/draw",
+        Place::Claim => "/runs/{run}/stages/{stage}/jobs/{job}/claim",
+        Place::Why => "/runs/{run}/stages/{stage}/jobs/{job}/why/{agent}",
+        Place::Report => "/runs/{run}/stages/{stage}/jobs/{job}/report",
+        Place::Shutdown => "/shutdown",
     }
 }

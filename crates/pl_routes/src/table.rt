@@ -1,59 +1,82 @@
 ghost use Rattle.std.specs.Prelude.{◌≡◌, IfOk, OnOk};
-ghost use Rattle.pl_routes.specs.Routes.{has_query, place_in, route_in, table, with_row};
+ghost use Rattle.pl_routes.specs.Routes.{has_query, place_in, table, with_place};
 
-use crate::place::{Place, Route, RouteFault, route_for};
+use crate::place::{Place, path_of};
 use matchit::Router;
 use pl_base::Memory;
 use std::alloc::Global;
 
-/// The table of routes.
-pub type Routes = Router<Place>;
+/// The paths of the service, as `matchit` keeps them. A desk makes it once.
+#[derive(Drop)]
+pub struct Routes {
+    rows: Router<Place>,
+    ghost is_table: { rows ≡ table },
+}
 
-/// A row more, of this pattern. That patterns clash is no case of the table, which a test builds;
-/// it is answered as want of memory, which the row wasn't put in for.
-fn add(routes: &mut Routes, pattern: &str, place: Place) -> Result<(), Memory>
-    ensures { OnOk result (routes.new ≡ with_row pattern.now place routes.old) }
+impl Routes {
+    ghost use Rattle.pl_routes.specs.Routes.{place_in, table};
+
+    /// The table of the service's paths.
+    pub fn new(alloc: Global) -> Result<Routes, Memory> {
+        let rows = rows(alloc)?;
+        Ok(Routes { rows })
+    }
+
+    /// The path of the table that a target has, as `matchit` finds it; none where the target has a
+    /// `?`. It takes no memory.
+    pub fn place_of(&self, target: &str) -> Option<Place>
+        ensures { result ≡ place_in table target.now }
+    {
+        place_in(&self.rows, target)
+    }
+}
+
+/// A path more. That paths clash is no case of the table, which a test builds; it is answered as
+/// want of memory, and then the path wasn't put in.
+#[tactic(auto, unfolding(crate::specs::Routes::with_place))]
+fn add(rows: &mut Router<Place>, place: Place) -> Result<(), Memory>
+    ensures { OnOk result (rows.new ≡ with_place place rows.old) }
 {
-    match routes.insert(pattern, place) {
+    match rows.insert(path_of(place), place) {
         Ok(()) => Ok(()),
         Err(_) => Err(Memory),
     }
 }
 
-/// The table of routes.
+/// The rows of the table.
 #[tactic(auto, unfolding(crate::specs::Routes::table))]
-pub fn routes(alloc: Global) -> Result<Routes, Memory>
-    ensures { IfOk result (λ routes. routes ≡ table) }
+fn rows(alloc: Global) -> Result<Router<Place>, Memory>
+    ensures { IfOk result (λ rows. rows ≡ table) }
 {
-    let mut routes = Router::new(alloc);
-    add(&mut routes, "/texts", Place::Texts)?;
-    add(&mut routes, "/draw", Place::Draw)?;
-    Ok(routes)
+    let mut rows = Router::new(alloc);
+    add(&mut rows, Place::File)?;
+    add(&mut rows, Place::Pipeline)?;
+    add(&mut rows, Place::Resource)?;
+    add(&mut rows, Place::Principal)?;
+    add(&mut rows, Place::Agent)?;
+    add(&mut rows, Place::Texts)?;
+    add(&mut rows, Place::Runs)?;
+    add(&mut rows, Place::Run)?;
+    add(&mut rows, Place::Cancel)?;
+    add(&mut rows, Place::Decision)?;
+    add(&mut rows, Place::Draw)?;
+    add(&mut rows, Place::Claim)?;
+    add(&mut rows, Place::Why)?;
+    add(&mut rows, Place::Report)?;
+    add(&mut rows, Place::Shutdown)?;
+    Ok(rows)
 }
 
-/// The row of a target, as `matchit` finds it; none where the target has a `?`.
-pub fn place_of(routes: &Routes, target: &str) -> Option<Place>
-    ensures { result ≡ place_in routes.now target.now }
+/// The path that a target has in the rows.
+fn place_in(rows: &Router<Place>, target: &str) -> Option<Place>
+    ensures { result ≡ place_in rows.now target.now }
 {
     if has_query(target.as_bytes()) {
         return None;
     }
-    match routes.at(target) {
+    match rows.at(target) {
         Ok(found) => Some(*found.value),
         Err(_) => None,
-    }
-}
-
-/// Where a request goes. The target is judged before the method.
-pub fn route_of(routes: &Routes, method: &[u8], target: &str) -> Result<Route, RouteFault>
-    ensures { result ≡ route_in routes.now method.now target.now }
-{
-    match place_of(routes, target) {
-        None => Err(RouteFault::RouteUnknown),
-        Some(place) => match route_for(place, method) {
-            None => Err(RouteFault::MethodUnknown),
-            Some(route) => Ok(route),
-        },
     }
 }
 

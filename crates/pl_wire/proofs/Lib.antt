@@ -1,7 +1,7 @@
-pub mod Floats
 pub mod Gathered
-pub mod Members
+pub mod Kept
 pub mod Memory
-pub mod Readings
 pub mod Nothing
+pub mod Readings
+pub mod Tokens
 pub mod Waits

@@ -1,6 +1,6 @@
 -- No bytes at all are no message, and may become one.
-use Rattle.std.proofs.Common.{◌≡◌, ℕ, ◌<◌, ◌≤◌, ◌⊎◌, inl, inr, List, [], ◌∷◌, ◌++◌, length, take}
-use Rattle.std.proofs.Common.{refl, sym, ap, ◌∙◌, subst, arith, true, IsUtf8, length-append}
+use Rattle.std.proofs.Common.{◌≡◌, ℕ, inl, inr, List, [], ◌∷◌, ◌++◌, length}
+use Rattle.std.proofs.Common.{refl, ap, arith, true, IsUtf8, length-append}
 use Rattle.std.proofs.lemmas.List.Elements.{All-cons, All-nil}
 use lib.Utf8.{encode}
 use Rattle.httparse.specs.Grammar.{RequestHead, print_request, ReadsRequest, IsRequestHead}
@@ -9,7 +9,6 @@ use Rattle.httparse.specs.Grammar.{AllPass}
 use Rattle.pl_heads.specs.declared.fault.HttpFault.{HttpFault}
 use Rattle.pl_heads.specs.declared.fault.HttpFault.TheVariants.{HeadBad, HeadLarge, LengthMissing}
 use Rattle.pl_heads.specs.declared.fault.HttpFault.TheVariants.{BodyLarge}
-use Rattle.pl_heads.specs.Heads.{HasHead, IsLargeHead}
 use Rattle.pl_heads.proofs.ManyLines.{few_lines}
 use Rattle.pl_wire.specs.declared.message.Message.{Message}
 use Rattle.pl_wire.specs.Message.{IsMessage, IsBad}

@@ -1,26 +1,23 @@
 -- Messages are read in one way.
-use Rattle.std.proofs.Common.{◌≡◌, ℕ, ◌+◌, ◌-◌, ◌<◌, ◌≤◌, ◌⊎◌, inl, inr, List, [], ◌∷◌, ◌++◌}
+use Rattle.std.proofs.Common.{◌≡◌, ℕ, ◌+◌, ◌<◌, ◌≤◌, ◌⊎◌, inl, inr, List, [], ◌∷◌, ◌++◌}
 use Rattle.std.proofs.Common.{length, take, drop, refl, sym, ap, ◌∙◌, subst, arith, append_assoc}
 use Rattle.std.proofs.Common.{append-nil, Result, Ok, Err, length-append}
 use Rattle.std.proofs.lemmas.List.{take-append-drop, take-append-le, length-take, length-take-le}
 use Rattle.std.proofs.lemmas.List.{take_all}
 use Rattle.std.proofs.Math.Seq.{take-append-add, take-append_seam, drop-append_seam}
 use Rattle.httparse.specs.Grammar.{RequestHead, print_request, ReadsRequest, IsRequestHead}
-use Rattle.httparse.specs.Grammar.{EndsInTarget, print_blank, print_version, print_end}
-use Rattle.httparse.specs.Grammar.{print_section}
+use Rattle.httparse.specs.Grammar.{EndsInTarget, print_blank}
 use Rattle.httparse.proofs.GrammarLemmas.{ReadsRequest-append, request_unique, print_request-append}
 use Rattle.pl_heads.specs.declared.fault.HttpFault.{HttpFault}
 use Rattle.pl_heads.specs.declared.front.Head.{Head}
-use Rattle.pl_heads.specs.Fronts.{fields_of, framed, IsReadOf, IsFaulty, OneFront}
+use Rattle.pl_heads.specs.Fronts.{fields_of, framed, IsReadOf}
 use Rattle.pl_heads.specs.Fields.{token_of}
-use Rattle.pl_heads.specs.Heads.{HasHead, IsPartialHead, below_limit}
-use Rattle.pl_heads.proofs.FrontLemmas.{fault-append, head-append, one, two_cuts}
+use Rattle.pl_heads.specs.Heads.{HasHead, below_limit}
+use Rattle.pl_heads.proofs.FrontLemmas.{fault-append, head-append, one}
 use Rattle.pl_wire.specs.declared.message.Message.{Message}
-use Rattle.pl_wire.specs.declared.message.Next.{Next}
 use Rattle.pl_wire.specs.declared.message.Next.TheVariants.{Partial, Whole, Bad}
-use Rattle.pl_wire.specs.Message.{told, message_of, IsFramed, IsMessage, AwaitsContent, IsPartial}
+use Rattle.pl_wire.specs.Message.{told, message_of, IsMessage, IsPartial}
 use Rattle.pl_wire.specs.Message.{IsBad, StandsFirst, WaitsFor, OneReading, OneAnswer, MessagesStay}
-use Rattle.pl_wire.specs.Message.{IsNotWhole}
 
 -- ---- a whole message
 

@@ -1,5 +1,5 @@
 -- What is known of bytes stays known when more come.
-use Rattle.std.proofs.Common.{ℕ, ◌<◌, List, ◌++◌, length, sym, subst, arith, append_assoc}
+use Rattle.std.proofs.Common.{ℕ, ◌<◌, List, ◌++◌, length, sym, subst, append_assoc}
 use Rattle.std.proofs.Common.{append-nil, []}
 use Rattle.pl_scan.proofs.Following.{follows_more}
 use Rattle.pl_wire.specs.declared.waiting.Waiting.{Waiting}

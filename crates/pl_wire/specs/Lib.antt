@@ -1,4 +1,5 @@
-pub mod Data
+pub mod Asked
+pub mod Json
 pub mod Message
 pub mod Refusals
 pub mod Waiting

@@ -1,23 +1,17 @@
 -- The messages of the service (RFC 9112, sections 2 to 6): a head and its content.
 use Rattle.std.specs.Prelude.{◌≡◌, ℕ, ◌+◌, ◌≤◌, ◌<◌, ◌⊎◌, List, [], ◌∷◌, ◌++◌, length, take, Result}
-use Rattle.std.specs.Prelude.{Ok, Err}
+use Rattle.std.specs.Prelude.{Ok, Err, true}
 use Rattle.sha2.specs.Sha256.{sha256}
 use Rattle.httparse.specs.Grammar.{RequestHead, print_request, ReadsRequest, EndsInTarget}
 use Rattle.pl_base.specs.declared.digest.Digest.{Digest}
-use Rattle.pl_core.specs.declared.call.Request.{Request}
-use Rattle.pl_core.specs.declared.call.Request.TheVariants as request
 use Rattle.pl_heads.specs.declared.fault.HttpFault.{HttpFault}
 use Rattle.pl_heads.specs.Fields.{token_of}
 use Rattle.pl_heads.specs.Fronts.{fields_of, framed, IsFaulty}
 use Rattle.pl_heads.specs.Heads.{HasHead, IsPartialHead, head_limit, below_limit, field_limit}
-use Rattle.pl_routes.specs.declared.place.Route.{Route}
-use Rattle.pl_routes.specs.declared.place.Route.TheVariants as route
-use Rattle.pl_routes.specs.declared.place.RouteFault.{RouteFault}
-use Rattle.pl_routes.specs.declared.place.RouteFault.TheVariants as fault
-use Rattle.pl_routes.specs.Routes.{route_in, table}
+use Rattle.pl_requests.specs.declared.request.Request.{Request}
+use Rattle.pl_requests.specs.WellFormed.{is_request}
+use Rattle.pl_wire.specs.Asked.{asked}
 use Rattle.pl_wire.specs.declared.message.RequestFault.{RequestFault}
-use Rattle.pl_wire.specs.declared.message.RequestFault.TheVariants.{RouteUnknown, MethodUnknown}
-use Rattle.pl_wire.specs.declared.message.RequestFault.TheVariants.{BodyBad}
 use Rattle.pl_wire.specs.declared.message.Message.{Message}
 use Rattle.pl_wire.specs.declared.message.Message.TheVariants.{Ask, Refused}
 use Rattle.pl_wire.specs.declared.message.Next.{Next}
@@ -26,18 +20,6 @@ use Rattle.pl_wire.specs.declared.message.Next.TheVariants.{Partial, Whole, Bad}
 abbrev pub crlf : List ℕ
 crlf = 13 ∷ 10 ∷ []
 
--- the request of a route, by its content: a text is any bytes, a draw has none
-abbrev pub with_content : Route → List ℕ → Result Request RequestFault
-with_content route.QueueText content = Ok (request.QueueText content)
-with_content route.Draw [] = Ok request.Draw
-with_content route.Draw (byte ∷ more) = Err BodyBad
-
--- the request that goes somewhere: the target, then the method, then the content are judged
-abbrev pub asked : Result Route RouteFault → List ℕ → Result Request RequestFault
-asked (Ok route) content = with_content route content
-asked (Err fault.RouteUnknown) content = Err RouteUnknown
-asked (Err fault.MethodUnknown) content = Err MethodUnknown
-
 abbrev pub message_by : Digest → Result Request RequestFault → Message
 message_by caller (Ok request) = Ask caller request
 message_by caller (Err fault) = Refused fault
@@ -45,7 +27,7 @@ message_by caller (Err fault) = Refused fault
 -- the message of a token, a method, a target and a content
 abbrev pub told : List ℕ → List ℕ → List ℕ → List ℕ → Message
 told token method target content =
-    message_by (record { bytes = sha256 token }) (asked (route_in table method target) content)
+    message_by (record { bytes = sha256 token }) (asked method target content)
 
 -- the message of a head and its content
 abbrev pub message_of : RequestHead → List ℕ → Message
@@ -115,3 +97,8 @@ pub record MessagesStay : Type 0 where
       → StandsFirst bytes (Whole taken message) → StandsFirst (bytes ++ more) (Whole taken message)
   pub faults :
       (bytes more : List ℕ) (fault : HttpFault) → IsBad bytes fault → IsBad (bytes ++ more) fault
+
+-- a request that is read keeps the rules and limits of its fields
+abbrev pub RequestsAreWellFormed : Type 0
+RequestsAreWellFormed = (bytes : List ℕ) (taken : ℕ) (caller : Digest) (request : Request)
+    → StandsFirst bytes (Whole taken (Ask caller request)) → is_request request ≡ true

@@ -1,7 +1,7 @@
 -- The replies to what is no request: a status, and the rule that is broken.
 use Rattle.std.specs.Prelude.{codes}
-use Rattle.pl_core.specs.declared.reply.Reply.{Reply}
-use Rattle.pl_core.specs.Replies.{refusal}
+use Rattle.pl_requests.specs.declared.reply.Reply.{Reply}
+use Rattle.pl_requests.specs.Replies.{refusal}
 use Rattle.pl_heads.specs.declared.fault.HttpFault.{HttpFault}
 use Rattle.pl_heads.specs.declared.fault.HttpFault.TheVariants.{HeadBad, HeadLarge, LengthMissing}
 use Rattle.pl_heads.specs.declared.fault.HttpFault.TheVariants.{BodyLarge}

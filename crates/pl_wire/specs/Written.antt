@@ -1,12 +1,11 @@
 -- Replies as bytes (RFC 9112, section 4; RFC 8259 without blanks).
 use Rattle.std.specs.Prelude.{ℕ, List, [], ◌++◌, length, codes, if◌then◌else◌, ◌==◌}
 use Rattle.std.specs.Fmt.{decimal}
-use Rattle.pl_core.specs.declared.reply.Reply.{Reply}
-use Rattle.pl_core.specs.declared.reply.Body.{Body}
-use Rattle.pl_core.specs.declared.reply.Body.TheVariants.{Empty, Raw}
-use Rattle.pl_core.specs.declared.reply.Body.TheVariants as body
-use Rattle.serde_json.specs.Written.{compact_text}
-use Rattle.pl_wire.specs.Data.{data_of}
+use Rattle.pl_requests.specs.declared.reply.Reply.{Reply}
+use Rattle.pl_requests.specs.declared.reply.Body.{Body}
+use Rattle.pl_requests.specs.declared.reply.Body.TheVariants.{Empty, Raw}
+use Rattle.pl_requests.specs.declared.reply.Body.TheVariants as body
+use Rattle.pl_wire.specs.Json.{json_text}
 use Rattle.pl_wire.specs.Message.{crlf}
 
 -- the reason phrase of a status (RFC 9110, section 15)
@@ -46,7 +45,7 @@ with_headers kind content = kind_line kind ++ length_line (length content) ++ cr
 abbrev pub written_body : Body → List ℕ
 written_body Empty = crlf
 written_body (body.Json value) = with_headers (codes "application/json")
-    (compact_text (data_of value))
+    (json_text value)
 written_body (Raw bytes) = with_headers (codes "text/plain") bytes
 
 -- a reply as it is sent

@@ -1,11 +1,11 @@
 use pl_base::Digest;
-use pl_core::Request;
 use pl_heads::HttpFault;
+use pl_requests::Request;
 
 /// Why a message is refused, after which the link goes on.
 #[derive(Clone, Copy, Debug, PartialEq, Eq)]
 pub enum RequestFault {
-    /// The target has a `?`, or no route has it: 404 `route.unknown`.
+    /// The target has a `?`, no route has it, or a part of it breaks its rule: 404 `route.unknown`.
     RouteUnknown,
     /// Its route doesn't have this method: 405 `method.unknown`.
     MethodUnknown,
@@ -14,7 +14,7 @@ pub enum RequestFault {
 }
 
 /// A whole message.
-#[derive(Debug, Drop, PartialEq, Eq)]
+#[derive(Debug, Drop)]
 pub enum Message {
     /// A request, and the digest of its bearer token (RFC 6750, section 2.1).
     Ask { caller: Digest, request: Request },
@@ -23,7 +23,7 @@ pub enum Message {
 }
 
 /// What stands at the front of bytes that came from a client.
-#[derive(Debug, Drop, PartialEq, Eq)]
+#[derive(Debug, Drop)]
 pub enum Next {
     /// The beginning of a message.
     Partial,

@@ -1,15 +1,15 @@
 ghost use Rattle.std.specs.Prelude.{◌≡◌, ◌++◌, codes, string_bytes, IfOk};
-ghost use Rattle.pl_core.specs.Replies.{refusal};
+ghost use Rattle.pl_requests.specs.Replies.{refusal};
 ghost use Rattle.pl_wire.specs.Message.{crlf};
 ghost use Rattle.pl_wire.specs.Refusals.{reply_to_fault, reply_to_refused};
 ghost use Rattle.pl_wire.specs.Written.{kind_line, length_line, phrase, status_line, with_headers};
 ghost use Rattle.pl_wire.specs.Written.{written};
 
-use crate::json::json_text;
 use crate::message::RequestFault;
+use crate::spelling::json_text;
 use pl_base::{Bytes, List, Memory};
-use pl_core::{Body, Reply};
 use pl_heads::HttpFault;
+use pl_requests::{Body, Reply};
 use std::alloc::Global;
 
 /// The reply where memory is wanting: 507, `memory`.

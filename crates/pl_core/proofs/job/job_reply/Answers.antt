@@ -1,7 +1,8 @@
 use Rattle.std.proofs.Common.{refl, ap, ◌∙◌}
 use Rattle.std.specs.Prelude.{codes}
-use Rattle.pl_core.specs.declared.reply.Json.TheVariants as json
-use Rattle.pl_core.specs.Replies.{member, json_reply}
+use Rattle.pl_json.specs.declared.json.Json.TheVariants as json
+use Rattle.pl_json.specs.Members.{member}
+use Rattle.pl_core.specs.Replies.{object_reply}
 use Rattle.pl_core.proofs.PushLemmas.{pushed, both}
 use Rattle.pl_core.proofs.job.job_reply.Goals as goal
 
@@ -14,7 +15,7 @@ returns c =
     let m5 = pushed _ _ _ _ m4 c.in_ok-put-5.ensures in
     let m6 = pushed _ _ _ _ m5 c.in_ok-put-6.ensures in
     let m7 = pushed _ _ _ _ m6 c.in_ok-put-7.ensures in
-    c.json.ensures ∙ ap (json_reply 200) (m7
+    c.in_ok-object_reply.ensures ∙ ap (object_reply 200) (m7
     ∙ both (ap (λ items. member (codes "groups") (json.Array items)) c.new.ensures)
     (both (ap (member (codes "job")) c.in_ok-text.ensures)
     (both refl

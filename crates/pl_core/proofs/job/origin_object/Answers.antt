@@ -1,7 +1,8 @@
 use Rattle.std.proofs.Common.{refl, ap, ◌∙◌}
 use Rattle.std.specs.Prelude.{codes}
-use Rattle.pl_core.specs.declared.reply.Json.TheVariants as json
-use Rattle.pl_core.specs.Replies.{member}
+use Rattle.pl_json.specs.declared.json.Json.TheVariants as json
+use Rattle.pl_json.specs.Members.{member}
+use Rattle.pl_json.specs.Objects.{object}
 use Rattle.pl_core.proofs.PushLemmas.{pushed, both}
 use Rattle.pl_core.proofs.job.origin_object.Goals as goal
 
@@ -13,7 +14,7 @@ returns c =
     let m4 = pushed _ _ _ _ m3 c.in_ok-put-4.ensures in
     let m5 = pushed _ _ _ _ m4 c.in_ok-put-5.ensures in
     let m6 = pushed _ _ _ _ m5 c.in_ok-put-6.ensures in
-    ap json.Object (m6
+    c.in_ok-object.ensures ∙ ap object (m6
     ∙ both (ap (λ n. member (codes "col") (json.Number n)) c.from.ensures)
     (both (ap (λ items. member (codes "crossings") (json.Array items)) c.new.ensures)
     (both (ap (λ n. member (codes "line") (json.Number n)) c.from-2.ensures)

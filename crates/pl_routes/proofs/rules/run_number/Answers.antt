@@ -1,22 +1,22 @@
-use Rattle.std.proofs.Common.{◌<◌, ◌^◌, List, ℕ, sym, ap, ◌∙◌, subst}
-use Rattle.std.specs.Str.Parse.{IsNumeral, digits_value}
-use Rattle.pl_routes.specs.Rules.{IsPlain}
-use Rattle.pl_routes.proofs.Numbers.{unsigned, fits}
+use Rattle.std.proofs.Common.{sym, ap, ◌∙◌}
+use Rattle.pl_routes.specs.Rules.{is_plain}
+use Rattle.pl_routes.proofs.Numbers.{not_plain, not_parsed, parsed}
 use Rattle.pl_routes.proofs.rules.run_number.Goals as goal
+
+pub returns-then-not-is_plain : goal.returns-then-not-is_plain
+returns-then-not-is_plain c =
+    not_plain c.args.text.now (ap is_plain (sym c.as_bytes.ensures.value) ∙
+    sym c.is_plain.ensures ∙ c.if-not-is_plain.true)
 
 pub returns-in-Ok : goal.returns-in-Ok
 returns-in-Ok c =
-    let plain =
-    subst IsPlain c.as_bytes.ensures.value (c.is_plain.ensures.0 c.if-not-is_plain.false) in
+    let plain = ap is_plain (sym c.as_bytes.ensures.value) ∙ sym c.is_plain.ensures ∙
+    c.if-not-is_plain.false in
     let told = c.in-Ok.ensures.value.0 in
-    let same = unsigned c.args.text.now plain in (
-      record { digits = subst (IsNumeral 10) same told.0.0; plain = plain },
-      told.1 ∙ ap (digits_value 10) same,
-    )
+    parsed c.args.text.now c.in-Ok.number plain told.0.0 told.1
 
 pub returns-in-Err : goal.returns-in-Err
-returns-in-Err c is =
-    let same = sym (unsigned c.args.text.now is.plain) in
-    c.in-Err.ensures.value.0
-    (subst (λ (t : List ℕ). IsNumeral 10 t × (digits_value 10 t < 2 ^ 64)) same
-    (is.digits, fits c.args.text.now is))
+returns-in-Err c =
+    let plain = ap is_plain (sym c.as_bytes.ensures.value) ∙ sym c.is_plain.ensures ∙
+    c.if-not-is_plain.false in
+    not_parsed c.args.text.now plain c.in-Err.ensures.value.0

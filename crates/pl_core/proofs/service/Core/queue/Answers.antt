@@ -1,9 +1,9 @@
 use Rattle.std.proofs.Common.{◌≡◌, ◌+◌, Some, cond, ap, sym, subst, ◌∙◌}
 use Rattle.std.specs.Prelude.{nat_lt, codes, IfOk}
 use Rattle.pl_core.specs.declared.plan.FirstPlan.{FirstPlan}
-use Rattle.pl_core.specs.declared.reply.Reply.{Reply}
+use Rattle.pl_requests.specs.declared.reply.Reply.{Reply}
 use Rattle.pl_core.specs.State.{State, last_run, created, reply_to_plan}
-use Rattle.pl_core.specs.Replies.{refusal}
+use Rattle.pl_requests.specs.Replies.{refusal}
 use Rattle.pl_core.proofs.service.Core.queue.Goals as goal
 
 -- behind the last number no run is queued

@@ -1,4 +1,3 @@
-use Rattle.std.proofs.Common.{rules, arith}
 use borrow.Author.Tests.{ltb-true}
 use Rattle.pl_wire.proofs.Waits.{waits_now}
 use Rattle.pl_wire.proofs.waiting.Waiting.goes_on.Goals as goal

@@ -1,0 +1,41 @@
+//! Lists.
+
+ghost use Rattle.std.specs.Prelude.{◌≡◌};
+ghost use Rattle.serde_json.specs.View.{items_view, view};
+ghost use Rattle.pl_bodies.specs.Fields.{each, list_of};
+ghost use Rattle.pl_bodies.specs.Meaning.{Gives};
+
+use crate::fault::BodyFault;
+use crate::field::Field;
+use pl_base::List;
+use serde_json::Value;
+use std::alloc::Global;
+
+/// What each of the values says, in order.
+pub(crate) fn each<F: Field>(alloc: Global, values: Vec<Value>) -> Result<List<F>, BodyFault>
+    ensures { Gives result (each F.meant (items_view values.items)) }
+{
+    let mut all = List::new(alloc);
+    let mut rest = values;
+    rest.reverse();
+    while let Some(value) = rest.pop() {
+        let item = F::read(alloc, value)?;
+        all.push(item)?;
+    }
+    Ok(all)
+}
+
+impl<F: Field> Field for List<F> {
+    ghost meant = { list_of F.meant };
+
+    fn read(alloc: Global, value: Value) -> Result<List<F>, BodyFault> {
+        match value {
+            Value::Array(values) => each(alloc, values),
+            Value::Null => Err(BodyFault::Bad),
+            Value::Bool(_) => Err(BodyFault::Bad),
+            Value::Number(_) => Err(BodyFault::Bad),
+            Value::String(_) => Err(BodyFault::Bad),
+            Value::Object(_) => Err(BodyFault::Bad),
+        }
+    }
+}
