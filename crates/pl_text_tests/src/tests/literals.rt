@@ -1,46 +1,9 @@
-use super::place;
-use pl_base::{
-    Crossing, List, MarkedNode, Memory, Node, NodeBody, NodePair, Origin, SharedList, Text, Value,
-};
+use super::{file, place};
+use pl_base::{Crossing, MarkedNode, Memory, Origin, SharedList, Value};
 use pl_literal::{ItemKind, kind_of_item, literal, origin_at, same_value};
+use pl_yaml::read;
 use std::alloc::Global;
 use std::test::Fail;
-
-fn scalar(alloc: Global, line: u32, text: &str) -> Result<Node, Memory> {
-    let place = place(alloc, line)?;
-    let body = NodeBody::Scalar(Text::from_str(alloc, text)?);
-    Ok(Node { place, body })
-}
-
-// The mapping of `job` to that text, which begins on a line.
-fn job(alloc: Global, line: u32, text: &str) -> Result<Node, Memory> {
-    let key = Text::from_str(alloc, "job")?;
-    let key_place = place(alloc, line)?;
-    let item = scalar(alloc, line.saturating_add(1), text)?;
-    let mut pairs = List::new(alloc);
-    pairs.push(NodePair {
-        key,
-        key_place,
-        item,
-    })?;
-    let place = place(alloc, line)?;
-    Ok(Node {
-        place,
-        body: NodeBody::Map(pairs),
-    })
-}
-
-// The list of that job and a scalar.
-fn list(alloc: Global, line: u32, text: &str) -> Result<Node, Memory> {
-    let mut items = List::new(alloc);
-    items.push(job(alloc, line, text)?)?;
-    items.push(scalar(alloc, line.saturating_add(2), "x")?)?;
-    let place = place(alloc, line)?;
-    Ok(Node {
-        place,
-        body: NodeBody::Seq(items),
-    })
-}
 
 // So many borders.
 fn borders(alloc: Global, count: u32) -> Result<SharedList<Crossing>, Memory> {
@@ -51,19 +14,23 @@ fn borders(alloc: Global, count: u32) -> Result<SharedList<Crossing>, Memory> {
     Ok(crossings)
 }
 
-// That list as a value across these borders.
+// What a text spells as a value across these borders.
 fn across(
     alloc: Global,
-    line: u32,
     text: &str,
     crossings: &SharedList<Crossing>,
 ) -> Result<MarkedNode, Memory> {
-    literal(alloc, &list(alloc, line, text)?, crossings)
+    let file = file(alloc)?;
+    match read(alloc, text.as_bytes(), &file) {
+        Ok(node) => literal(alloc, &node, crossings),
+        Err(_) => Err(Memory),
+    }
 }
 
-// That list as a value across so many borders.
-fn value(alloc: Global, line: u32, text: &str, count: u32) -> Result<MarkedNode, Memory> {
-    across(alloc, line, text, &borders(alloc, count)?)
+// What a text spells as a value across so many borders.
+fn value(alloc: Global, text: &str, count: u32) -> Result<MarkedNode, Memory> {
+    let crossings = borders(alloc, count)?;
+    across(alloc, text, &crossings)
 }
 
 // The kind of an array's first item.
@@ -79,24 +46,19 @@ fn first_kind(value: &Value) -> Option<ItemKind> {
 
 // Where a line's first node comes from, across these borders.
 fn origin_on(alloc: Global, line: u32, crossings: &SharedList<Crossing>) -> Result<Origin, Memory> {
-    origin_at(alloc, &place(alloc, line)?, crossings)
+    let place = place(alloc, line)?;
+    origin_at(alloc, &place, crossings)
 }
 
 // Whether a value comes from that line across so many borders.
 fn comes_from(alloc: Global, node: &MarkedNode, line: u32, count: u32) -> Result<bool, Memory> {
-    let wanted = origin_on(alloc, line, &borders(alloc, count)?)?;
-    Ok(node.origin == wanted)
+    let crossings = borders(alloc, count)?;
+    Ok(node.origin == origin_on(alloc, line, &crossings)?)
 }
 
-// Whether a value is the same as that list's on another line.
-fn is_same(
-    alloc: Global,
-    node: &MarkedNode,
-    line: u32,
-    text: &str,
-    count: u32,
-) -> Result<bool, Memory> {
-    let other = value(alloc, line, text, count)?;
+// Whether a value is the same as what a text spells.
+fn is_same(alloc: Global, node: &MarkedNode, text: &str) -> Result<bool, Memory> {
+    let other = value(alloc, text, 0)?;
     Ok(same_value(&node.value, &other.value))
 }
 
@@ -105,13 +67,13 @@ fn is_same(
 #[test]
 fn literals_are_compared_without_origins(rt: HostRuntime) -> Result<(), Fail> {
     let alloc = rt.alloc();
-    let node = value(alloc, 3, "a", 2)?;
+    let node = value(alloc, "\n\n- job: a\n- x", 2)?;
     assert!(rt; comes_from(alloc, &node, 3, 2)?);
     assert!(rt; !comes_from(alloc, &node, 3, 1)?);
     assert_eq!(rt; first_kind(&node.value), Some(ItemKind::Job));
     assert_eq!(rt; kind_of_item(&Value::Null), None);
-    assert!(rt; is_same(alloc, &node, 8, "a", 0)?);
-    assert!(rt; !is_same(alloc, &node, 3, "A", 2)?);
+    assert!(rt; is_same(alloc, &node, "- job: a\n- x")?);
+    assert!(rt; !is_same(alloc, &node, "\n\n- job: A\n- x")?);
     assert!(rt; !same_value(&node.value, &Value::Null));
     Ok(())
 }
