@@ -16,6 +16,7 @@ use crate::alone::{Alone, Answer};
 use crate::buffer::Buffer;
 use crate::served::{Broken, Unread};
 use pl_base::{Clock, Failed, Link};
+use pl_streams::{PIECE, TAKEN_LIMIT};
 use pl_wire::{
     HttpFault, Message, Next, Waiting, fault_reply, memory_reply, next_request, reply_bytes,
 };

@@ -1,5 +1,0 @@
-mod calls;
-mod objects;
-mod plans;
-mod rules;
-mod spelling;

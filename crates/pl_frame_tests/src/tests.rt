@@ -1,0 +1,4 @@
+mod calls;
+mod expressions;
+mod showing;
+mod world;

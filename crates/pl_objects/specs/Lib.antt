@@ -1,4 +1,0 @@
-pub mod Jobs
-pub mod Origins
-pub mod Runs
-pub mod Steps
