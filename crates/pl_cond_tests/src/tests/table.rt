@@ -1,6 +1,7 @@
 ghost use Rattle.pl_results.specs.Nodes.{CanRun};
 
-use crate::plans::plan_in;
+use super::plans::plan_in;
+use super::views::view_of;
 use pl_base::{Memory, Text};
 use pl_cond::{RunView, job_condition, stage_condition};
 use pl_plan::Plan;
@@ -8,7 +9,7 @@ use pl_results::jobs_of;
 use std::alloc::Global;
 
 /// A number of digits, or one that no stage has.
-pub fn number(text: &str) -> u32 {
+fn number(text: &str) -> u32 {
     match text.parse::<u32>() {
         Ok(number) => number,
         Err(_) => u32::MAX,
@@ -56,26 +57,61 @@ fn ask(alloc: Global, plan: &Plan, place: &str, view: &RunView) -> Result<&'stat
     }
 }
 
+fn answer_in(alloc: Global, plan: &Plan, run: &str) -> Result<&'static str, Memory>
+    requires { CanRun plan.now }
+{
+    let (place, stages) = run.split_once(" | ").unwrap_or((run, ""));
+    let view = view_of(alloc, stages)?;
+    ask(alloc, plan, place, &view)
+}
+
 /// The pipeline's text with a condition in place of the word `CONDITION`.
-fn with_condition(alloc: Global, pipeline: &str, condition: &str) -> Result<Text, Memory> {
+fn with_condition(alloc: Global, pipeline: &str, condition: &str) -> Result<String, Memory> {
     let (before, behind) = pipeline.split_once("CONDITION").unwrap_or((pipeline, ""));
-    let mut text = Text::from_str(alloc, before)?;
+    let mut text = String::from_str(alloc, before)?;
     text.push_str(condition)?;
     text.push_str(behind)?;
     Ok(text)
 }
 
 /// What is answered to a condition: `True`, `False`, or `None` where it or its pipeline isn't read.
-pub fn answer_condition(
+fn answer(
     alloc: Global,
     pipeline: &str,
-    place: &str,
-    view: &RunView,
+    run: &str,
     condition: &str,
 ) -> Result<&'static str, Memory> {
     let text = with_condition(alloc, pipeline, condition)?;
     match plan_in(alloc, text.as_str())? {
-        Some(plan) => ask(alloc, &plan, place, view),
+        Some(plan) => answer_in(alloc, &plan, run),
         None => Ok("None"),
     }
+}
+
+fn holds(alloc: Global, pipeline: &str, run: &str, row: &str) -> Result<bool, Memory> {
+    let (wanted, condition) = row.split_once(' ').unwrap_or((row, ""));
+    Ok(answer(alloc, pipeline, run, condition)? == wanted)
+}
+
+fn first_wrong_in(alloc: Global, pipeline: &str, block: &str) -> Result<Text, Memory> {
+    let (run, rows) = block.split_once('\n').unwrap_or((block, "-"));
+    for row in rows.lines() {
+        if !holds(alloc, pipeline, run, row)? {
+            return Text::from_str(alloc, row);
+        }
+    }
+    Ok(Text::new(alloc))
+}
+
+/// The first line of a table that doesn't hold; else the empty text. A table has blocks with empty
+/// lines between. The first line of a block, `PLACE | STAGE | STAGE ..`, says which condition is
+/// asked and how the run stands; each other one is `ANSWER CONDITION`.
+pub fn first_wrong(alloc: Global, pipeline: &str, table: &str) -> Result<Text, Memory> {
+    for block in table.split("\n\n") {
+        let wrong = first_wrong_in(alloc, pipeline, block)?;
+        if !wrong.as_str().is_empty() {
+            return Ok(wrong);
+        }
+    }
+    Ok(Text::new(alloc))
 }

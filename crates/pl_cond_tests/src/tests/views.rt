@@ -51,7 +51,7 @@ fn jobs_of(alloc: Global, words: &str) -> Result<List<JobView>, Memory> {
 
 fn all_results(alloc: Global, stages: &str) -> Result<List<Option<Outcome>>, Memory> {
     let mut results = List::new(alloc);
-    for stage in stages.lines() {
+    for stage in stages.split(" | ") {
         let (result, _jobs) = stage.split_once(": ").unwrap_or((stage, ""));
         results.push(outcome_of(result))?;
     }
@@ -60,18 +60,18 @@ fn all_results(alloc: Global, stages: &str) -> Result<List<Option<Outcome>>, Mem
 
 fn all_jobs(alloc: Global, stages: &str) -> Result<List<List<JobView>>, Memory> {
     let mut all = List::new(alloc);
-    for stage in stages.lines() {
+    for stage in stages.split(" | ") {
         let (_result, jobs) = stage.split_once(": ").unwrap_or((stage, ""));
         all.push(jobs_of(alloc, jobs)?)?;
     }
     Ok(all)
 }
 
-/// How a run stands: a line a stage, `RESULT: JOB, JOB ..`, a job being `RESULT NAME=VALUE ..`. A
-/// line `canceled` before them says that the run is canceled.
+/// How a run stands: `STAGE | STAGE ..`, a stage being `RESULT: JOB, JOB ..` and a job
+/// `RESULT NAME=VALUE ..`. `canceled | ` before them says that the run is canceled.
 pub fn view_of(alloc: Global, text: &str) -> Result<RunView, Memory> {
-    let canceled = text.starts_with("canceled\n");
-    let stages = text.strip_prefix("canceled\n").unwrap_or(text);
+    let canceled = text.starts_with("canceled | ");
+    let stages = text.strip_prefix("canceled | ").unwrap_or(text);
     let results = all_results(alloc, stages)?;
     let jobs = all_jobs(alloc, stages)?;
     Ok(RunView {

@@ -1,0 +1,9 @@
+mod faults;
+mod handed;
+mod jobs;
+mod plans;
+mod stages;
+mod statuses;
+mod table;
+mod variables;
+mod views;
