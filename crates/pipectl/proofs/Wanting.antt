@@ -1,5 +1,5 @@
 -- Memory that is wanting before anything was read or written.
-use Rattle.std.proofs.Common.{[], Option, Some, None, refl}
+use Rattle.std.proofs.Common.{[], Option, Some, None, refl, arith}
 use Rattle.pl_offline.specs.declared.ending.Ending.TheVariants as ending
 use Rattle.pl_streams.proofs.Streams.{none_read}
 use Rattle.pl_words.specs.Words.{IsCompile}
@@ -14,4 +14,4 @@ pub before_all :
 before_all None old is = absurd is
 before_all (Some (Replay admin)) old is = absurd is
 before_all (Some (Compile arguments)) old is =
-    (ending.Memory, refl, ([], none_read old.link.left, refl, refl))
+    (ending.Memory, refl, ([], none_read old.link.left, omega arith, refl, refl))
