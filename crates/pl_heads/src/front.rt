@@ -5,7 +5,10 @@ use crate::judging::{front_at, front_below};
 use httparse::spans::EMPTY_HEADER_SPAN;
 
 /// The most bytes of a head.
-const HEAD_LIMIT: usize = 16_384;
+pub const HEAD_LIMIT: usize = 16_384;
+
+/// The most header lines of a head.
+pub const FIELD_LIMIT: usize = 64;
 
 /// The head of a request, and what the service reads of it.
 #[derive(Debug, Drop)]
@@ -42,7 +45,7 @@ pub enum Front<'b> {
 pub fn read_head(bytes: &[u8]) -> Front<'_>
     ensures { StandsAtFront bytes.entry.now result }
 {
-    let mut headers = [EMPTY_HEADER_SPAN; 64];
+    let mut headers = [EMPTY_HEADER_SPAN; FIELD_LIMIT];
     let (front, rest) = bytes.split_at(bytes.len().min(HEAD_LIMIT - 1));
     match front_below(front, &mut headers) {
         Front::Partial => {

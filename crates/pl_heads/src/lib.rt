@@ -12,5 +12,5 @@ mod lines;
 mod reading;
 
 pub use fault::HttpFault;
-pub use front::{Front, Head, read_head};
+pub use front::{FIELD_LIMIT, Front, HEAD_LIMIT, Head, read_head};
 pub use laws::{fronts_stay, one_front};

@@ -4,9 +4,7 @@ ghost use Rattle.pl_scan.specs.Scans.{Follows};
 
 use crate::place::Place;
 use crate::steps::after_byte;
-
-/// The most bytes of a head.
-const HEAD_LIMIT: usize = 16_384;
+use pl_heads::HEAD_LIMIT;
 
 /// How far bytes were seen that come one after the other, and where in a head these end.
 ///

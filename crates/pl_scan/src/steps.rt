@@ -7,13 +7,11 @@ ghost use Rattle.pl_scan.specs.declared.place.Place.TheVariants as place;
 
 use crate::place::Place;
 use httparse::{is_header_name_token, is_header_value_token, is_method_token, is_uri_token};
+use pl_heads::FIELD_LIMIT;
 use std::str;
 
 /// What stands before the version's last digit.
 const VERSION: &[u8] = b"HTTP/1.";
-
-/// The most header lines.
-const FIELD_LIMIT: usize = 64;
 
 fn after_empty_lines(byte: u8) -> Option<Place>
     ensures { IfSome result (Leads place.EmptyLines byte) }

@@ -16,7 +16,8 @@ use Rattle.pl_rules.specs.declared.day.Day.TheVariants.{Mon, Tue, Wed, Thu, Fri,
 use Rattle.pl_zones.specs.declared.local.Local.{Local}
 use Rattle.pl_zones.specs.Fixed.{fixed_offset}
 use Rattle.pl_zones.specs.Zones.{instant, IsOffsetAt, IsOffsetByRule}
-use Rattle.pl_zones.specs.Locals.{IsLocal, IsShown, day_number}
+use Rattle.pl_rules.specs.Days.{day_number}
+use Rattle.pl_zones.specs.Locals.{IsLocal, IsShown}
 
 -- a rule's moment depends on the day and the time that it shows
 same_moment : (year : ℤ) (a b : DayTime) (s t : ℤ) → a.date ≡ b.date → a.time ≡ b.time → s ≡ t →

@@ -2,20 +2,9 @@
 use Rattle.std.specs.Prelude.{◌≡◌, ℕ, ℤ, pos, ◌+ℤ◌, ◌/◌, List, unsigned_abs}
 use Rattle.std.specs.Int.{int_div_euclid, int_rem_euclid}
 use Rattle.jiff_core.specs.Calendar.{weekday_number}
-use Rattle.pl_rules.specs.declared.day.Day.{Day}
-use Rattle.pl_rules.specs.declared.day.Day.TheVariants.{Mon, Tue, Wed, Thu, Fri, Sat, Sun}
+use Rattle.pl_rules.specs.Days.{day_number}
 use Rattle.pl_zones.specs.declared.local.Local.{Local}
 use Rattle.pl_zones.specs.Zones.{IsOffsetAt}
-
--- the number of a day of the week, from 0 for Monday
-abbrev pub day_number : Day → ℕ
-day_number Mon = 0
-day_number Tue = 1
-day_number Wed = 2
-day_number Thu = 3
-day_number Fri = 4
-day_number Sat = 5
-day_number Sun = 6
 
 -- what clocks show that are so many seconds ahead of UTC: the local second is the moment and these
 -- seconds, a day has 86,400 of them, and the day's number since 1970-01-01 gives its weekday

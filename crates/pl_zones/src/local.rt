@@ -1,7 +1,8 @@
 ghost use Rattle.std.specs.Prelude.{◌≡◌, ◌≤◌, ◌/◌, ◌+ℤ◌, pos, neg_ℤ, unsigned_abs};
 ghost use Rattle.std.specs.Int.{int_rem_euclid};
 ghost use Rattle.jiff_core.specs.Calendar.{IsBetween, IsWithin, weekday_number};
-ghost use Rattle.pl_zones.specs.Locals.{IsShown, day_number};
+ghost use Rattle.pl_rules.specs.Days.{day_number};
+ghost use Rattle.pl_zones.specs.Locals.{IsShown};
 
 use pl_base::Moment;
 use pl_rules::Day;
