@@ -278,7 +278,8 @@ linked_push {K} item link test kept k linked last = λ i d lt passes.
         let len = length_push kept k in
         let is : i ≡ length kept = omega arith in
         let P : ℕ → Type 0 = λ n. test (item (get_or (kept ++ k ∷ []) n d)) ≡ true →
-        link (get_or (kept ++ k ∷ []) n d) ≡ last_number test (take n (map item (kept ++ k ∷ []))) in
+        link (get_or (kept ++ k ∷ []) n d) ≡
+        last_number test (take n (map item (kept ++ k ∷ []))) in
         subst P (sym is) (λ here. ap link (at_end kept k d)
         ∙ last (sym (ap (λ j. test (item j)) (at_end kept k d)) ∙ here)
         ∙ ap (last_number test) (sym (items_all item kept k))) passes

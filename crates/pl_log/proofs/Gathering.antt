@@ -8,7 +8,8 @@ use Rattle.pl_log.specs.Kept.{IsLinked, item_of, items_of, link_of}
 use Rattle.pl_log.specs.declared.kept.Kept.{Kept}
 use Rattle.pl_log.specs.declared.kept.Link.{Link}
 use Rattle.pl_log.proofs.Chains.{fails_too, last_number_le, last_number_stands}
-use Rattle.pl_log.proofs.Chains.{length_take_le_n, map_get_or_at, stands_here, take_suc, wide_of_both}
+use Rattle.pl_log.proofs.Chains.{length_take_le_n, map_get_or_at, stands_here, take_suc}
+use Rattle.pl_log.proofs.Chains.{wide_of_both}
 
 latest_first_push : {X : Type 0} (test : X → Bool) (xs : List X) (x : X) →
     latest_first test (xs ++ x ∷ []) ≡ cond (test x) (x ∷ []) [] ++ latest_first test xs
@@ -37,7 +38,8 @@ latest_first_upto test wider (x ∷ xs) narrow = upto_behind test wider x xs (la
     (wider x) narrow refl (latest_first_upto test wider xs narrow)
 
 -- what was found and what is left to find are all
-pub record Gathers {X : Type 0} (wider test : X → Bool) (xs : List X) (n : ℕ) (found : List X) : Type 0
+pub record Gathers {X : Type 0} (wider test : X → Bool) (xs : List X) (n : ℕ)
+    (found : List X) : Type 0
   where
     pub stands : last_number wider (take n xs) ≡ n
     pub all : latest_first (λ x. wider x && test x) xs ≡
@@ -71,7 +73,8 @@ gathers_on {X} wider test xs m d n found lt gathers is =
           ∙ ap (λ l. found ++ l) (latest_first_push both before here)
           ∙ ap (λ b. found ++ (cond (b && test here) (here ∷ []) [] ++ latest_first both before))
           (stands_here wider xs m d lt gathers.stands)
-          ∙ ap (λ l. found ++ (one ++ l)) (latest_first_upto both wider before (wide_of_both wider test)
+          ∙ ap (λ l. found ++ (one ++ l))
+          (latest_first_upto both wider before (wide_of_both wider test)
           ∙ ap (λ k. latest_first both (take k before)) (sym is) ∙ ap (latest_first both) same)
           ∙ sym (append_assoc found one (latest_first both (take n xs)));
     }
@@ -110,7 +113,8 @@ module _ {X : Type 0} (link : Link) (passes : X → Bool) (kept : List (Kept X))
       let Q : X → Type 0 = λ x. Gathers wider passes items next
       (found ++ cond (passes x) (x ∷ []) []) in
       let R : List X → Type 0 = Gathers wider passes items next in
-      subst R (sym is_more) (subst Q here (gathers_on wider passes items (n - 1) one.item next found lt
+      subst R (sym is_more)
+      (subst Q here (gathers_on wider passes items (n - 1) one.item next found lt
       gather (goes_on ∙ ap (link_of link) is ∙ linked (n - 1) one (omega arith) wide)))
 
   pub gather_ends : (n : ℕ) (found : List X) → n ≡ 0 → GathersFor link passes kept from n found →

@@ -72,7 +72,8 @@ module _ {X : Type 0} (named : X → Named) (second : X → Option SecondNamed) 
       go : (one : Option SecondNamed) → second k.item ≡ one → has_second_row second_rows one ≡ true
       go None is = refl
       go (Some key) is = second_row_there second_rows key (length (items_of front))
-          (tied_last (is_also_about second) (second_number_at second_rows) (items_of front) k.item key
+          (tied_last (is_also_about second) (second_number_at second_rows) (items_of front) k.item
+          key
           (subst P (items_push front k) h.second_tied)
           (ap (λ one. names one key) is ∙ second_itself key))
 
@@ -156,17 +157,22 @@ module _ {X : Type 0} (named : X → Named) (second : X → Option SecondNamed) 
       record {
         tied = subst P (sym (items_push kept k)) (tied_push (is_about named) (number_at rows)
             (number_at new_rows) items k.item h.tied
-            (λ key. set key ∙ ap (λ m. cond (is_about named key k.item) m (number_at rows key)) number));
+            (λ key. set key ∙
+            ap (λ m. cond (is_about named key k.item) m (number_at rows key)) number));
         second_tied = subst Q (sym (items_push kept k)) (tied_push (is_also_about second)
-            (second_number_at second_rows) (second_number_at new_second_rows) items k.item h.second_tied
+            (second_number_at second_rows) (second_number_at new_second_rows) items k.item
+            h.second_tied
             (λ key. second_set key ∙
-            ap (λ m. cond (is_also_about second key k.item) m (second_number_at second_rows key)) number));
+            ap (λ m. cond (is_also_about second key k.item) m (second_number_at second_rows key))
+            number));
         linked = λ key. linked_push item_of (link_of First) (is_about named key) kept k
             (h.linked key) (λ passes. before ∙ h.tied (named k.item) ∙
             ap (λ q. last_number (is_about named q) items) (exact_key (named k.item) key passes));
-        second_linked = λ key. linked_push item_of (link_of Second) (is_also_about second key) kept k
+        second_linked = λ key. linked_push item_of (link_of Second) (is_also_about second key) kept
+            k
             (h.second_linked key) (λ passes. second_before ∙
-            ap (second_number second_rows) (exact_name (second k.item) key passes) ∙ h.second_tied key);
+            ap (second_number second_rows) (exact_name (second k.item) key passes) ∙
+            h.second_tied key);
         leads = elim [
           | First ↦ leads_push (link_of First) kept k (h.leads First)
               (let le = last_number_le (is_about named (named k.item)) items in
@@ -193,7 +199,8 @@ module _ {X : Type 0} (named : X → Named) (second : X → Option SecondNamed) 
       let Q : List X → Type 0 =
       IsTied (is_also_about second) (second_number_at second_rows) in
       record {
-        tied = tied_back (is_about named) (number_at rows) (number_at new_rows) items k.item k.before
+        tied = tied_back (is_about named) (number_at rows) (number_at new_rows) items k.item
+            k.before
             (subst P (items_push front k) h.tied)
             (λ key passes. linked_last item_of (link_of First) (is_about named key) front k
             (h.linked key) passes) set;

@@ -6,7 +6,8 @@ use Rattle.pl_log.proofs.walking.walk_all.Goals as goal
 pub loop-number-init : goal.loop-number-init
 loop-number-init g c = record {
   within = c.requires.within;
-  gathers = gather_begins c.args.link (g.F.Test.passes c.args.test.now) c.args.kept.now c.args.from _
+  gathers = gather_begins c.args.link (g.F.Test.passes c.args.test.now) c.args.kept.now
+      c.args.from _
       (ap (map (λ item. item.now)) c.new-found.ensures.items);
 }
 
