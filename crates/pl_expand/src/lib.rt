@@ -6,6 +6,7 @@ mod extending;
 mod filling;
 mod merging;
 mod root;
+mod rooting;
 
 pub use expansion::{expand, expand_counted};
 pub use pl_calls::{Files, Parsed};
