@@ -17,8 +17,8 @@ use Rattle.pl_directives.specs.declared.manner.Manner.{Manner}
 use Rattle.pl_directives.specs.declared.manner.Manner.TheVariants.{Empty, Stays, Splices, Mixed}
 use Rattle.pl_directives.specs.declared.manner.Manner.TheVariants.{Unclosed}
 
--- a pair as far as its manner goes: how expressions stand in its key, where that stands, its value's
--- kind where that is written there, and where the value stands
+-- a pair as far as its manner goes: how expressions stand in its key, where that stands, its
+-- value's kind where that is written there, and where the value stands
 pub record Facet : Type 0 where
   pub key : ScalarForm
   pub key_place : Place

@@ -110,8 +110,8 @@ fn are_directives(alloc: Global, pairs: &List<NodePair>) -> Result<bool, Memory>
 
 /// Whether one of the keys is `insert`.
 fn has_insert(alloc: Global, pairs: &List<NodePair>) -> Result<bool, Memory>
-    ensures { IfOk result (λ has. has ≡ list_any (λ one. is_insert (form_of_key one.key)) (map facet_of
-        (map entry_of pairs.now))) }
+    ensures { IfOk result (λ has. has ≡ list_any (λ one. is_insert (form_of_key one.key)) (map
+        facet_of (map entry_of pairs.now))) }
 {
     for pair in pairs.as_slice() {
         if is_insert(&key_form(alloc, &pair.key)?) {
