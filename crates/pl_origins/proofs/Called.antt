@@ -31,7 +31,7 @@ use Rattle.pl_calls.specs.Calls.{Called, path_text, pairs_from, arguments_at, ar
 use Rattle.pl_calls.specs.Calls.{call_from, call_of, given_across}
 use Rattle.pl_calls.specs.Frames.{parameters_for, template_of, framed_by}
 use Rattle.pl_calls.specs.Judging.{unless_at, mapping_in, template_in, held, body_in, form_key}
-use Rattle.pl_calls.specs.Judging.{stray, may_stand}
+use Rattle.pl_calls.specs.Judging.{stray, may_stand, body_fits}
 use Rattle.pl_calls.specs.Parameters.{declared_by, bound_to}
 use Rattle.pl_calls.specs.Parts.{Body, body_of, under, key_place_of}
 use Rattle.pl_calls.specs.Reaching.{Opens, node_in as file_node}
@@ -83,11 +83,11 @@ module _ (P Q : Origin → Type 0) (R : Place → Type 0) (crossing : Crossing)
   )
 
   pub framed_from :
-      (file : FileKey) (level : ℕ) (pairs : List NodePair) (variables : List Variable)
+      (file : FileKey) (pairs : List NodePair) (variables : List Variable)
       (arguments : List MarkedPair) → Each (PairIn R) pairs → Each (PairFrom P P) arguments →
-      IfOk (framed_by (template_of file level pairs) variables arguments crossing crossings)
+      IfOk (framed_by (template_of file pairs) variables arguments crossing crossings)
       (FrameFrom Q R)
-  framed_from file level pairs variables arguments within all =
+  framed_from file pairs variables arguments within all =
       let given = map (given_across crossing) arguments in
       let behind = crossings ++ crossing ∷ [] in
       ok_then (Each (ParameterFrom Q R)) (FrameFrom Q R) (parameters_for pairs behind given) _
@@ -276,17 +276,17 @@ module _ (P : Origin → Type 0) (R : FileKey → Place → Type 0) (K : FileKey
     (U : List FileKey → Type 0) (borders : Borders P R K) (opens : Opens)
     (opening : OpensFrom R K U opens) where
   frame_for_from :
-      (key : FileKey) (level : ℕ) (pairs : List NodePair) (call : Called) (frame : Frame) →
+      (key : FileKey) (pairs : List NodePair) (call : Called) (frame : Frame) →
       Each (PairIn (R key)) pairs → K key → CallFrom P call →
-      IfOk (frame_for key level pairs call frame) (FrameFrom P (R key))
-  frame_for_from key level pairs call frame within known from =
+      IfOk (frame_for key pairs call frame) (FrameFrom P (R key))
+  frame_for_from key pairs call frame within known from =
       let at : Origin = record { source = call.at; crossings = call.crossings } in
       framed_from P P (R key) (Include key call.at) call.crossings
       (λ place stands. borders.literal key at place known from.0 stands)
       (λ place stands. borders.made key at place known from.0 stands)
       (λ origin is name place stands. borders.argument key at origin name place known from.0 is
       stands)
-      key level pairs frame.variables call.arguments within from.1
+      key pairs frame.variables call.arguments within from.1
 
   deeper_from :
       (next : Option Follow) (at : Place) → Has (FollowFrom P U) next →
@@ -295,9 +295,9 @@ module _ (P : Origin → Type 0) (R : FileKey → Place → Type 0) (K : FileKey
   deeper_from (Some follow) at follows = follows
 
   call_gives :
-      (next : Option Follow) → Has (FollowFrom P U) next → (level : ℕ) →
-      FollowFrom P U (call_by next level opens)
-  call_gives next follows level frame form item count used =
+      (next : Option Follow) → Has (FollowFrom P U) next →
+      FollowFrom P U (call_by next opens)
+  call_gives next follows frame form item count used =
       let H : Type 0 = NodeFrom P P item in
       let S = FollowedFrom P in
       first_then U (CallFrom P) S H used (call_of item) _ (call_of_from P item)
@@ -318,12 +318,15 @@ module _ (P : Origin → Type 0) (R : FileKey → Place → Type 0) (K : FileKey
       (body_inside (R opened.key) form node.place pairs inside)
       (λ body stands. first_then U (FrameFrom P (R opened.key)) S
       ((H × CallFrom P call) × K opened.key) later
-      (frame_for opened.key level pairs call frame) _
-      (λ h. frame_for_from opened.key level pairs call frame inside h.1 h.0.1)
+      (frame_for opened.key pairs call frame) _
+      (λ h. frame_for_from opened.key pairs call frame inside h.1 h.0.1)
       (λ inner. plain_then U S
       (((H × CallFrom P call) × K opened.key) × FrameFrom P (R opened.key) inner) later
       (entered node.place count) _
-      (λ count. used_then U (OneFrom P (R opened.key)) S
+      (λ count. plain_then U S
+      (((H × CallFrom P call) × K opened.key) × FrameFrom P (R opened.key) inner) later
+      (body_fits form body) _
+      (λ none. used_then U (OneFrom P (R opened.key)) S
       (((H × CallFrom P call) × K opened.key) × FrameFrom P (R opened.key) inner) later
       (expanded body (scope_of follow inner (InCalls form)) count later) _
       (expanded_gives P (R opened.key) U body stands
@@ -332,11 +335,11 @@ module _ (P : Origin → Type 0) (R : FileKey → Place → Type 0) (K : FileKey
       (λ one last. alone_gives U S
       ((((H × CallFrom P call) × K opened.key) × FrameFrom P (R opened.key) inner)
       × OneFrom P (R opened.key) one) last (items_from form body.place one)
-      (λ h. items_from_inside P (R opened.key) form body.place one h.1))))))))))
+      (λ h. items_from_inside P (R opened.key) form body.place one h.1)))))))))))
 
   -- with so many levels of templates below
   pub followed_gives : (levels : ℕ) → FollowFrom P U (followed levels opens)
   unfolding followed
-  followed_gives zero = call_gives None tt 0
+  followed_gives zero = call_gives None tt
   followed_gives (suc left) =
-      call_gives (Some (followed left opens)) (followed_gives left) (100 - left)
+      call_gives (Some (followed left opens)) (followed_gives left)

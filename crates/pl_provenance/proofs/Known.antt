@@ -51,7 +51,7 @@ use Rattle.pl_origins.proofs.Nodes.{NodeIn, PairIn, BodyIn, node_in, under_in}
 use Rattle.pl_origins.proofs.Scalars.{OneFrom}
 use Rattle.pl_origins.proofs.Steps.{Used, Gives, ok_then, plain_then, used_then}
 use Rattle.pl_origins.proofs.Steps.{done_gives}
-use Rattle.pl_expand.specs.declared.filling.RootFilling.{RootFilling}
+use Rattle.pl_expand.specs.declared.rooting.RootFilling.{RootFilling}
 use Rattle.pl_expand.specs.declared.root.RootNode.{RootNode}
 use Rattle.pl_expand.specs.declared.root.RootTree.{RootTree}
 use Rattle.pl_root.specs.Resources.{earliest}
@@ -62,7 +62,7 @@ use Rattle.pl_root.specs.Frames.{first_frame}
 use Rattle.pl_expand.specs.Tree.{root_from, root_object, root_mapping, pairs_expanded, home_of}
 use Rattle.pl_expand.specs.Tree.{bare_home, used_files, mapping_expanded, bare_expanded}
 use Rattle.pl_expand.specs.Tree.{other_expanded, body_expanded_by, root_node, tree_of}
-use Rattle.pl_provenance.specs.Known.{IsUsed, IsGiven, IsBorder}
+use Rattle.pl_provenance.specs.Known.{IsUsed, IsGiven, IsUsedFile, IsBorder}
 use Rattle.pl_provenance.specs.Known.{IsKnown, OriginsAreKnown}
 use Rattle.pl_provenance.proofs.Extended.{ExtendsBorder, ExtensionFrom}
 use Rattle.pl_provenance.proofs.Merged.{object_from_root}
@@ -144,33 +144,35 @@ module _ (final : List FileKey) where
       by true called = (λ all. all, λ all h. called_used key used called all)
       by false other = more (nat_le 100 (length used))
 
-  abbrev IsFinal : OpenedFile → Type 0
-  IsFinal opened = Contains final opened.key
+  module _ (files : Set) where
+    abbrev IsFinal : OpenedFile → Type 0
+    IsFinal opened = IsUsedFile files final opened.key
 
-  found_gives :
-      (at : Place) (key : FileKey) (found : Option Parsed) (used : List FileKey) →
-      Gives AreUsed (Unit {0}) used (found_at at key found used) IsFinal
-  found_gives at key None used = tt
-  found_gives at key (Some file) used =
-      used_then AreUsed (λ none. Contains final key) IsFinal (Unit {0}) used
-      (called_then at key used) _ (then_gives at key used)
-      (λ none later. done_gives AreUsed IsFinal (Unit {0} × Contains final key) later
-      (record { key = key; file = file }) (λ h. h.1))
+    found_gives :
+        (at : Place) (key : FileKey) (found : Option Parsed) (used : List FileKey) →
+        finite.get files key ≡ found →
+        Gives AreUsed (Unit {0}) used (found_at at key found used) IsFinal
+    found_gives at key None used there = tt
+    found_gives at key (Some file) used there =
+        used_then AreUsed (λ none. Contains final key) IsFinal (Unit {0}) used
+        (called_then at key used) _ (then_gives at key used)
+        (λ none later. done_gives AreUsed IsFinal (Unit {0} × Contains final key) later
+        (record { key = key; file = file }) (λ h. (h.1, (file, there))))
 
-  opened_gives :
-      (files : Set) (at : Place) (key : Option FileKey) (used : List FileKey) →
-      Gives AreUsed (Unit {0}) used (opened_at files at key used) IsFinal
-  opened_gives files at None used = tt
-  opened_gives files at (Some key) used = found_gives at key (finite.get files key) used
+    opened_gives :
+        (at : Place) (key : Option FileKey) (used : List FileKey) →
+        Gives AreUsed (Unit {0}) used (opened_at files at key used) IsFinal
+    opened_gives at None used = tt
+    opened_gives at (Some key) used = found_gives at key (finite.get files key) used refl
 
-  opens_known : (files : Set) (home : Home) →
-      OpensFrom (IsIn files) (Contains final) AreUsed (opens_of files home)
-  opens_known files home = record {
-    file = files_stand files home;
-    used =
-        λ at path used. plain_then AreUsed IsFinal (Unit {0}) used
-        (target at (cut_path path) home) _ (λ key. opened_gives files at key used);
-  }
+    opens_known : (home : Home) →
+        OpensFrom (IsIn files) (IsUsedFile files final) AreUsed (opens_of files home)
+    opens_known home = record {
+      file = files_stand files home;
+      used =
+          λ at path used. plain_then AreUsed IsFinal (Unit {0}) used
+          (target at (cut_path path) home) _ (λ key. opened_gives at key used);
+    }
 
 -- ---- what is known is kept across borders
 
@@ -196,49 +198,49 @@ module _ (files : Set) (final : List FileKey) (arguments : List RunArgument) whe
   seen key origin known own =
       (own, λ at stands. (inl (in_file key at known stands), own.1))
 
-  known_inside : Borders Known (IsIn files) (Contains final)
+  known_inside : Borders Known (IsIn files) (IsUsedFile files final)
   known_inside = record {
     literal =
         λ key call place known own here. (
-          inl (in_file key place known here),
+          inl (in_file key place known.0 here),
           behind call.crossings (Include key call.source) own.1 (known, own.0),
         );
     made =
         λ key call place known own here. (
-          inl (in_file key place known here),
+          inl (in_file key place known.0 here),
           behind (call.crossings ++ Include key call.source ∷ []) Made
               (behind call.crossings (Include key call.source) own.1 (known, own.0)) tt,
         );
     argument =
-        λ key call given name place known own from_given here. seen key _ known (
+        λ key call given name place known own from_given here. seen key _ known.0 (
           from_given.0,
           behind (given.crossings ++ Include key call.source ∷ []) (Argument name place)
               (behind given.crossings (Include key call.source) from_given.1 (known, own.0))
-              (in_file key place known here),
+              (in_file key place known.0 here),
         );
   }
 
   abbrev AnyFile : FileKey → Origin → Type 0
   AnyFile file = Known
 
-  known_crossing : ExtendsBorder Known AnyFile (IsIn files) (Contains final)
+  known_crossing : ExtendsBorder Known AnyFile (IsIn files) (IsUsedFile files final)
   known_crossing = record {
     literal =
         λ key path place known own here. (
-          inl (in_file key place known here),
+          inl (in_file key place known.0 here),
           behind path.crossings (Extends key) own.1 known,
         );
     made =
         λ key path place known own here. (
-          inl (in_file key place known here),
+          inl (in_file key place known.0 here),
           behind (path.crossings ++ Extends key ∷ []) Made
               (behind path.crossings (Extends key) own.1 known) tt,
         );
     argument =
-        λ key one name place known own here. seen key _ known (
+        λ key one name place known own here. seen key _ known.0 (
           own.0,
           behind (one.crossings ++ Extends key ∷ []) (Argument name place)
-              (behind one.crossings (Extends key) own.1 known) (in_file key place known here),
+              (behind one.crossings (Extends key) own.1 known) (in_file key place known.0 here),
         );
   }
 
@@ -381,7 +383,7 @@ module _ (files : Set) (root : FileKey) (arguments : List RunArgument) where
       (pairs_expanded (root_mapping root place pairs parameters)
       (opens_of files (home_of root pairs))) _
       (λ ends. pairs_expanded_give (In ends) (λ file. In ends) (IsIn files)
-      (Contains (used_files root ends)) (U ends)
+      (IsUsedFile files (used_files root ends)) (U ends)
       (known_crossing files (used_files root ends) arguments)
       (λ file. known_inside files (used_files root ends) arguments)
       (known_inside files (used_files root ends) arguments)
@@ -404,7 +406,7 @@ module _ (files : Set) (root : FileKey) (arguments : List RunArgument) where
       Free) 0 []) _
       (λ ends. expanded_gives (In ends) R (U ends) node within (Unit {0})
       (followed 100 (opens_of files (bare_home root))) (first_frame root parameters) Free 0 []
-      (followed_gives (In ends) (IsIn files) (Contains (used_files root ends)) (U ends)
+      (followed_gives (In ends) (IsIn files) (IsUsedFile files (used_files root ends)) (U ends)
       (known_inside files (used_files root ends) arguments) (opens_of files (bare_home root))
       (opens_known (used_files root ends) files (bare_home root)) 100)
       (λ h. root_frame_from (In ends) R (OfArguments files (used_files root ends) arguments)

@@ -1,6 +1,7 @@
 -- Every origin of an expanded tree tells places that exist: in files that were used, or in the run
 -- arguments.
-use Rattle.std.specs.Prelude.{◌≡◌, ◌⊎◌, List, Ok, Contains, IfOk}
+use Rattle.std.specs.Prelude.{◌≡◌, ◌⊎◌, List, Some, Ok, Contains, IfOk}
+use Rattle.std.specs.FinMap as finite
 use Rattle.std.specs.List.{AllByRecursion}
 use Rattle.pl_base.specs.Places.{place_at}
 use Rattle.pl_base.specs.declared.expanded.Argument.{Argument as RunArgument}
@@ -10,6 +11,7 @@ use Rattle.pl_base.specs.declared.origin.Crossing.TheVariants.{Extends, Include,
 use Rattle.pl_base.specs.declared.origin.Origin.{Origin}
 use Rattle.pl_base.specs.declared.place.FileKey.{FileKey}
 use Rattle.pl_base.specs.declared.place.Place.{Place}
+use Rattle.pl_calls.specs.declared.files.Parsed.{Parsed}
 use Rattle.pl_yaml.specs.Spells as yaml
 use Rattle.pl_eval_laws.specs.Trees.{origins_of}
 use Rattle.pl_origins.specs.Places.{places_of}
@@ -42,12 +44,17 @@ pub record IsGiven (arguments : List RunArgument) (place : Place) : Type 0 where
 abbrev pub IsPlace : Set → List FileKey → List RunArgument → Place → Type 0
 IsPlace files used arguments place = IsUsed files used place ⊎ IsGiven arguments place
 
--- A border leads into a used file. An item that calls stands in a used file or was given by a run
+-- a used file that is there, so that its text is among the sources of a plan
+abbrev pub IsUsedFile : Set → List FileKey → FileKey → Type 0
+IsUsedFile files used key =
+    Contains used key × ((file : Parsed) × (finite.get files key ≡ Some file))
+
+-- A border leads into a used file that is there. An item that calls stands in a used file or was given by a run
 -- argument, and an expression that takes a parameter stands in a used file.
 abbrev pub IsBorder : Set → List FileKey → List RunArgument → Crossing → Type 0
-IsBorder files used arguments (Extends file) = Contains used file
+IsBorder files used arguments (Extends file) = IsUsedFile files used file
 IsBorder files used arguments (Include file at) =
-    Contains used file × IsPlace files used arguments at
+    IsUsedFile files used file × IsPlace files used arguments at
 IsBorder files used arguments (Argument name at) = IsUsed files used at
 IsBorder files used arguments Made = Unit {0}
 
