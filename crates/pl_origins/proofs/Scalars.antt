@@ -18,7 +18,6 @@ use Rattle.pl_template.specs.declared.forms.ScalarForm.{ScalarForm}
 use Rattle.pl_template.specs.declared.forms.ScalarForm.TheVariants.{Plain, Whole, Joined, Unclosed}
 use Rattle.pl_template.specs.declared.forms.KeyForm.{KeyForm}
 use Rattle.pl_template.specs.declared.forms.KeyForm.TheVariants as form
-use Rattle.pl_template.specs.declared.forms.Piece.{Piece}
 use Rattle.pl_template.specs.Keys.{key_form_of}
 use Rattle.pl_directives.specs.declared.action.Action.{Action}
 use Rattle.pl_directives.specs.declared.action.Action.TheVariants as action
