@@ -49,8 +49,8 @@ abbrev pub IsUsedFile : Set → List FileKey → FileKey → Type 0
 IsUsedFile files used key =
     Contains used key × ((file : Parsed) × (finite.get files key ≡ Some file))
 
--- A border leads into a used file that is there. An item that calls stands in a used file or was given by a run
--- argument, and an expression that takes a parameter stands in a used file.
+-- A border leads into a used file that is there. An item that calls stands in a used file or was
+-- given by a run argument, and an expression that takes a parameter stands in a used file.
 abbrev pub IsBorder : Set → List FileKey → List RunArgument → Crossing → Type 0
 IsBorder files used arguments (Extends file) = IsUsedFile files used file
 IsBorder files used arguments (Include file at) =
