@@ -51,13 +51,14 @@ module _ (texts : Texts) (whole : Expanded) (pipeline : Pipeline) (compiled : Co
   }
 
   pub are_known :
-      (arguments : List Argument) → compiled.sources.files ≡ texts_of texts whole.used →
-      Each (IsKnown (read_all texts) whole.used arguments) (origins_of whole.tree) →
-      AreKnown texts arguments compiled
-  are_known arguments sources known = record {
+      (root : FileKey) (arguments : List Argument) →
+      compiled.sources.files ≡ texts_of texts whole.used →
+      Each (IsKnown (read_all texts) root whole.used arguments) (origins_of whole.tree) →
+      AreKnown texts root arguments compiled
+  are_known root arguments sources known = record {
     used = whole.used;
     sources = sources;
-    known = steps_hold (IsKnown (read_all texts) whole.used arguments) whole pipeline compiled.plan
-        reads plans
-        (jobs_hold (IsKnown (read_all texts) whole.used arguments) whole.tree known);
+    known = steps_hold (IsKnown (read_all texts) root whole.used arguments) whole pipeline
+        compiled.plan reads plans
+        (jobs_hold (IsKnown (read_all texts) root whole.used arguments) whole.tree known);
   }

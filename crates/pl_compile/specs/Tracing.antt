@@ -36,9 +36,10 @@ abbrev pub ComeFromClosure :
 ComeFromClosure texts root arguments file compiled =
     compiled.plan.extends ≡ Some file → AreFromClosure texts root arguments file compiled
 
--- Each origin in a step tells places of used files or of run arguments; the used files are those
--- among the plan's sources.
-pub record AreKnown (texts : Texts) (arguments : List Argument) (compiled : Compiled) : Type 0 where
+-- Each origin in a step tells places of used files or of run arguments, and what no argument and no
+-- expression gave stands where its borders lead; the used files are those among the plan's sources.
+pub record AreKnown (texts : Texts) (root : FileKey) (arguments : List Argument)
+    (compiled : Compiled) : Type 0 where
   pub used : List FileKey
   pub sources : compiled.sources.files ≡ texts_of texts used
-  pub known : AreStepsFrom (IsKnown (read_all texts) used arguments) compiled.plan
+  pub known : AreStepsFrom (IsKnown (read_all texts) root used arguments) compiled.plan

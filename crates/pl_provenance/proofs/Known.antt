@@ -62,8 +62,9 @@ use Rattle.pl_root.specs.Frames.{first_frame}
 use Rattle.pl_expand.specs.Tree.{root_from, root_object, root_mapping, pairs_expanded, home_of}
 use Rattle.pl_expand.specs.Tree.{bare_home, used_files, mapping_expanded, bare_expanded}
 use Rattle.pl_expand.specs.Tree.{other_expanded, body_expanded_by, root_node, tree_of}
-use Rattle.pl_provenance.specs.Known.{IsUsed, IsGiven, IsUsedFile, IsBorder}
-use Rattle.pl_provenance.specs.Known.{IsKnown, OriginsAreKnown}
+use Rattle.pl_provenance.specs.Known.{IsUsed, IsGiven, IsPlace, IsUsedFile, IsBorder, Leads}
+use Rattle.pl_provenance.specs.Known.{IsOfFiles, IsKnown, OriginsAreKnown}
+use Rattle.pl_provenance.specs.Written.{StandsInFile}
 use Rattle.pl_provenance.proofs.Extended.{ExtendsBorder, ExtensionFrom}
 use Rattle.pl_provenance.proofs.Merged.{object_from_root}
 use Rattle.pl_provenance.proofs.Rooted.{RootBorder, ArgumentIn, parameters_are, root_frame_from}
@@ -174,14 +175,44 @@ module _ (final : List FileKey) where
           (target at (cut_path path) home) _ (λ key. opened_gives at key used);
     }
 
+-- ---- one border more leads on
+
+module _ (files : Set) where
+  called_on :
+      (file : FileKey) (crossings : List Crossing) (key : FileKey) (at place : Place) →
+      Leads files file crossings at → StandsInFile files key place →
+      Leads files file (crossings ++ Include key at ∷ []) place
+  called_on file [] key at place leads stands = (leads, stands)
+  called_on file (Extends other ∷ crossings) key at place leads stands =
+      called_on other crossings key at place leads stands
+  called_on file (Include other there ∷ crossings) key at place leads stands =
+      (leads.0, called_on other crossings key at place leads.1 stands)
+  called_on file (Argument name there ∷ crossings) key at place leads stands = leads
+  called_on file (Made ∷ crossings) key at place leads stands = leads
+
+  extended_on :
+      (file : FileKey) (crossings : List Crossing) (key : FileKey) (there place : Place) →
+      Leads files file crossings there → StandsInFile files key place →
+      Leads files file (crossings ++ Extends key ∷ []) place
+  extended_on file [] key there place leads stands = stands
+  extended_on file (Extends other ∷ crossings) key there place leads stands =
+      extended_on other crossings key there place leads stands
+  extended_on file (Include other at ∷ crossings) key there place leads stands =
+      (leads.0, extended_on other crossings key there place leads.1 stands)
+  extended_on file (Argument name at ∷ crossings) key there place leads stands = leads
+  extended_on file (Made ∷ crossings) key there place leads stands = leads
+
 -- ---- what is known is kept across borders
 
-module _ (files : Set) (final : List FileKey) (arguments : List RunArgument) where
+module _ (files : Set) (root : FileKey) (final : List FileKey) (arguments : List RunArgument) where
   abbrev Known : Origin → Type 0
-  Known = IsKnown files final arguments
+  Known = IsKnown files root final arguments
 
   abbrev Border : Crossing → Type 0
   Border = IsBorder files final arguments
+
+  abbrev Led : List Crossing → Place → Type 0
+  Led crossings place = Each IsOfFiles crossings → Leads files root crossings place
 
   in_file : (key : FileKey) (place : Place) → Contains final key → IsIn files key place →
       IsUsed files final place
@@ -191,12 +222,33 @@ module _ (files : Set) (final : List FileKey) (arguments : List RunArgument) whe
       Border crossing → Each Border (crossings ++ crossing ∷ [])
   behind crossings crossing all one = each_append Border crossings (crossing ∷ []) all (one, tt)
 
-  -- what is seen in a frame keeps its borders wherever it stands in the frame's file
-  seen :
-      (key : FileKey) (origin : Origin) → Contains final key → Known origin →
-      Seen Known (IsIn files key) origin
-  seen key origin known own =
-      (own, λ at stands. (inl (in_file key at known stands), own.1))
+  -- what stands before a border between files has such borders alone
+  before : (crossings : List Crossing) (crossing : Crossing) →
+      Each IsOfFiles (crossings ++ crossing ∷ []) → Each IsOfFiles crossings
+  before crossings crossing all = each_front IsOfFiles crossings (crossing ∷ []) all
+
+  -- behind an argument or an expression nothing is led
+  given_led : (crossings : List Crossing) (crossing : Crossing) (place : Place) →
+      (IsOfFiles crossing → ⊥) → Led (crossings ++ crossing ∷ []) place
+  given_led crossings crossing place none all =
+      absurd (none (each_back IsOfFiles crossings (crossing ∷ []) all).0)
+
+  -- what an argument gave keeps its borders wherever it stands in the frame's file
+  given_seen :
+      (key : FileKey) (source : Place) (crossings : List Crossing) (name : List ℕ)
+      (place : Place) → Contains final key → IsIn files key place →
+      IsPlace files final arguments source → Each Border crossings →
+      Seen Known (IsIn files key)
+      (record { source = source; crossings = crossings ++ Argument name place ∷ [] })
+  given_seen key source crossings name place known here own all =
+      let borders = behind crossings (Argument name place) all (in_file key place known here) in (
+        (own, borders, given_led crossings (Argument name place) source (λ none. none)),
+        λ at stands. (
+          inl (in_file key at known stands),
+          borders,
+          given_led crossings (Argument name place) at (λ none. none),
+        ),
+      )
 
   known_inside : Borders Known (IsIn files) (IsUsedFile files final)
   known_inside = record {
@@ -204,20 +256,21 @@ module _ (files : Set) (final : List FileKey) (arguments : List RunArgument) whe
         λ key call place known own here. (
           inl (in_file key place known.0 here),
           behind call.crossings (Include key call.source) own.1 (known, own.0),
+          λ all. called_on files root call.crossings key call.source place
+              (own.2 (before call.crossings (Include key call.source) all)) here,
         );
     made =
         λ key call place known own here. (
           inl (in_file key place known.0 here),
           behind (call.crossings ++ Include key call.source ∷ []) Made
               (behind call.crossings (Include key call.source) own.1 (known, own.0)) tt,
+          given_led (call.crossings ++ Include key call.source ∷ []) Made place (λ none. none),
         );
     argument =
-        λ key call given name place known own from_given here. seen key _ known.0 (
-          from_given.0,
-          behind (given.crossings ++ Include key call.source ∷ []) (Argument name place)
-              (behind given.crossings (Include key call.source) from_given.1 (known, own.0))
-              (in_file key place known.0 here),
-        );
+        λ key call given name place known own from_given here.
+        given_seen key given.source (given.crossings ++ Include key call.source ∷ []) name place
+        known.0 here from_given.0
+        (behind given.crossings (Include key call.source) from_given.1 (known, own.0));
   }
 
   abbrev AnyFile : FileKey → Origin → Type 0
@@ -229,33 +282,37 @@ module _ (files : Set) (final : List FileKey) (arguments : List RunArgument) whe
         λ key path place known own here. (
           inl (in_file key place known.0 here),
           behind path.crossings (Extends key) own.1 known,
+          λ all. extended_on files root path.crossings key path.source place
+              (own.2 (before path.crossings (Extends key) all)) here,
         );
     made =
         λ key path place known own here. (
           inl (in_file key place known.0 here),
           behind (path.crossings ++ Extends key ∷ []) Made
               (behind path.crossings (Extends key) own.1 known) tt,
+          given_led (path.crossings ++ Extends key ∷ []) Made place (λ none. none),
         );
     argument =
-        λ key one name place known own here. seen key _ known.0 (
-          own.0,
-          behind (one.crossings ++ Extends key ∷ []) (Argument name place)
-              (behind one.crossings (Extends key) own.1 known) (in_file key place known.0 here),
-        );
+        λ key one name place known own here.
+        given_seen key one.source (one.crossings ++ Extends key ∷ []) name place known.0 here own.0
+        (behind one.crossings (Extends key) own.1 known);
   }
 
   abbrev OfArguments : RunArgument → Place → Type 0
   OfArguments argument place = IsGiven arguments place
 
-  begins : (root : FileKey) → Contains final root →
-      RootBorder Known (IsIn files root) OfArguments
-  begins root known = record {
-    literal = λ place here. (inl (in_file root place known here), tt);
-    made = λ place here. (inl (in_file root place known here), (tt, tt));
+  begins : Contains final root → RootBorder Known (IsIn files root) OfArguments
+  begins known = record {
+    literal = λ place here. (inl (in_file root place known here), tt, λ all. here);
+    made =
+        λ place here. (
+          inl (in_file root place known here),
+          (tt, tt),
+          given_led [] Made place (λ none. none),
+        );
     argument =
         λ argument source stands parameter place here.
-        seen root (record { source = source; crossings = Argument parameter place ∷ [] }) known
-        (inr stands, (in_file root place known here, tt));
+        given_seen root source [] parameter place known here (inr stands) tt;
   }
 
 -- ---- the places of run arguments
@@ -327,7 +384,7 @@ if_all Q (Err fault) all = tt
 
 module _ (files : Set) (root : FileKey) (arguments : List RunArgument) where
   abbrev In : List FileKey → Origin → Type 0
-  In ends = IsKnown files (used_files root ends) arguments
+  In ends = IsKnown files root (used_files root ends) arguments
 
   abbrev R : Place → Type 0
   R = IsIn files root
@@ -337,7 +394,7 @@ module _ (files : Set) (root : FileKey) (arguments : List RunArgument) where
 
   abbrev TreeKnown : RootTree → Type 0
   TreeKnown one =
-      NodeFrom (IsKnown files one.expanded.used arguments) Any one.expanded.tree
+      NodeFrom (IsKnown files root one.expanded.used arguments) Any one.expanded.tree
 
   ends_then :
       {A : Type 0} (Q : List FileKey → A → Type 0) (step : Used A)
@@ -375,8 +432,8 @@ module _ (files : Set) (root : FileKey) (arguments : List RunArgument) where
       TreeKnown (parameters_by (under (codes "parameters") pairs) arguments) _
       (if_all (λ ends. Each (ParameterFrom (In ends) R))
       (parameters_by (under (codes "parameters") pairs) arguments)
-      (λ ends. parameters_are (In ends) R (OfArguments files (used_files root ends) arguments)
-      (begins files (used_files root ends) arguments root (root_used ends))
+      (λ ends. parameters_are (In ends) R (OfArguments files root (used_files root ends) arguments)
+      (begins files root (used_files root ends) arguments (root_used ends))
       (under (codes "parameters") pairs) arguments (arguments_known arguments)
       (under_in R (codes "parameters") pairs within)))
       (λ parameters are. ends_then (λ ends one. NodeFrom (In ends) Any one.node)
@@ -384,13 +441,13 @@ module _ (files : Set) (root : FileKey) (arguments : List RunArgument) where
       (opens_of files (home_of root pairs))) _
       (λ ends. pairs_expanded_give (In ends) (λ file. In ends) (IsIn files)
       (IsUsedFile files (used_files root ends)) (U ends)
-      (known_crossing files (used_files root ends) arguments)
-      (λ file. known_inside files (used_files root ends) arguments)
-      (known_inside files (used_files root ends) arguments)
+      (known_crossing files root (used_files root ends) arguments)
+      (λ file. known_inside files root (used_files root ends) arguments)
+      (known_inside files root (used_files root ends) arguments)
       (opens_of files (home_of root pairs))
       (opens_known (used_files root ends) files (home_of root pairs)) root
-      (OfArguments files (used_files root ends) arguments)
-      (begins files (used_files root ends) arguments root (root_used ends))
+      (OfArguments files root (used_files root ends) arguments)
+      (begins files root (used_files root ends) arguments (root_used ends))
       (λ one. NodeFrom (In ends) Any one.node) (finishes ends) place pairs parameters here within
       (are ends))
       (λ one ends is. is)))
@@ -407,10 +464,10 @@ module _ (files : Set) (root : FileKey) (arguments : List RunArgument) where
       (λ ends. expanded_gives (In ends) R (U ends) node within (Unit {0})
       (followed 100 (opens_of files (bare_home root))) (first_frame root parameters) Free 0 []
       (followed_gives (In ends) (IsIn files) (IsUsedFile files (used_files root ends)) (U ends)
-      (known_inside files (used_files root ends) arguments) (opens_of files (bare_home root))
+      (known_inside files root (used_files root ends) arguments) (opens_of files (bare_home root))
       (opens_known (used_files root ends) files (bare_home root)) 100)
-      (λ h. root_frame_from (In ends) R (OfArguments files (used_files root ends) arguments)
-      (begins files (used_files root ends) arguments root (root_used ends)) root parameters _
+      (λ h. root_frame_from (In ends) R (OfArguments files root (used_files root ends) arguments)
+      (begins files root (used_files root ends) arguments (root_used ends)) root parameters _
       (are ends)))
       (λ one ends is. node_implies (In ends) (In ends) (In ends) Any (λ origin own. own)
       (λ origin own. tt) one.node is.0)
@@ -421,8 +478,8 @@ module _ (files : Set) (root : FileKey) (arguments : List RunArgument) where
       ok_then (λ parameters. (ends : List FileKey) → Each (ParameterFrom (In ends) R) parameters)
       TreeKnown (parameters_by None arguments) _
       (if_all (λ ends. Each (ParameterFrom (In ends) R)) (parameters_by None arguments)
-      (λ ends. parameters_are (In ends) R (OfArguments files (used_files root ends) arguments)
-      (begins files (used_files root ends) arguments root (root_used ends)) None arguments
+      (λ ends. parameters_are (In ends) R (OfArguments files root (used_files root ends) arguments)
+      (begins files root (used_files root ends) arguments (root_used ends)) None arguments
       (arguments_known arguments) tt))
       (λ parameters are. bare_known node parameters within are)
 
@@ -444,6 +501,6 @@ pub known : OriginsAreKnown
 unfolding NodeFrom
 known files root arguments =
     ok_then (TreeKnown files root arguments)
-    (λ (one : Expanded). Each (IsKnown files one.used arguments) (origins_of one.tree))
+    (λ (one : Expanded). Each (IsKnown files root one.used arguments) (origins_of one.tree))
     (tree_of files root arguments) _ (tree_known files root arguments)
     (λ one is. is.0)

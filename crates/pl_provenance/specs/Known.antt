@@ -1,6 +1,6 @@
 -- Every origin of an expanded tree tells places that exist: in files that were used, or in the run
--- arguments.
-use Rattle.std.specs.Prelude.{◌≡◌, ◌⊎◌, List, Some, Ok, Contains, IfOk}
+-- arguments. And what no argument and no expression gave stands where its borders lead.
+use Rattle.std.specs.Prelude.{◌≡◌, ◌⊎◌, List, [], ◌∷◌, Some, Ok, Contains, IfOk}
 use Rattle.std.specs.FinMap as finite
 use Rattle.std.specs.List.{AllByRecursion}
 use Rattle.pl_base.specs.Places.{place_at}
@@ -58,14 +58,39 @@ IsBorder files used arguments (Include file at) =
 IsBorder files used arguments (Argument name at) = IsUsed files used at
 IsBorder files used arguments Made = Unit {0}
 
-abbrev pub IsKnown : Set → List FileKey → List RunArgument → Origin → Type 0
-IsKnown files used arguments origin =
+-- ---- where borders lead
+
+-- From a file on: `extends` leads into its template, the item of each call stands in the file before
+-- it, and what is told stands in the last file.
+abbrev pub Leads : Set → FileKey → List Crossing → Place → Type 0
+Leads files file [] place = StandsInFile files file place
+Leads files file (Extends key ∷ crossings) place = Leads files key crossings place
+Leads files file (Include key at ∷ crossings) place =
+    StandsInFile files file at × Leads files key crossings place
+Leads files file (other ∷ crossings) place = ⊥
+
+-- a border between files: no argument and no expression
+abbrev pub IsOfFiles : Crossing → Type 0
+IsOfFiles (Extends file) = Unit {0}
+IsOfFiles (Include file at) = Unit {0}
+IsOfFiles other = ⊥
+
+-- what no argument and no expression gave stands where its borders lead from the root file
+abbrev pub IsLedFrom : Set → FileKey → Origin → Type 0
+IsLedFrom files root origin =
+    AllByRecursion IsOfFiles origin.crossings → Leads files root origin.crossings origin.source
+
+-- ---- what an origin tells
+
+abbrev pub IsKnown : Set → FileKey → List FileKey → List RunArgument → Origin → Type 0
+IsKnown files root used arguments origin =
     IsPlace files used arguments origin.source
     × AllByRecursion (IsBorder files used arguments) origin.crossings
+    × IsLedFrom files root origin
 
 -- This is so of each node and each key of every expanded tree.
 abbrev pub OriginsAreKnown : Type 0
 OriginsAreKnown =
     (files : Set) (root : FileKey) (arguments : List RunArgument) →
     IfOk (expansion files root arguments)
-    (λ whole. AllByRecursion (IsKnown files whole.used arguments) (origins_of whole.tree))
+    (λ whole. AllByRecursion (IsKnown files root whole.used arguments) (origins_of whole.tree))

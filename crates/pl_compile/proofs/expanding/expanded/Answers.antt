@@ -33,10 +33,11 @@ returns-clause-closure c file =
 pub returns-clause-known : goal.returns-clause-known
 returns-clause-known c =
     handed c.expand-expanded.result c.told.result
-    (λ whole. AllByRecursion (IsKnown (read_all c.args.files.now) whole.used c.args.arguments.now)
+    (λ whole. AllByRecursion
+    (IsKnown (read_all c.args.files.now) c.args.root.now whole.used c.args.arguments.now)
     (origins_of whole.tree))
     c.told.ensures.same
     (subst (λ texts. IfOk c.expand-expanded.result (λ whole.
-    AllByRecursion (IsKnown (read_all texts) whole.used c.args.arguments.now)
+    AllByRecursion (IsKnown (read_all texts) c.args.root.now whole.used c.args.arguments.now)
     (origins_of whole.tree)))
     c.new-read.ensures c.expand-expanded.ensures.known)

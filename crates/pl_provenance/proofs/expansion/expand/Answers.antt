@@ -44,7 +44,7 @@ returns-clause-known g c =
     given_so
     (λ (whole : Expanded).
     AllByRecursion
-    (IsKnown (g.F.Files.files c.args.files.now) whole.used c.args.arguments.now)
+    (IsKnown (g.F.Files.files c.args.files.now) c.args.root.now whole.used c.args.arguments.now)
     (origins_of whole.tree))
     c.expand.result _ c.expand.ensures.tree
     (known (g.F.Files.files c.args.files.now) c.args.root.now c.args.arguments.now)
