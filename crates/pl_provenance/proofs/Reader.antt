@@ -132,7 +132,9 @@ module _ (file : FileKey) where
     item_here : (at row : Row) → IfOk (flows.item file reader at row) ReadHere
     unfolding flows.item
     item_here at row =
-        either ReadHere _ _ _ (scalar_at at.number at.column []) (value_here row)
+        either ReadHere (begins_with 44 row.text || begins_with 125 row.text)
+        (Ok (node_at file at (written.Scalar []), row)) _ (scalar_at at.number at.column [])
+        (value_here row)
 
     flow_pair_here : (before : List NodePair) (row : Row) →
         IfOk (flows.pair file reader before row) (λ read. PairHere read.0)
@@ -169,7 +171,7 @@ module _ (file : FileKey) where
   flow_here : (depth : ℕ) (row : Row) → IfOk (flows.flow file depth row) ReadHere
   unfolding flows.flow
   flow_here depth row =
-      either ReadHere _ _ (Err _)
+      either ReadHere (begins_with 91 row.text || begins_with 123 row.text) _ (Err _)
       (ok_then ReadHere ReadHere (flows.node file depth row) _ (flow_inner depth row)
       (λ read here. here)) tt
 
@@ -239,6 +241,21 @@ module _ (file : FileKey) where
 
   -- ---- block collections
 
+  step_here :
+      {X A : Type 0} (Q : A → Type 0) (one : List A → X → List Row → Read A) →
+      ((before : List A) (x : X) (rows : List Row) → IfOk (one before x rows) (λ read. Q read.0)) →
+      (more : List A → List Row → Read (List A)) →
+      ((before : List A) (rows : List Row) → Each Q before →
+      IfOk (more before rows) (λ read. Each Q read.0)) →
+      (before : List A) (found : Option X) (rows : List Row) → Each Q before →
+      IfOk (many_step more one before found rows) (λ read. Each Q read.0)
+  step_here Q one reads more goes before None rows all = all
+  step_here Q one reads more goes before (Some x) rows all =
+      ok_then (λ read. Q read.0) (λ read. Each Q read.0) (one before x rows) _
+      (reads before x rows)
+      (λ read is. goes (before ++ read.0 ∷ []) read.1
+      (each_append Q before (read.0 ∷ []) all (is, tt)))
+
   many_here :
       {X A : Type 0} (Q : A → Type 0) (next : List Row → Read (Option X))
       (one : List A → X → List Row → Read A) →
@@ -247,17 +264,11 @@ module _ (file : FileKey) where
       IfOk (many next one turns before rows) (λ read. Each Q read.0)
   unfolding many
   many_here Q next one reads zero before rows all = all
-  many_here {X} {A} Q next one reads (suc turns) before rows all =
-      any_then (λ read. Each Q read.0) (next rows) _ (λ found. step found.0 found.1)
-    where
-      step : (found : Option X) (rows : List Row) →
-          IfOk (many_step (many next one turns) one before found rows) (λ read. Each Q read.0)
-      step None rows = all
-      step (Some x) rows =
-          ok_then (λ read. Q read.0) (λ read. Each Q read.0) (one before x rows) _
-          (reads before x rows)
-          (λ read is. many_here Q next one reads turns (before ++ read.0 ∷ []) read.1
-          (each_append Q before (read.0 ∷ []) all (is, tt)))
+  many_here Q next one reads (suc turns) before rows all =
+      any_then (λ read. Each Q read.0) (next rows) _
+      (λ found. step_here Q one reads (many next one turns)
+      (λ before rows all. many_here Q next one reads turns before rows all) before found.0 found.1
+      all)
 
   abbrev ValuesHere : Values → Type 0
   ValuesHere values = (slot : _) (rows : List Row) → IfOk (values.node slot rows) ReadHere
@@ -274,7 +285,10 @@ module _ (file : FileKey) where
     entry_here : (row : Row) (rows : List Row) →
         IfOk (nodes.item file values row rows) ReadHere
     unfolding nodes.item
-    entry_here row rows = either ReadHere _ _ _ (reads _ _) (slot_here _ _ _)
+    entry_here row rows =
+        either ReadHere (not (is_done (behind 1 row)) && spaces_only 1 row) _ _
+        (reads (nodes.below false row) (behind 1 row ∷ drop 1 rows))
+        (slot_here (nodes.below false row) (behind 1 row) (drop 1 rows))
 
     block_pair_here : (before : List NodePair) (key : FoundKey) (rows : List Row) →
         IfOk (nodes.pair file values before key rows) (λ read. PairHere read.0)
@@ -326,36 +340,33 @@ module _ (file : FileKey) where
   -- ---- block nodes
 
   module _ (depth : ℕ) (inner : Option Values) (reads : InnerHere inner) where
-    abbrev begun_by : ℕ → Row → List Row → _ → Read Node
-    begun_by parent row rows head =
-        nodes.begun_by (nodes.holder file depth parent) inner row head rows
-
     begun_at : (parent : ℕ) (row : Row) (rows : List Row) (whole : Bool) (text : List ℕ) →
         IfOk (nodes.begun_by (nodes.holder file depth parent) inner row (head_at whole text) rows)
         ReadHere
     unfolding head_at
     begun_at parent row rows whole [] = tt
     begun_at parent row rows whole (c ∷ cs) =
-        through (λ head. IfOk (begun_by parent row rows head) ReadHere) (c == 45 && ends_word whole cs) _ _
+        let held : Holder = nodes.holder file depth parent in
+        through (λ head. IfOk (nodes.begun_by held inner row head rows) ReadHere) (c == 45 && ends_word whole cs) _ _
         (sequence_here inner reads parent row rows)
-        (through (λ head. IfOk (begun_by parent row rows head) ReadHere) (c == 63 && ends_word whole cs) _ _ tt
-        (through (λ head. IfOk (begun_by parent row rows head) ReadHere) (c == 38 || c == 42) _ _ tt
-        (through (λ head. IfOk (begun_by parent row rows head) ReadHere) (c == 33) _ _ tt
-        (through (λ head. IfOk (begun_by parent row rows head) ReadHere) (is_quote c) _ _
+        (through (λ head. IfOk (nodes.begun_by held inner row head rows) ReadHere) (c == 63 && ends_word whole cs) _ _ tt
+        (through (λ head. IfOk (nodes.begun_by held inner row head rows) ReadHere) (c == 38 || c == 42) _ _ tt
+        (through (λ head. IfOk (nodes.begun_by held inner row head rows) ReadHere) (c == 33) _ _ tt
+        (through (λ head. IfOk (nodes.begun_by held inner row head rows) ReadHere) (is_quote c) _ _
         (any_then ReadHere (quoted row) _
         (λ read. either ReadHere (is_colon (behind read.1 row)) _ _
         (mapping_here inner reads row rows)
         (with_left_here (drop 1 rows) (quoted_node file row read) (quoted_here row read))))
-        (through (λ head. IfOk (begun_by parent row rows head) ReadHere) (is_bracket c) _ _
+        (through (λ head. IfOk (nodes.begun_by held inner row head rows) ReadHere) (is_bracket c) _ _
         (with_left_here (drop 1 rows) (nodes.in_brackets file depth row)
         (ok_then ReadHere NodeHere (flows.flow file depth row) _ (flow_here depth row)
         (λ read here. either NodeHere (begins_with 58 (behind read.1 row).text) (Err _) _ tt
         (flow_node_here row read here))))
-        (through (λ head. IfOk (begun_by parent row rows head) ReadHere) (is_block c) _ _
+        (through (λ head. IfOk (nodes.begun_by held inner row head rows) ReadHere) (is_block c) _ _
         (block_here parent row (drop 1 rows))
-        (through (λ head. IfOk (begun_by parent row rows head) ReadHere)
+        (through (λ head. IfOk (nodes.begun_by held inner row head rows) ReadHere)
         (is_stray c || c == 58 && ends_word whole cs) _ _ tt
-        (through (λ head. IfOk (begun_by parent row rows head) ReadHere)
+        (through (λ head. IfOk (nodes.begun_by held inner row head rows) ReadHere)
         (begins_with 58 (drop (plain_len whole false (c ∷ cs)) (c ∷ cs))) _ _
         (mapping_here inner reads row rows)
         (word_here parent row (plain_len whole false (c ∷ cs)) (drop 1 rows))))))))))
@@ -380,8 +391,8 @@ module _ (file : FileKey) where
   inner_here : (depth : ℕ) → InnerHere (nodes.inner file depth)
   unfolding nodes.inner
   inner_here zero = tt
-  inner_here (suc depth) slot rows =
-      node_with_here depth (nodes.inner file depth) (inner_here depth) slot rows
+  inner_here (suc depth) =
+      λ slot rows. node_with_here depth (nodes.inner file depth) (inner_here depth) slot rows
 
   node_here : (depth : ℕ) (slot : _) (rows : List Row) →
       IfOk (nodes.node file depth slot rows) ReadHere
