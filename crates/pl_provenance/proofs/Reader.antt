@@ -1,12 +1,11 @@
 -- A node that is read of a file names that file at each of its places.
-use Rattle.std.proofs.Common.{◌≡◌, ℕ, zero, suc, Bool, true, false, cond, Option, Some, None}
+use Rattle.std.proofs.Common.{ℕ, zero, suc, Bool, true, false, cond, Option, Some, None}
 use Rattle.std.proofs.Common.{Result, Ok, Err, List, [], ◌∷◌, ◌++◌, refl}
 use Rattle.std.specs.Prelude.{IfOk, length, not, nat_lt, chars, drop, ◌+◌, ◌==◌, ◌&&◌, ◌||◌}
 use Rattle.std.specs.Str.{is_utf8}
 use Rattle.std.specs.List.{AllByRecursion as Each}
 use Rattle.pl_base.specs.Places.{place_at}
 use Rattle.pl_base.specs.declared.node.Node.{Node}
-use Rattle.pl_base.specs.declared.node.NodeBody.{NodeBody}
 use Rattle.pl_base.specs.declared.node.NodeBody.TheVariants as written
 use Rattle.pl_base.specs.declared.node.NodePair.{NodePair}
 use Rattle.pl_base.specs.declared.place.FileKey.{FileKey}
