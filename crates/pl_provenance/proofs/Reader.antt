@@ -346,17 +346,21 @@ module _ (file : FileKey) where
     begun_at parent row rows whole [] = tt
     begun_at parent row rows whole (c ∷ cs) =
         let held : Holder = nodes.holder file depth parent in
-        through (λ head. IfOk (nodes.begun_by held inner row head rows) ReadHere) (c == 45 && ends_word whole cs) _ _
+        through (λ head. IfOk (nodes.begun_by held inner row head rows) ReadHere)
+        (c == 45 && ends_word whole cs) _ _
         (sequence_here inner reads parent row rows)
-        (through (λ head. IfOk (nodes.begun_by held inner row head rows) ReadHere) (c == 63 && ends_word whole cs) _ _ tt
-        (through (λ head. IfOk (nodes.begun_by held inner row head rows) ReadHere) (c == 38 || c == 42) _ _ tt
+        (through (λ head. IfOk (nodes.begun_by held inner row head rows) ReadHere)
+        (c == 63 && ends_word whole cs) _ _ tt
+        (through (λ head. IfOk (nodes.begun_by held inner row head rows) ReadHere)
+        (c == 38 || c == 42) _ _ tt
         (through (λ head. IfOk (nodes.begun_by held inner row head rows) ReadHere) (c == 33) _ _ tt
         (through (λ head. IfOk (nodes.begun_by held inner row head rows) ReadHere) (is_quote c) _ _
         (any_then ReadHere (quoted row) _
         (λ read. either ReadHere (is_colon (behind read.1 row)) _ _
         (mapping_here inner reads row rows)
         (with_left_here (drop 1 rows) (quoted_node file row read) (quoted_here row read))))
-        (through (λ head. IfOk (nodes.begun_by held inner row head rows) ReadHere) (is_bracket c) _ _
+        (through (λ head. IfOk (nodes.begun_by held inner row head rows) ReadHere)
+        (is_bracket c) _ _
         (with_left_here (drop 1 rows) (nodes.in_brackets file depth row)
         (ok_then ReadHere NodeHere (flows.flow file depth row) _ (flow_here depth row)
         (λ read here. either NodeHere (begins_with 58 (behind read.1 row).text) (Err _) _ tt
