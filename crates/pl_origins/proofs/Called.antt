@@ -1,5 +1,5 @@
 -- What calls of templates give.
-use Rattle.std.proofs.Common.{ℕ, zero, suc, ◌-◌, Option, Some, None, Result, List, []}
+use Rattle.std.proofs.Common.{ℕ, zero, suc, Option, Some, None, Result, List, []}
 use Rattle.std.proofs.Common.{◌∷◌, ◌++◌, map, refl, Bool, true, false, cond}
 use Rattle.std.specs.Prelude.{IfOk, codes}
 use Rattle.std.specs.List.{AllByRecursion as Each}

@@ -61,8 +61,8 @@ use Rattle.pl_origins.proofs.Steps.{used_then, used_static_then, alone_gives, do
 use Rattle.pl_expand.specs.declared.extending.Extension.{Extension}
 use Rattle.pl_expand.specs.Extending.{path_in, mapping_from, value_from, argument_behind}
 use Rattle.pl_expand.specs.Extending.{arguments_behind, may_extend, extended_pairs, body_pair}
-use Rattle.pl_expand.specs.Extending.{body_pairs, pairs_there, extension_of, body_filled, opened_filled}
-use Rattle.pl_expand.specs.Extending.{Asked, asking, shown_by, shown, reached_filled}
+use Rattle.pl_expand.specs.Extending.{body_pairs, pairs_there, extension_of, body_filled}
+use Rattle.pl_expand.specs.Extending.{opened_filled, Asked, asking, shown_by, shown, reached_filled}
 use Rattle.pl_expand.specs.Extending.{mapping_extended, item_under, argument_given}
 use Rattle.pl_expand.specs.Extending.{arguments_given, path_given, pairs_asked, extended_from}
 use Rattle.pl_expand.specs.Extending.{value_extended, are_plain, pairs_extended, text_extended}
@@ -326,8 +326,8 @@ module _ (P : Origin → Type 0) (T : FileKey → Origin → Type 0) (R : FileKe
   opened_gives :
       (opened : OpenedFile) (asked : Asked) (H : Type 0) (frame : Frame) (count : ℕ)
       (used : List FileKey) → FileIn R opened → (H → K opened.key) → (H → AskedFrom P asked) →
-      Gives U H used (opened_filled opened asked.shown asked.arguments (followed 99 opens) frame count
-      used)
+      Gives U H used
+      (opened_filled opened asked.shown asked.arguments (followed 99 opens) frame count used)
       (ExtensionFrom T)
   opened_gives opened asked H frame count used file known all =
       let S = ExtensionFrom T in

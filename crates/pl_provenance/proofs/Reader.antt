@@ -1,12 +1,11 @@
 -- A node that is read of a file names that file at each of its places.
-use Rattle.std.proofs.Common.{◌≡◌, ℕ, zero, suc, Bool, true, false, cond, Option, Some, None}
+use Rattle.std.proofs.Common.{ℕ, zero, suc, Bool, true, false, cond, Option, Some, None}
 use Rattle.std.proofs.Common.{Result, Ok, Err, List, [], ◌∷◌, ◌++◌, refl}
 use Rattle.std.specs.Prelude.{IfOk, length, not, nat_lt, chars, drop, ◌+◌, ◌==◌, ◌&&◌, ◌||◌}
 use Rattle.std.specs.Str.{is_utf8}
 use Rattle.std.specs.List.{AllByRecursion as Each}
 use Rattle.pl_base.specs.Places.{place_at}
 use Rattle.pl_base.specs.declared.node.Node.{Node}
-use Rattle.pl_base.specs.declared.node.NodeBody.{NodeBody}
 use Rattle.pl_base.specs.declared.node.NodeBody.TheVariants as written
 use Rattle.pl_base.specs.declared.node.NodePair.{NodePair}
 use Rattle.pl_base.specs.declared.place.FileKey.{FileKey}
@@ -347,17 +346,21 @@ module _ (file : FileKey) where
     begun_at parent row rows whole [] = tt
     begun_at parent row rows whole (c ∷ cs) =
         let held : Holder = nodes.holder file depth parent in
-        through (λ head. IfOk (nodes.begun_by held inner row head rows) ReadHere) (c == 45 && ends_word whole cs) _ _
+        through (λ head. IfOk (nodes.begun_by held inner row head rows) ReadHere)
+        (c == 45 && ends_word whole cs) _ _
         (sequence_here inner reads parent row rows)
-        (through (λ head. IfOk (nodes.begun_by held inner row head rows) ReadHere) (c == 63 && ends_word whole cs) _ _ tt
-        (through (λ head. IfOk (nodes.begun_by held inner row head rows) ReadHere) (c == 38 || c == 42) _ _ tt
+        (through (λ head. IfOk (nodes.begun_by held inner row head rows) ReadHere)
+        (c == 63 && ends_word whole cs) _ _ tt
+        (through (λ head. IfOk (nodes.begun_by held inner row head rows) ReadHere)
+        (c == 38 || c == 42) _ _ tt
         (through (λ head. IfOk (nodes.begun_by held inner row head rows) ReadHere) (c == 33) _ _ tt
         (through (λ head. IfOk (nodes.begun_by held inner row head rows) ReadHere) (is_quote c) _ _
         (any_then ReadHere (quoted row) _
         (λ read. either ReadHere (is_colon (behind read.1 row)) _ _
         (mapping_here inner reads row rows)
         (with_left_here (drop 1 rows) (quoted_node file row read) (quoted_here row read))))
-        (through (λ head. IfOk (nodes.begun_by held inner row head rows) ReadHere) (is_bracket c) _ _
+        (through (λ head. IfOk (nodes.begun_by held inner row head rows) ReadHere)
+        (is_bracket c) _ _
         (with_left_here (drop 1 rows) (nodes.in_brackets file depth row)
         (ok_then ReadHere NodeHere (flows.flow file depth row) _ (flow_here depth row)
         (λ read here. either NodeHere (begins_with 58 (behind read.1 row).text) (Err _) _ tt
