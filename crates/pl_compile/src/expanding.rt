@@ -6,7 +6,7 @@ ghost use Rattle.pl_directives.specs.Gives.{Gives};
 ghost use Rattle.pl_directives.specs.declared.fault.ExpandFault.{ExpandFault as Fault};
 ghost use Rattle.pl_eval_laws.specs.Trees.{origins_of};
 ghost use Rattle.pl_provenance.specs.Closure.{ArePairsFromClosure};
-ghost use Rattle.pl_provenance.specs.Known.{IsKnown};
+ghost use Rattle.pl_provenance.specs.Known.{IsKnown, home_in};
 ghost use Rattle.pl_provenance.specs.Roots.{IsPairThrough, jobs_of};
 ghost use Rattle.pl_provenance.specs.Written.{ArePairsWhereTold};
 ghost use Rattle.pl_compile.specs.Reading.{read_all, tree_of};
@@ -66,7 +66,8 @@ pub fn expanded(
     ensures closure { (file : Key) → IfOk result (λ whole. whole.extends ≡ Some file →
         ArePairsFromClosure (read_all files.now) whole.tree file) }
     ensures known { IfOk result (λ whole.
-        AllByRecursion (IsKnown (read_all files.now) root.now whole.used arguments.now)
+        AllByRecursion
+        (IsKnown (read_all files.now) (home_in root.now whole) whole.used arguments.now)
         (origins_of whole.tree)) }
 {
     let mut read = TextFiles::new(alloc, files);

@@ -219,7 +219,7 @@ module _ (P : Origin → Type 0) (R : Place → Type 0) (A : RunArgument → Pla
 -- ---- the root's pairs
 
 module _ (P : Origin → Type 0) (T : FileKey → Origin → Type 0) (R : FileKey → Place → Type 0)
-    (K : FileKey → Type 0) (U : List FileKey → Type 0) (border : ExtendsBorder P T R K)
+    (K : Place → FileKey → Type 0) (U : List FileKey → Type 0) (border : ExtendsBorder P T R K)
     (inside : (file : FileKey) → Borders (T file) R K) (outside : Borders P R K) (opens : Opens)
     (opening : OpensFrom R K U opens) (root : FileKey) where
   abbrev pub FillingFrom : RootFilling → Type 0

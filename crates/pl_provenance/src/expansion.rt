@@ -5,7 +5,7 @@ ghost use Rattle.pl_directives.specs.Gives.{Gives};
 ghost use Rattle.pl_eval_laws.specs.Trees.{origins_of};
 ghost use Rattle.pl_expand.specs.Tree.{expansion};
 ghost use Rattle.pl_provenance.specs.Closure.{ArePairsFromClosure};
-ghost use Rattle.pl_provenance.specs.Known.{IsKnown};
+ghost use Rattle.pl_provenance.specs.Known.{IsKnown, home_in};
 ghost use Rattle.pl_provenance.specs.Roots.{IsPairThrough, jobs_of};
 ghost use Rattle.pl_provenance.specs.Written.{ArePairsWhereTold};
 
@@ -41,7 +41,8 @@ pub fn expand<F: Files>(
     ensures closure { (file : Key) → IfOk result (λ whole. whole.extends ≡ Some file →
         ArePairsFromClosure (F.files files.old) whole.tree file) }
     ensures known { IfOk result (λ whole.
-        AllByRecursion (IsKnown (F.files files.old) root.now whole.used arguments.now)
+        AllByRecursion
+        (IsKnown (F.files files.old) (home_in root.now whole) whole.used arguments.now)
         (origins_of whole.tree)) }
 {
     pl_expand::expand(alloc, files, root, arguments)
