@@ -1,0 +1,5 @@
+mod calls;
+mod objects;
+mod plans;
+mod rules;
+mod spelling;
