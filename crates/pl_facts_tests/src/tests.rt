@@ -1,4 +1,5 @@
 mod calls;
+mod copies;
 mod objects;
 mod plans;
 mod rules;

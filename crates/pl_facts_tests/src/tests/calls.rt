@@ -10,7 +10,7 @@ fn text(alloc: Global, text: &str) -> Result<Text, Memory> {
     Text::from_str(alloc, text)
 }
 
-fn call(moment: Moment, request: Request) -> Call {
+pub(crate) fn call(moment: Moment, request: Request) -> Call {
     Call {
         moment,
         caller: Digest { bytes: [7; 32] },
@@ -18,7 +18,7 @@ fn call(moment: Moment, request: Request) -> Call {
     }
 }
 
-fn report(alloc: Global, outcome: Outcome) -> Result<Request, Memory> {
+pub(crate) fn report(alloc: Global, outcome: Outcome) -> Result<Request, Memory> {
     let job = JobName {
         run: 1,
         stage: text(alloc, "Build")?,
@@ -41,7 +41,7 @@ fn calls_that_are_well_formed(rt: HostRuntime) -> Result<(), Fail> {
 }
 
 /// A decision, and the end of another stage that came with it.
-fn decided(alloc: Global) -> Result<List<Fact>, Memory> {
+pub(crate) fn decided(alloc: Global) -> Result<List<Fact>, Memory> {
     let rule = Rule::BranchRefused {
         git_ref: text(alloc, "refs/heads/x")?,
     };
