@@ -1,6 +1,6 @@
 -- Two lists side by side, from a place on.
-use Rattle.std.proofs.Common.{◌≡◌, ℕ, zero, suc, ◌+◌, ◌<◌, ◌≤◌, List, [], ◌∷◌, ◌++◌, map, length, drop, get_or, refl, sym, ap, ◌∙◌, append_assoc}
-use Rattle.std.specs.Prelude.{Option, Some, None}
+use Rattle.std.proofs.Common.{◌≡◌, ℕ, zero, suc, ◌+◌, List, [], ◌∷◌, ◌++◌, map, drop, refl, sym, ap, ◌∙◌, append_assoc, add-one}
+use Rattle.std.specs.Prelude.{Some, None}
 use Rattle.std.specs.List.{slice_get, zip}
 use Rattle.std.proofs.Math.Seq.{drop-cons}
 use Rattle.std.proofs.lemmas.Option.{slice_get_within, get_or_from_slice_get, none-some}
@@ -35,6 +35,21 @@ module _ {X Y Z : Type 0} (f : X × Y → Z) where
   one_on items whole xs ys at x y p q h =
       append_assoc items (f (x, y) ∷ []) (map f (zip (drop (suc at) xs) (drop (suc at) ys))) ∙
       sym (λ i. items ++ map f (zip (there xs at x p i) (there ys at y q i))) ∙ h
+
+  -- one pair more, as a loop makes it
+  pub goes_on :
+      (items after whole : List Z) (xs : List X) (ys : List Y) (at : ℕ) (x : X) (y : Y) (made : Z) →
+      Some x ≡ slice_get xs at →
+      Some y ≡ slice_get ys at →
+      made ≡ f (x, y) →
+      after ≡ items ++ made ∷ [] →
+      items ++ map f (zip (drop at xs) (drop at ys)) ≡ whole →
+      after ++ map f (zip (drop (at + 1) xs) (drop (at + 1) ys)) ≡ whole
+  goes_on items after whole xs ys at x y made p q is pushed h =
+      rw add-one
+      (ap (λ done. done ++ map f (zip (drop (suc at) xs) (drop (suc at) ys)))
+      (pushed ∙ ap (λ one. items ++ one ∷ []) is)
+      ∙ one_on items whole xs ys at x y (sym p) (sym q) h)
 
   -- no pair is left where one of the lists has ended
   pub none_left_of_first :

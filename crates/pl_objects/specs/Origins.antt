@@ -1,5 +1,5 @@
 -- Where a node or a key comes from, as JSON.
-use Rattle.std.specs.Prelude.{ℕ, List, [], ◌∷◌, map, codes}
+use Rattle.std.specs.Prelude.{[], ◌∷◌, map, codes}
 use Rattle.pl_base.specs.declared.origin.Crossing.{Crossing}
 use Rattle.pl_base.specs.declared.origin.Crossing.TheVariants.{Extends, Include, Argument, Made}
 use Rattle.pl_base.specs.declared.origin.Origin.{Origin}

@@ -1,6 +1,5 @@
 -- How a run stands, as JSON.
-use Rattle.std.specs.Prelude.{ℕ, List, [], ◌∷◌, map, Option, Some, None, codes}
-use Rattle.std.specs.Option.{option_map_or}
+use Rattle.std.specs.Prelude.{List, [], ◌∷◌, map, Some, codes}
 use Rattle.std.specs.List.{zip}
 use Rattle.pl_facts.specs.declared.fact.QueuedRun.{QueuedRun}
 use Rattle.pl_json.specs.declared.json.Json.{Json}
@@ -18,7 +17,6 @@ use Rattle.pl_plan.specs.declared.plan.PlanStage.{PlanStage}
 use Rattle.pl_plan.specs.Labels.{label}
 use Rattle.pl_refusals.specs.Names.{outcome_name, state_name}
 use Rattle.pl_refusals.specs.Rows.{number, rule_object, text, text_or_null}
-use Rattle.pl_rules.specs.declared.rule.Rule.{Rule}
 use Rattle.pl_rules.specs.declared.state.State.{State}
 use Rattle.pl_rules.specs.declared.state.State.TheVariants as state
 

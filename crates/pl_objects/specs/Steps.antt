@@ -1,5 +1,5 @@
 -- A step of a job, as JSON.
-use Rattle.std.specs.Prelude.{ℕ, List, [], ◌∷◌, codes}
+use Rattle.std.specs.Prelude.{List, [], ◌∷◌, codes}
 use Rattle.pl_base.specs.declared.value.Value.{Value, fold-Value, out-Value}
 use Rattle.pl_base.specs.declared.value.Value.TheVariants as value
 use Rattle.pl_base.specs.declared.value.Value.TheOpen.{Value-F, MarkedNode-F, MarkedPair-F, Null}

@@ -27,11 +27,18 @@ fn crossings_array(alloc: Global, crossings: &SharedList<Crossing>) -> Result<Js
     ensures { IfOk result (λ made. made ≡ json.Array (map crossing_object crossings.now)) }
 {
     let crossings = crossings.to_vec(alloc)?;
-    let mut items = Vec::with_capacity(alloc, crossings.len())?;
-    for crossing in &crossings {
-        items.push(crossing_object(alloc, *crossing)?)?;
+    array_of(alloc, &crossings)
+}
+
+fn array_of(alloc: Global, crossings: &[&Crossing]) -> Result<Json, Memory>
+    ensures { IfOk result (λ made. made ≡
+        json.Array (map crossing_object (map (λ crossing. crossing.now) crossings.now))) }
+{
+    let mut items = List::new(alloc);
+    for crossing in crossings {
+        items.push(crossing_object(alloc, crossing)?)?;
     }
-    Ok(Json::Array(List::from_vec(items)))
+    Ok(Json::Array(items))
 }
 
 fn crossing_object(alloc: Global, crossing: &Crossing) -> Result<Json, Memory>
