@@ -1,6 +1,6 @@
 -- The frame of a called template: its parameters are bound, and nothing of the caller is seen in it
 -- but the variables of the root.
-use Rattle.std.specs.Prelude.{ℕ, List, [], ◌∷◌, ◌++◌, map, codes, Result, Ok}
+use Rattle.std.specs.Prelude.{List, [], ◌∷◌, ◌++◌, map, codes, Result, Ok}
 use Rattle.pl_base.specs.declared.node.NodePair.{NodePair}
 use Rattle.pl_base.specs.declared.origin.Crossing.{Crossing}
 use Rattle.pl_base.specs.declared.place.FileKey.{FileKey}
@@ -18,10 +18,9 @@ use Rattle.pl_calls.specs.Parameters.{declared_by, bound_to}
 use Rattle.pl_calls.specs.Parts.{under}
 
 abbrev pub inner_frame :
-    FileKey → ℕ → List Parameter → List Variable → List Crossing → Frame
-inner_frame file level parameters variables crossings = record {
+    FileKey → List Parameter → List Variable → List Crossing → Frame
+inner_frame file parameters variables crossings = record {
   file = file;
-  level = level;
   parameters = parameters;
   variables = variables;
   loops = [];
@@ -35,23 +34,22 @@ parameters_for pairs crossings given =
     bound_to declared given >>= λ bound.
     Ok (parameters_of crossings declared bound)
 
--- A template that is called: its file, the level at which it is, and its pairs.
+-- A template that is called: its file, and its pairs.
 pub record Template : Type 0 where
   pub file : FileKey
-  pub level : ℕ
   pub pairs : List NodePair
 
-abbrev pub template_of : FileKey → ℕ → List NodePair → Template
-template_of file level pairs = record { file = file; level = level; pairs = pairs }
+abbrev pub template_of : FileKey → List NodePair → Template
+template_of file pairs = record { file = file; pairs = pairs }
 
 abbrev pub template_seen : Lent → Template
-template_seen lent = template_of lent.file.now lent.level lent.pairs.now
+template_seen lent = template_of lent.file.now lent.pairs.now
 
 abbrev pub framed :
     Template → List Variable → List Given → List Crossing → Result Frame ExpandFault
 framed template variables given crossings =
     parameters_for template.pairs crossings given >>= λ parameters.
-    Ok (inner_frame template.file template.level parameters variables crossings)
+    Ok (inner_frame template.file parameters variables crossings)
 
 -- its frame, across a border behind others
 abbrev pub framed_by :

@@ -1,11 +1,15 @@
 -- What may stand in a template (Microsoft Learn, Azure Pipelines, "Templates": template types).
-use Rattle.std.specs.Prelude.{ℕ, Bool, not, ◌||◌, List, find, codes, Option, Some, None, Result, Ok}
+use Rattle.std.specs.Prelude.{ℕ, Bool, true, false, not, ◌||◌, List, find, codes}
+use Rattle.std.specs.Prelude.{Option, Some, None, Result, Ok, if◌then◌else◌}
 use Rattle.std.specs.Option.{option_map}
 use Rattle.pl_base.specs.declared.node.Node.{Node}
-use Rattle.pl_base.specs.declared.node.NodeBody.TheOpen.{Map}
+use Rattle.pl_base.specs.declared.node.NodeBody.TheOpen.{Scalar, Seq, Map}
 use Rattle.pl_base.specs.declared.node.NodePair.{NodePair}
 use Rattle.pl_base.specs.declared.place.Place.{Place}
 use Rattle.pl_literal.specs.Items.{is}
+use Rattle.pl_template.specs.Forms.{form_of}
+use Rattle.pl_template.specs.declared.forms.ScalarForm.{ScalarForm}
+use Rattle.pl_template.specs.declared.forms.ScalarForm.TheVariants.{Whole, Unclosed}
 use Rattle.pl_directives.specs.declared.fault.ExpandFault.{ExpandFault}
 use Rattle.pl_directives.specs.declared.fault.ExpandProblem.{ExpandProblem}
 use Rattle.pl_directives.specs.declared.fault.ExpandProblem.TheVariants.{ExtendsInTemplate}
@@ -56,3 +60,24 @@ abbrev pub body_in : Form → Place → List NodePair → Result Node ExpandFaul
 body_in form place pairs =
     held place (under (form_key form) pairs) >>= λ body.
     unless_at WrongKind (stray (may_stand form) pairs) body
+
+-- ---- The value of that key is a list, for variables also a mapping, or an expression that may
+-- give one. What is written as another kind is refused before anything in it is expanded.
+
+-- an expression without an end is refused as a scalar
+abbrev pub may_give : ScalarForm → Bool
+may_give (Whole inside) = true
+may_give Unclosed = true
+may_give other = false
+
+abbrev pub takes_mapping : Form → Bool
+takes_mapping Variables = true
+takes_mapping other = false
+
+abbrev pub fits : Form → Body → Bool
+fits form (Scalar text) = may_give (form_of text)
+fits form (Seq items) = true
+fits form (Map pairs) = takes_mapping form
+
+abbrev pub body_fits : Form → Node → Result (Unit {0}) ExpandFault
+body_fits form body = if fits form (body_of body) then Ok tt else refused WrongKind body.place

@@ -57,7 +57,7 @@ pub fn pairs_from(alloc: Global, node: &MarkedNode) -> Result<&List<MarkedPair>,
 
 /// The arguments of a pair beside a path. X9 where its key isn't `parameters`, or they are no
 /// mapping.
-fn arguments_at(alloc: Global, pair: &MarkedPair) -> Result<&List<MarkedPair>, ExpandFault>
+pub fn arguments_at(alloc: Global, pair: &MarkedPair) -> Result<&List<MarkedPair>, ExpandFault>
     ensures { GivesPairs result (arguments_at pair.now) }
 {
     if pair.key.as_str() == "parameters" {

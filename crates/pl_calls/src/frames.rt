@@ -63,18 +63,16 @@ fn parameters_for(
 fn inner_frame(
     alloc: Global,
     file: &Shared<FileKey>,
-    level: u32,
     parameters: Shared<List<Parameter>>,
     variables: &Shared<List<Variable>>,
     crossings: &SharedList<Crossing>,
 ) -> Result<Frame, Memory>
-    ensures { IfOk result (λ frame. frame ≡ inner_frame file.now level parameters variables.now
+    ensures { IfOk result (λ frame. frame ≡ inner_frame file.now parameters variables.now
         crossings.now) }
 {
     let loops = SharedList::new(alloc)?;
     Ok(Frame {
         file: file.copy(alloc)?,
-        level,
         parameters,
         variables: variables.copy(alloc)?,
         loops,
@@ -93,11 +91,10 @@ fn with_border(
     crossings.with(alloc, border.copy(alloc)?)
 }
 
-/// A template that is called: its file, the level at which it is, and its pairs.
+/// A template that is called: its file, and its pairs.
 #[derive(Drop)]
 pub struct Template<'t> {
     pub file: &'t Shared<FileKey>,
-    pub level: u32,
     pub pairs: &'t List<NodePair>,
 }
 
@@ -114,14 +111,7 @@ fn framed(
 {
     let parameters = parameters_for(alloc, template.pairs, crossings, given)?;
     let parameters = Shared::new(alloc, parameters)?;
-    Ok(inner_frame(
-        alloc,
-        template.file,
-        template.level,
-        parameters,
-        variables,
-        crossings,
-    )?)
+    Ok(inner_frame(alloc, template.file, parameters, variables, crossings)?)
 }
 
 /// The frame of a template, across a border behind others: its parameters are what it declares,

@@ -1,19 +1,21 @@
-ghost use Rattle.std.specs.Prelude.{◌≡◌};
+ghost use Rattle.std.specs.Prelude.{◌≡◌, IfOk};
 ghost use Rattle.std.specs.Option.{option_copied};
 ghost use Rattle.pl_directives.specs.Complaints.{refused};
 ghost use Rattle.pl_directives.specs.Gives.{Gives};
 ghost use Rattle.pl_directives.specs.declared.fault.ExpandProblem.TheVariants.{ExtendsInTemplate};
 ghost use Rattle.pl_directives.specs.declared.fault.ExpandProblem.TheVariants.{WrongKind};
 ghost use Rattle.pl_calls.specs.Judging.{form_key, stray, may_stand, template_in, body_in};
-ghost use Rattle.pl_calls.specs.Judging.{mapping_in, held};
+ghost use Rattle.pl_calls.specs.Judging.{mapping_in, held, may_give, fits, body_fits};
+ghost use Rattle.pl_template.specs.Forms.{form_of};
 ghost use Rattle.pl_calls.specs.Nodes.{GivesNode, GivesPairs};
 ghost use Rattle.pl_calls.specs.Parts.{body_of};
 ghost use Rattle.pl_calls.specs.Reaching.{node_in};
 
 use crate::files::Parsed;
 use crate::parts::{key_place, under};
-use pl_base::{List, Node, NodeBody, NodePair, Place, Text};
+use pl_base::{List, Memory, Node, NodeBody, NodePair, Place, Text};
 use pl_directives::{ExpandFault, ExpandProblem, Form, complain};
+use pl_template::{ScalarForm, scalar_form};
 use pl_yaml::YamlFault;
 use std::alloc::Global;
 
@@ -76,7 +78,7 @@ fn may_stand(form: Form, key: &Text) -> bool
 }
 
 /// The first key that may not stand there.
-#[tactic(auto, using(crate::proofs::Finding::find_drop_yes, crate::proofs::Finding::find_drop_no))]
+#[tactic(auto, using(pl_params::proofs::Finding::find_drop_yes, pl_params::proofs::Finding::find_drop_no))]
 fn stray(form: Form, pairs: &List<NodePair>) -> Option<&Place>
     ensures { option_copied result ≡ stray (may_stand form) pairs.now }
 {
@@ -105,4 +107,40 @@ pub fn body_in<'n>(
         None => Ok(body),
         Some(place) => wrong(alloc, place),
     }
+}
+
+/// Whether a text may give a list or a mapping: where it's one expression, or one without an end,
+/// which is refused as a scalar.
+pub fn may_give(alloc: Global, text: &Text) -> Result<bool, Memory>
+    ensures { IfOk result (λ answer. answer ≡ may_give (form_of text.now)) }
+{
+    match scalar_form(alloc, text)? {
+        ScalarForm::Whole(_) | ScalarForm::Unclosed => Ok(true),
+        ScalarForm::Plain | ScalarForm::Joined(_) => Ok(false),
+    }
+}
+
+/// Whether the value of a template's form is written as what its list may take.
+fn fits(alloc: Global, form: Form, body: &Node) -> Result<bool, Memory>
+    ensures { IfOk result (λ answer. answer ≡ fits form (body_of body.now)) }
+{
+    match &body.body {
+        NodeBody::Scalar(text) => may_give(alloc, text),
+        NodeBody::Seq(_) => Ok(true),
+        NodeBody::Map(_) => match form {
+            Form::Variables => Ok(true),
+            Form::Stages | Form::Jobs | Form::Steps => Ok(false),
+        },
+    }
+}
+
+/// X9 at the value of a template's form that is written as no list, nor as one expression; a
+/// mapping may stand for variables.
+pub fn judge_body(alloc: Global, form: Form, body: &Node) -> Result<(), ExpandFault>
+    ensures { Gives result (body_fits form body.now) }
+{
+    if fits(alloc, form, body)? {
+        return Ok(());
+    }
+    wrong(alloc, &body.place)
 }

@@ -6,7 +6,7 @@ ghost use Rattle.pl_calls.specs.Parts.{key_place_of, text_under};
 use pl_base::{List, Node, NodeBody, NodePair, Place, Text};
 
 /// The value under a key.
-#[tactic(auto, using(crate::proofs::Finding::find_drop_yes, crate::proofs::Finding::find_drop_no))]
+#[tactic(auto, using(pl_params::proofs::Finding::find_drop_yes, pl_params::proofs::Finding::find_drop_no))]
 pub fn under<'n>(key: &str, pairs: &'n List<NodePair>) -> Option<&'n Node>
     ensures { option_copied result ≡ under key.now pairs.now }
 {
@@ -56,7 +56,7 @@ pub fn text_under<'n>(key: &str, pairs: &'n List<NodePair>) -> Option<&'n Text>
 }
 
 /// Where a key stands.
-#[tactic(auto, using(crate::proofs::Finding::find_drop_yes, crate::proofs::Finding::find_drop_no))]
+#[tactic(auto, using(pl_params::proofs::Finding::find_drop_yes, pl_params::proofs::Finding::find_drop_no))]
 pub fn key_place<'n>(key: &str, pairs: &'n List<NodePair>) -> Option<&'n Place>
     ensures { option_copied result ≡ key_place_of key.now pairs.now }
 {

@@ -65,7 +65,7 @@ fn file_in(
 }
 
 /// The repository of an alias.
-#[tactic(auto, using(crate::proofs::Finding::find_drop_yes, crate::proofs::Finding::find_drop_no))]
+#[tactic(auto, using(pl_params::proofs::Finding::find_drop_yes, pl_params::proofs::Finding::find_drop_no))]
 fn repository_of<'h>(repositories: &'h List<Repository>, alias: &Text) -> Option<&'h Repository>
     ensures { option_copied result ≡ find (λ one. is one.alias alias.now) repositories.now }
 {

@@ -9,3 +9,4 @@ pub mod Manners
 pub mod Misfits
 pub mod Regions
 pub mod Scalars
+pub mod Strays

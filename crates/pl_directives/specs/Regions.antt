@@ -14,7 +14,8 @@ use Rattle.pl_directives.specs.declared.progress.Content.TheVariants.{Pairs}
 use Rattle.pl_directives.specs.declared.region.Form.{Form}
 use Rattle.pl_directives.specs.declared.region.Form.TheVariants.{Stages, Jobs, Steps, Variables}
 use Rattle.pl_directives.specs.declared.region.Region.{Region}
-use Rattle.pl_directives.specs.declared.region.Region.TheVariants.{Free, Calls, Item, Quiet}
+use Rattle.pl_directives.specs.declared.region.Region.TheVariants.{Free, Calls, Item, Extends}
+use Rattle.pl_directives.specs.declared.region.Region.TheVariants.{Quiet}
 
 -- the keys whose lists may call templates
 abbrev pub form_named : List ℕ → Option Form
@@ -71,7 +72,8 @@ abbrev pub call_form : Region → MarkedNode → Option Form
 call_form region node =
     if is_template (out-Value node.value) then form_at region else None
 
--- ---- The path of a call is the value of the first key of an item that may be one.
+-- ---- The path of a call is the value of the first key of an item that may be one. That of
+-- `extends` may stand anywhere in its mapping.
 
 abbrev pub is_begun : Content → Bool
 is_begun (Pairs []) = true
@@ -79,4 +81,5 @@ is_begun content = false
 
 abbrev pub is_path : Region → Content → List ℕ → Bool
 is_path (Item form) content key = is_begun content && is key (codes "template")
+is_path Extends content key = is key (codes "template")
 is_path region content key = false

@@ -11,16 +11,20 @@ use Rattle.pl_frame.specs.Trees.{nodes_in}
 use Rattle.pl_frame.specs.declared.frame.Frame.{Frame}
 use Rattle.pl_frame.specs.declared.problem.ExpressionProblem.{ExpressionProblem}
 use Rattle.pl_frame.specs.declared.problem.ExpressionProblem.TheVariants.{Unparsed, Undefined}
+use Rattle.pl_template.specs.Forms.{form_of}
 use Rattle.pl_template.specs.declared.forms.Piece.{Piece}
 use Rattle.pl_template.specs.declared.forms.Piece.TheVariants.{Literal}
 use Rattle.pl_template.specs.declared.forms.Piece.TheVariants as piece
+use Rattle.pl_template.specs.declared.forms.ScalarForm.{ScalarForm}
+use Rattle.pl_template.specs.declared.forms.ScalarForm.TheVariants.{Plain, Whole, Joined, Unclosed}
 use Rattle.pl_directives.specs.declared.fault.ExpandFault.{ExpandFault}
 use Rattle.pl_directives.specs.declared.fault.ExpandProblem.{ExpandProblem}
+use Rattle.pl_directives.specs.declared.fault.ExpandProblem.TheVariants.{BadDirective}
 use Rattle.pl_directives.specs.declared.fault.ExpandProblem.TheVariants.{Expression, Evaluation}
 use Rattle.pl_directives.specs.declared.progress.Counted.{Counted}
 use Rattle.pl_directives.specs.declared.scalars.JoinedText.{JoinedText}
 use Rattle.pl_directives.specs.Complaints.{refused}
-use Rattle.pl_directives.specs.Counting.{counted}
+use Rattle.pl_directives.specs.Counting.{counted, entered}
 use Rattle.pl_reading.specs.Steps.{◌>>=◌}
 
 -- ---- expressions
@@ -74,3 +78,16 @@ abbrev pub joined_scalar : List Piece → Frame → Place → ℕ → Result Cou
 joined_scalar pieces frame place count =
     pieces_behind frame place pieces (record { text = []; count = count }) >>= λ joined.
     Ok (record { node = made (made_at frame place) (Str joined.text); count = joined.count })
+
+-- ---- the value of a scalar where it stands; where it is one expression it is that value, of its
+-- own kind and with its own origin
+
+abbrev pub scalar_by : ScalarForm → List ℕ → Frame → Place → ℕ → Result Counted ExpandFault
+scalar_by Plain text frame place count = Ok (plain_scalar text frame place count)
+scalar_by (Whole inside) text frame place count = counted_value_at frame place inside count
+scalar_by (Joined pieces) text frame place count = joined_scalar pieces frame place count
+scalar_by Unclosed text frame place count = refused BadDirective place
+
+abbrev pub scalar_value : List ℕ → Frame → Place → ℕ → Result Counted ExpandFault
+scalar_value text frame place count =
+    entered place count >>= λ count. scalar_by (form_of text) text frame place count

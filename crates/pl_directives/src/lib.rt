@@ -13,6 +13,7 @@ mod progress;
 mod refusing;
 mod region;
 mod scalars;
+mod straying;
 mod wholes;
 
 pub use action::{Action, Turns};
@@ -25,5 +26,6 @@ pub use misfit::Misfit;
 pub use progress::{Chain, Content, Counted, Progress};
 pub use refusing::{complain, enter};
 pub use region::{Form, Region, Standing};
-pub use scalars::{counted_value_at, joined_scalar, plain_scalar};
+pub use scalars::{counted_value_at, scalar_value};
+pub use straying::{given_value, judge_key, told};
 pub use wholes::{absorb, finish, object_of, put_pair};

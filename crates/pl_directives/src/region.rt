@@ -26,6 +26,8 @@ pub enum Region {
     Calls(Form),
     /// It's such an item: its first key may be that of a call.
     Item(Form),
+    /// It's the value of the root's `extends`: the path of a template and its arguments.
+    Extends,
     /// Nothing in it is a call.
     Quiet,
 }
@@ -70,7 +72,9 @@ impl Region {
     {
         match self {
             Region::Quiet => Region::Quiet,
-            Region::Free | Region::Calls(_) | Region::Item(_) => region_of_key(key),
+            Region::Free | Region::Calls(_) | Region::Item(_) | Region::Extends => {
+                region_of_key(key)
+            }
         }
     }
 
@@ -80,7 +84,7 @@ impl Region {
     {
         match self {
             Region::Quiet => Region::Quiet,
-            Region::Free | Region::Calls(_) | Region::Item(_) => Region::Free,
+            Region::Free | Region::Calls(_) | Region::Item(_) | Region::Extends => Region::Free,
         }
     }
 
@@ -90,7 +94,7 @@ impl Region {
     {
         match self {
             Region::Calls(form) => Region::Item(form),
-            Region::Free | Region::Item(_) | Region::Quiet => self,
+            Region::Free | Region::Item(_) | Region::Extends | Region::Quiet => self,
         }
     }
 
@@ -100,7 +104,7 @@ impl Region {
     {
         match self {
             Region::Calls(form) | Region::Item(form) => Some(form),
-            Region::Free | Region::Quiet => None,
+            Region::Free | Region::Extends | Region::Quiet => None,
         }
     }
 
@@ -121,6 +125,7 @@ impl Region {
     {
         match self {
             Region::Item(_) => is_begun(content) && names_template(key),
+            Region::Extends => names_template(key),
             Region::Free | Region::Calls(_) | Region::Quiet => false,
         }
     }
@@ -143,7 +148,8 @@ fn is_begun(content: &Content) -> bool
     }
 }
 
-fn is_template(value: &Value) -> bool
+/// Whether a value is a mapping with whose first key calls begin.
+pub fn is_template(value: &Value) -> bool
     ensures { result ≡ is_template (out-Value value.now) }
 {
     match value {

@@ -5,19 +5,19 @@ ghost use Rattle.pl_frame.specs.declared.problem.ExpressionProblem.{ExpressionPr
 ghost use Rattle.pl_directives.specs.Gives.{Gives};
 ghost use Rattle.pl_directives.specs.Scalars.{problem_of, told_at, value_at, truth_at, one_more};
 ghost use Rattle.pl_directives.specs.Scalars.{counted_value_at, piece_behind, pieces_behind};
-ghost use Rattle.pl_directives.specs.Scalars.{plain_scalar, joined_scalar};
+ghost use Rattle.pl_directives.specs.Scalars.{plain_scalar, joined_scalar, scalar_value};
 ghost use Rattle.pl_directives.specs.Counting.{counted};
 ghost use Rattle.pl_frame.specs.Trees.{nodes_in};
 
 use crate::fault::{ExpandFault, ExpandProblem};
 use crate::progress::Counted;
-use crate::refusing::{MOST_NODES, complain, count_more};
+use crate::refusing::{MOST_NODES, complain, count_more, enter};
 use pl_base::{ExactCopy, List, MarkedNode, Memory, Place, Text, Value};
 use pl_expr::{to_bool, to_text};
 use pl_frame::{
     ExpressionFault, ExpressionProblem, Frame, count_nodes, expression_at, literal_at, made_at,
 };
-use pl_template::Piece;
+use pl_template::{Piece, ScalarForm, scalar_form};
 use std::alloc::Global;
 
 fn problem_of(problem: ExpressionProblem) -> ExpandProblem
@@ -174,7 +174,7 @@ fn join_pieces(
 }
 
 /// A scalar without an expression.
-pub fn plain_scalar(
+fn plain_scalar(
     alloc: Global,
     text: &Text,
     frame: &Frame,
@@ -190,7 +190,7 @@ pub fn plain_scalar(
 }
 
 /// A scalar that pieces are joined to.
-pub fn joined_scalar(
+fn joined_scalar(
     alloc: Global,
     pieces: &List<Piece>,
     frame: &Frame,
@@ -211,4 +211,27 @@ pub fn joined_scalar(
     let value = Value::Str(text);
     let node = MarkedNode { origin, value };
     Ok(Counted { node, count })
+}
+
+/// The value of a scalar where it stands: its text where no expression stands in it, that of the
+/// one expression that it is, else the joined text. X5 where an expression has no end.
+pub fn scalar_value(
+    alloc: Global,
+    text: &Text,
+    frame: &Frame,
+    place: &Place,
+    count: u32,
+) -> Result<Counted, ExpandFault>
+    ensures { Gives result (scalar_value text.now frame.now place.now count) }
+{
+    let count = enter(alloc, place, count)?;
+    match scalar_form(alloc, text)? {
+        ScalarForm::Plain => Ok(plain_scalar(alloc, text, frame, place, count)?),
+        ScalarForm::Whole(inside) => counted_value_at(alloc, frame, place, &inside, count),
+        ScalarForm::Joined(pieces) => joined_scalar(alloc, &pieces, frame, place, count),
+        ScalarForm::Unclosed => {
+            let first = complain(alloc, ExpandProblem::BadDirective, place)?;
+            Err(ExpandFault::Refused(first))
+        }
+    }
 }

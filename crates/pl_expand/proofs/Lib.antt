@@ -1,2 +1,3 @@
-pub mod Alone
+pub mod Itself
+pub mod Shown
 pub mod Sides

@@ -1,13 +1,16 @@
 -- `extends` of the root file (Microsoft Learn, Azure Pipelines, "YAML schema reference", extends,
--- and "Templates": extend from a template).
-use Rattle.std.specs.Prelude.{ℕ, Bool, not, ◌&&◌, List, [], ◌∷◌, ◌++◌, map, filter, find, codes}
+-- and "Templates": extend from a template). It is read after directives, like every other key.
+use Rattle.std.specs.Prelude.{ℕ, Bool, true, false, not, ◌&&◌, List, [], ◌∷◌, ◌++◌, map, filter}
+use Rattle.std.specs.Prelude.{find, codes}
 use Rattle.std.specs.Prelude.{Option, Some, None, Result, Ok, if◌then◌else◌}
 use Rattle.std.specs.Option.{option_map}
-use Rattle.std.specs.List.{filter_map, list_any}
+use Rattle.std.specs.List.{filter_map, list_any, list_all}
 use Rattle.pl_base.specs.declared.node.Node.{Node}
-use Rattle.pl_base.specs.declared.node.NodeBody.TheOpen.{Map}
+use Rattle.pl_base.specs.declared.node.NodeBody.TheOpen.{Scalar, Seq, Map}
 use Rattle.pl_base.specs.declared.node.NodePair.{NodePair}
+use Rattle.pl_base.specs.declared.origin.Crossing.{Crossing}
 use Rattle.pl_base.specs.declared.origin.Crossing.TheVariants.{Extends}
+use Rattle.pl_base.specs.declared.origin.Origin.{Origin}
 use Rattle.pl_base.specs.declared.place.FileKey.{FileKey}
 use Rattle.pl_base.specs.declared.place.Place.{Place}
 use Rattle.pl_base.specs.declared.value.Value.{Value, out-Value}
@@ -17,23 +20,31 @@ use Rattle.pl_base.specs.declared.value.Value.TheOpen as layer
 use Rattle.pl_base.specs.declared.value.MarkedNode.{MarkedNode}
 use Rattle.pl_base.specs.declared.value.MarkedPair.{MarkedPair}
 use Rattle.pl_eval.specs.LookUps.{made}
+use Rattle.pl_frame.specs.Doubles.{first_double}
 use Rattle.pl_frame.specs.declared.frame.Frame.{Frame}
 use Rattle.pl_literal.specs.Items.{is}
+use Rattle.pl_template.specs.Forms.{form_of}
+use Rattle.pl_template.specs.Keys.{key_form_of}
+use Rattle.pl_template.specs.declared.forms.KeyForm.{KeyForm}
+use Rattle.pl_template.specs.declared.forms.KeyForm.TheVariants.{Plain}
 use Rattle.pl_directives.specs.declared.fault.ExpandFault.{ExpandFault}
-use Rattle.pl_directives.specs.declared.fault.ExpandProblem.TheVariants.{WrongKind}
+use Rattle.pl_directives.specs.declared.fault.ExpandProblem.TheVariants.{WrongKind, KeyTwice}
 use Rattle.pl_directives.specs.declared.manner.Kind.TheVariants as content
 use Rattle.pl_directives.specs.declared.progress.Chain.TheVariants.{Closed}
 use Rattle.pl_directives.specs.declared.progress.Content.{Content}
 use Rattle.pl_directives.specs.declared.progress.Content.TheVariants.{Pairs}
 use Rattle.pl_directives.specs.declared.progress.Counted.{Counted}
+use Rattle.pl_directives.specs.declared.progress.Progress.{Progress}
 use Rattle.pl_directives.specs.declared.region.Region.TheVariants.{Free, Quiet}
+use Rattle.pl_directives.specs.declared.region.Region.TheVariants.{Extends as InExtends}
 use Rattle.pl_directives.specs.Complaints.{refused}
 use Rattle.pl_directives.specs.Contents.{begun}
 use Rattle.pl_directives.specs.Counting.{entered}
+use Rattle.pl_directives.specs.Scalars.{scalar_value}
 use Rattle.pl_reading.specs.Steps.{◌>>=◌}
-use Rattle.pl_calls.specs.Calls.{path_text, pairs_from}
+use Rattle.pl_calls.specs.Calls.{path_text, pairs_from, arguments_at}
 use Rattle.pl_calls.specs.Frames.{template_of, framed_by}
-use Rattle.pl_calls.specs.Judging.{unless_at, stray, held, template_in}
+use Rattle.pl_calls.specs.Judging.{unless_at, stray, held, template_in, may_give}
 use Rattle.pl_calls.specs.Meant.{◌>>>◌, alone}
 use Rattle.pl_calls.specs.Parts.{Body, body_of, under}
 use Rattle.pl_calls.specs.Reaching.{Opens, node_in}
@@ -44,6 +55,27 @@ use Rattle.pl_expanding.specs.Following.{Follow, Scope, scope_of}
 use Rattle.pl_expanding.specs.Levels.{followed, variable_item}
 use Rattle.pl_expanding.specs.declared.followed.SettledPairs.{SettledPairs}
 use Rattle.pl_expand.specs.declared.extending.Extension.{Extension}
+
+-- ---- What `extends` asks for: where its mapping stands, the path's text, the origin that shows
+-- where that comes from, and the arguments.
+
+pub record Asked : Type 0 where
+  pub at : Place
+  pub path : List ℕ
+  pub shown : Origin
+  pub arguments : List MarkedPair
+
+abbrev pub asking : Place → List ℕ → Origin → List MarkedPair → Asked
+asking at path shown arguments =
+    record { at = at; path = path; shown = shown; arguments = arguments }
+
+-- The path's origin shows what an argument or an expression gave, else that of the key `extends`.
+abbrev pub shown_by : List Crossing → Origin → Origin → Origin
+shown_by [] key path = key
+shown_by (crossing ∷ crossings) key path = path
+
+abbrev pub shown : Origin → Origin → Origin
+shown key path = shown_by path.crossings key path
 
 -- ---- the path first, wherever its key stands
 
@@ -108,6 +140,12 @@ abbrev pub pairs_there : Content → List MarkedPair
 pairs_there (Pairs pairs) = pairs
 pairs_there other = []
 
+-- no key of them stands twice
+abbrev pub extension_of : FileKey → Progress → Result Extension ExpandFault
+extension_of file after =
+    unless_at {X = Unit {0}} KeyTwice (first_double (pairs_there after.content)) tt >>= λ none.
+    Ok (record { file = file; pairs = pairs_there after.content; count = after.count })
+
 -- ---- an extension, in the order of a call
 
 -- the body, in its scope
@@ -117,55 +155,130 @@ abbrev pub body_filled :
 body_filled file place pairs scope count used =
     entered place count >>= λ count.
     body_pairs pairs scope (begun content.Pairs Closed count) used >>> λ after used.
-    Ok (record { file = file; pairs = pairs_there after.content; count = after.count }, used)
+    alone (extension_of file after) used
 
 -- from the file on
 abbrev pub opened_filled :
-    Opened → MarkedNode → SettledPairs → Follow → Frame → List FileKey →
+    Opened → Origin → List MarkedPair → Follow → Frame → ℕ → List FileKey →
     Result (Extension × List FileKey) ExpandFault
-opened_filled opened path arguments follow frame used =
+opened_filled opened shown arguments follow frame count used =
     node_in opened.file >>= λ node.
     extended_pairs node >>= λ pairs.
-    framed_by (template_of opened.key 1 pairs) frame.variables arguments.pairs
-    (Extends opened.key) path.origin.crossings >>= λ inner.
-    body_filled opened.key node.place pairs (scope_of follow inner Free) arguments.count used
+    framed_by (template_of opened.key pairs) frame.variables arguments (Extends opened.key)
+    shown.crossings >>= λ inner.
+    body_filled opened.key node.place pairs (scope_of follow inner Free) count used
 
 -- from the path and the arguments on
 abbrev pub reached_filled :
-    Opens → Place → MarkedNode → SettledPairs → Frame → List FileKey →
-    Result (Extension × List FileKey) ExpandFault
-reached_filled opens place path arguments frame used =
-    path_text path >>= λ text.
-    opens place text used >>> λ opened used.
-    opened_filled opened path arguments (followed 99 opens) frame used
+    Opens → Asked → Frame → ℕ → List FileKey → Result (Extension × List FileKey) ExpandFault
+reached_filled opens asked frame count used =
+    opens asked.at asked.path used >>> λ opened used.
+    opened_filled opened asked.shown asked.arguments (followed 99 opens) frame count used
+
+-- ---- its mapping as it is written, without directives and computed keys
 
 abbrev pub mapping_extended :
-    Opens → Place → List NodePair → Frame → ℕ → List FileKey →
+    Opens → Origin → Place → List NodePair → Frame → ℕ → List FileKey →
     Result (Extension × List FileKey) ExpandFault
-mapping_extended opens place pairs frame count used =
+mapping_extended opens key place pairs frame count used =
     entered place count >>= λ count.
     path_in pairs place frame count >>= λ path.
+    path_text path.node >>= λ text.
     arguments_behind pairs (followed 100 opens) frame (record { pairs = []; count = path.count })
     used >>> λ arguments used.
-    reached_filled opens place path.node arguments frame used
+    reached_filled opens (asking place text (shown key path.node.origin) arguments.pairs) frame
+    arguments.count used
 
--- it is written as a mapping
-abbrev pub extended_by :
-    Body → Opens → Place → Frame → ℕ → List FileKey →
-    Result (Extension × List FileKey) ExpandFault
-extended_by (Map pairs) opens place frame count used =
-    mapping_extended opens place pairs frame count used
-extended_by other opens place frame count used = refused WrongKind place
-
-abbrev pub extended :
-    Opens → Node → Frame → ℕ → List FileKey → Result (Extension × List FileKey) ExpandFault
-extended opens node frame count used =
-    extended_by (body_of node) opens node.place frame count used
-
--- ---- the tree of both files
+-- ---- a mapping that came of directives, computed keys or an expression: its path first
 
 abbrev pub item_under : List ℕ → List MarkedPair → Option MarkedNode
 item_under key pairs = option_map (λ pair. pair.item) (find (λ pair. is pair.key key) pairs)
+
+abbrev pub argument_given : List MarkedPair → MarkedPair → Result (List MarkedPair) ExpandFault
+argument_given found pair =
+    if is pair.key (codes "template") then Ok found else arguments_at pair
+
+abbrev pub arguments_given :
+    List MarkedPair → List MarkedPair → Result (List MarkedPair) ExpandFault
+arguments_given found [] = Ok found
+arguments_given found (pair ∷ pairs) =
+    argument_given found pair >>= λ found. arguments_given found pairs
+
+abbrev pub path_given : Place → Option MarkedNode → Result MarkedNode ExpandFault
+path_given at None = refused WrongKind at
+path_given at (Some path) = Ok path
+
+abbrev pub pairs_asked : Origin → Place → List MarkedPair → Result Asked ExpandFault
+pairs_asked key at pairs =
+    path_given at (item_under (codes "template") pairs) >>= λ path.
+    path_text path >>= λ text.
+    arguments_given [] pairs >>= λ arguments.
+    Ok (asking at text (shown key path.origin) arguments)
+
+abbrev pub given_extended :
+    Opens → Origin → Place → List MarkedPair → Frame → ℕ → List FileKey →
+    Result (Extension × List FileKey) ExpandFault
+given_extended opens key at pairs frame count used =
+    pairs_asked key at pairs >>= λ asked. reached_filled opens asked frame count used
+
+-- a list, a text or another atom is none, which is told at a place
+abbrev pub extended_from :
+    Value-F Value MarkedNode MarkedPair → Opens → Origin → Place → Place → Frame → ℕ →
+    List FileKey → Result (Extension × List FileKey) ExpandFault
+extended_from (layer.Object pairs) opens key at place frame count used =
+    given_extended opens key at pairs frame count used
+extended_from other opens key at place frame count used = refused WrongKind place
+
+abbrev pub value_extended :
+    Opens → Origin → Place → MarkedNode → Frame → ℕ → List FileKey →
+    Result (Extension × List FileKey) ExpandFault
+value_extended opens key place node frame count used =
+    extended_from (out-Value node.value) opens key node.origin.source place frame count used
+
+-- ---- the value of the key `extends`, as it is written
+
+abbrev pub is_plain : KeyForm → Bool
+is_plain Plain = true
+is_plain other = false
+
+abbrev pub are_plain : List NodePair → Bool
+are_plain pairs = list_all (λ pair. is_plain (key_form_of pair.key)) pairs
+
+abbrev pub pairs_extended :
+    Bool → Opens → Origin → Node → List NodePair → Frame → ℕ → List FileKey →
+    Result (Extension × List FileKey) ExpandFault
+pairs_extended true opens key node pairs frame count used =
+    mapping_extended opens key node.place pairs frame count used
+pairs_extended false opens key node pairs frame count used =
+    expanded node (scope_of (followed 100 opens) frame InExtends) count used >>> λ one used.
+    value_extended opens key node.place one.node frame one.count used
+
+-- a text may be one expression, and nothing else
+abbrev pub text_extended :
+    Bool → Opens → Origin → Place → List ℕ → Frame → ℕ → List FileKey →
+    Result (Extension × List FileKey) ExpandFault
+text_extended true opens key place text frame count used =
+    scalar_value text frame place count >>= λ one.
+    value_extended opens key place one.node frame one.count used
+text_extended false opens key place text frame count used = refused WrongKind place
+
+abbrev pub extended_by :
+    Body → Opens → Origin → Node → Frame → ℕ → List FileKey →
+    Result (Extension × List FileKey) ExpandFault
+extended_by (Map pairs) opens key node frame count used =
+    pairs_extended (are_plain pairs) opens key node pairs frame count used
+extended_by (Scalar text) opens key node frame count used =
+    text_extended (may_give (form_of text)) opens key node.place text frame count used
+extended_by (Seq items) opens key node frame count used = refused WrongKind node.place
+
+-- beside the value the key's origin is known
+abbrev pub extended :
+    Opens → Origin → Node → Frame → ℕ → List FileKey →
+    Result (Extension × List FileKey) ExpandFault
+extended opens key node frame count used =
+    extended_by (body_of node) opens key node frame count used
+
+-- ---- the tree of both files
 
 abbrev pub has_key : List ℕ → List MarkedPair → Bool
 has_key key pairs = list_any (λ pair. is pair.key key) pairs

@@ -42,22 +42,23 @@ use Rattle.pl_directives.specs.declared.region.Region.TheVariants.{Free, Calls}
 use Rattle.pl_expand.specs.declared.root.RootTree.{RootTree}
 use Rattle.pl_expand.specs.declared.root.RootNode.{RootNode}
 use Rattle.pl_expand.specs.declared.extending.Extension.{Extension}
-use Rattle.pl_expand.specs.declared.filling.RootFilling.{RootFilling}
+use Rattle.pl_expand.specs.declared.rooting.RootFilling.{RootFilling}
 use Rattle.pl_expand.specs.declared.filling.Early.{Early}
 use Rattle.pl_root.specs.declared.root_key.RootKey.{RootKey}
 use Rattle.pl_root.specs.declared.root_key.RootKey.TheVariants.{Parameters, Resources, Extends}
 use Rattle.pl_root.specs.declared.root_key.RootKey.TheVariants.{Variables, Other}
 use Rattle.pl_directives.specs.Complaints.{refused}
-use Rattle.pl_directives.specs.Contents.{begun, with_chain, with_count, put_pair}
+use Rattle.pl_directives.specs.Contents.{begun, put_pair}
 use Rattle.pl_directives.specs.Counting.{entered}
 use Rattle.pl_calls.specs.Judging.{unless_at}
 use Rattle.pl_calls.specs.Meant.{◌>>>◌, alone}
 use Rattle.pl_calls.specs.Parts.{Body, body_of, under}
 use Rattle.pl_calls.specs.Reaching.{Opens, node_in, opens, same_file}
-use Rattle.pl_expanding.specs.Expanding.{expanded, entry_of, pair_behind}
+use Rattle.pl_expanding.specs.Expanding.{expanded}
 use Rattle.pl_expanding.specs.Following.{Follow, scope_of}
 use Rattle.pl_expanding.specs.Levels.{followed}
-use Rattle.pl_expand.specs.Extending.{extended, merged}
+use Rattle.pl_expand.specs.Extending.{merged}
+use Rattle.pl_expand.specs.Rooting.{filled_with, Rooting, chained, pair_seen}
 use Rattle.pl_root.specs.Resources.{earliest}
 use Rattle.pl_reading.specs.Steps.{◌>>=◌}
 use Rattle.pl_root.specs.Keys.{repositories_of, root_complaints, root_key}
@@ -93,33 +94,9 @@ put_variables node pair frame progress =
     (record { key = pair.key; key_origin = literal_at frame pair.key_place; item = node })
     progress.count progress
 
--- The pair of `variables` has the value that was expanded early, and `extends` is followed where it
--- stands.
-abbrev pub filled_with : Option Extension → Progress → RootFilling
-filled_with extension progress = record { progress = progress; extension = extension }
-
-abbrev pub Rooting : Type 0
-Rooting =
-    Opens → Frame → RootFilling → List FileKey → Result (RootFilling × List FileKey) ExpandFault
-
-abbrev pub ordinary_pair : NodePair → Rooting
-ordinary_pair pair opens frame filling used =
-    pair_behind (entry_of pair) (scope_of (followed 100 opens) frame Free) filling.progress used >>>
-    λ after used. Ok (filled_with filling.extension after, used)
-
--- what the template gives that `extends` leads to; a chain of branches ends there
-abbrev pub extends_pair : NodePair → Rooting
-extends_pair pair opens frame filling used =
-    extended opens pair.item frame filling.progress.count used >>> λ extension used.
-    Ok (
-      filled_with (Some extension)
-          (with_chain Closed (with_count extension.count filling.progress)),
-      used,
-    )
-
--- a pair that gives nothing ends one too
+-- A pair that gives nothing ends a chain of branches.
 abbrev pub passed_over : RootFilling → RootFilling
-passed_over filling = filled_with filling.extension (with_chain Closed filling.progress)
+passed_over filling = chained Closed filling
 
 abbrev pub variables_pair :
     MarkedNode → NodePair → Frame → RootFilling → Result RootFilling ExpandFault
@@ -127,15 +104,19 @@ variables_pair node pair frame filling =
     put_variables node pair frame filling.progress >>= λ after.
     Ok (filled_with filling.extension after)
 
+-- The pair of `variables` has the value that was expanded early, and any other pair is put after
+-- directives.
 abbrev pub root_pair : RootKey → Option MarkedNode → NodePair → Rooting
 root_pair Parameters early pair opens frame filling used = Ok (passed_over filling, used)
 root_pair Resources early pair opens frame filling used = Ok (passed_over filling, used)
-root_pair Extends early pair opens frame filling used = extends_pair pair opens frame filling used
 root_pair Variables (Some node) pair opens frame filling used =
     alone (variables_pair node pair frame filling) used
 root_pair Variables None pair opens frame filling used =
-    ordinary_pair pair opens frame filling used
-root_pair Other early pair opens frame filling used = ordinary_pair pair opens frame filling used
+    (pair_seen pair).put opens frame filling used
+root_pair Extends early pair opens frame filling used =
+    (pair_seen pair).put opens frame filling used
+root_pair Other early pair opens frame filling used =
+    (pair_seen pair).put opens frame filling used
 
 -- the early value goes to the first key `variables`
 abbrev pub given_to : RootKey → Option MarkedNode → Option MarkedNode

@@ -1,23 +1,19 @@
 ghost use Rattle.std.specs.Prelude.{◌≡◌, filter, IfOk};
 ghost use Rattle.std.specs.Option.{option_copied, option_map};
 ghost use Rattle.pl_calls.specs.Gives.{GivesUsed};
-ghost use Rattle.pl_calls.specs.Judging.{unless_at};
 ghost use Rattle.pl_calls.specs.Reaching.{opens};
 ghost use Rattle.pl_directives.specs.Gives.{Gives};
-ghost use Rattle.pl_directives.specs.declared.fault.ExpandProblem.TheVariants.{KeyTwice};
-ghost use Rattle.pl_directives.specs.declared.region.Region.TheVariants.{Free};
 ghost use Rattle.pl_expanding.specs.Levels.{followed};
 ghost use Rattle.pl_expand.specs.Tree.{early_by, given_to, early_behind, root_pair, root_pairs};
 ghost use Rattle.pl_expand.specs.Tree.{put_variables, stands, root_object, root_mapping};
 ghost use Rattle.pl_expand.specs.Tree.{filled_root, root_from};
-ghost use Rattle.pl_expand.specs.Tree.{ordinary_pair, filled_in, file_of};
-ghost use Rattle.pl_expand.specs.Tree.{extends_pair, variables_pair, object_pairs, passed_over};
-ghost use Rattle.pl_frame.specs.Doubles.{first_double};
+ghost use Rattle.pl_expand.specs.Tree.{filled_in, file_of, variables_pair, object_pairs};
 ghost use Rattle.pl_root.specs.Keys.{root_key};
 
-use crate::extending::{Extension, extend};
+use crate::extending::{Extension, judge_keys};
 use crate::merging::merge;
 use crate::root::{RootMapping, RootNode};
+use crate::rooting::{RootFilling, Spot, put_pair_of};
 use pl_base::{
     DEEPEST, ExactCopy, FileKey, List, MarkedNode, MarkedPair, Memory, Node, NodePair, Origin,
     Place, Value,
@@ -27,8 +23,8 @@ use pl_directives::{
     Chain, Content, ExpandFault, ExpandProblem, Form, Kind, Progress, Region, Standing, begin,
     complain, put_pair,
 };
-use pl_expanding::{MOST_LEVELS, Scope, expand_node, fill_pair};
-use pl_frame::{Frame, first_double, literal_at};
+use pl_expanding::{MOST_LEVELS, Scope, expand_node};
+use pl_frame::{Frame, literal_at};
 use pl_root::{RootKey, second_frame};
 use std::alloc::Global;
 
@@ -38,13 +34,6 @@ pub struct Early {
     pub node: Option<MarkedNode>,
     pub count: u32,
 }
-
-/// Where the root's mapping stands.
-pub const ROOT: Standing = Standing {
-    region: Region::Free,
-    levels: DEEPEST,
-    calls: MOST_LEVELS,
-};
 
 /// The root's variables.
 pub fn early_by<F: Files>(
@@ -107,79 +96,6 @@ fn put_variables(
     put_pair(alloc, made, count, progress)
 }
 
-/// The root's pairs so far, and what the template gives that it extends.
-#[derive(Drop)]
-pub struct RootFilling {
-    pub progress: Progress,
-    pub extension: Option<Extension>,
-}
-
-/// A pair that is expanded like any other.
-fn ordinary_pair<F: Files>(
-    alloc: Global,
-    pair: &NodePair,
-    frame: &Frame,
-    filling: RootFilling,
-    files: &mut F,
-    reach: &mut Reach,
-) -> Result<RootFilling, ExpandFault>
-    ensures filled { GivesUsed result reach.new.used (ordinary_pair pair.now (opens (F.files
-        files.old) reach.old.home) frame.now filling reach.old.used) }
-    ensures files { F.files files.new ≡ F.files files.old }
-    ensures home { reach.new.home ≡ reach.old.home }
-{
-    let RootFilling {
-        progress,
-        extension,
-    } = filling;
-    let scope = Scope { frame, at: ROOT };
-    let progress = fill_pair(alloc, pair, scope, progress, files, reach)?;
-    Ok(RootFilling {
-        progress,
-        extension,
-    })
-}
-
-/// A pair that gives nothing ends a chain of branches.
-fn passed_over(filling: RootFilling) -> RootFilling
-    ensures { result ≡ passed_over filling }
-{
-    let RootFilling {
-        progress,
-        extension,
-    } = filling;
-    RootFilling {
-        progress: progress.chained(Chain::Closed),
-        extension,
-    }
-}
-
-/// The pair of `extends`.
-fn fill_extends<F: Files>(
-    alloc: Global,
-    pair: &NodePair,
-    frame: &Frame,
-    filling: RootFilling,
-    files: &mut F,
-    reach: &mut Reach,
-) -> Result<RootFilling, ExpandFault>
-    ensures filled { GivesUsed result reach.new.used (extends_pair pair.now (opens (F.files
-        files.old) reach.old.home) frame.now filling reach.old.used) }
-    ensures files { F.files files.new ≡ F.files files.old }
-    ensures home { reach.new.home ≡ reach.old.home }
-{
-    let RootFilling {
-        progress,
-        extension: _,
-    } = filling;
-    let extension = extend(alloc, &pair.item, frame, progress.count, files, reach)?;
-    let progress = progress.at(Chain::Closed, extension.count);
-    Ok(RootFilling {
-        progress,
-        extension: Some(extension),
-    })
-}
-
 /// The pair of the root's variables, where their value is known.
 fn fill_variables(
     alloc: Global,
@@ -202,7 +118,7 @@ fn fill_variables(
 }
 
 /// A pair of the root's mapping.
-#[tactic(auto, using(crate::proofs::Alone::gives_alone))]
+#[tactic(auto, using(pl_calls::proofs::Alone::gives_alone))]
 fn fill_root_pair<F: Files>(
     alloc: Global,
     pair: &NodePair,
@@ -217,14 +133,19 @@ fn fill_root_pair<F: Files>(
     ensures files { F.files files.new ≡ F.files files.old }
     ensures home { reach.new.home ≡ reach.old.home }
 {
+    let spot = Spot {
+        frame,
+        levels: DEEPEST,
+    };
     match RootKey::of(&pair.key) {
-        RootKey::Parameters | RootKey::Resources => Ok(passed_over(filling)),
-        RootKey::Extends => fill_extends(alloc, pair, frame, filling, files, reach),
+        RootKey::Parameters | RootKey::Resources => Ok(filling.chained(Chain::Closed)),
         RootKey::Variables => match early {
             Some(node) => fill_variables(alloc, node, pair, frame, filling),
-            None => ordinary_pair(alloc, pair, frame, filling, files, reach),
+            None => put_pair_of(alloc, pair, spot, filling, files, reach),
         },
-        RootKey::Other => ordinary_pair(alloc, pair, frame, filling, files, reach),
+        RootKey::Extends | RootKey::Other => {
+            put_pair_of(alloc, pair, spot, filling, files, reach)
+        }
     }
 }
 
@@ -273,19 +194,6 @@ fn standing(alloc: Global, pairs: List<MarkedPair>) -> Result<List<MarkedPair>, 
         }
     }
     Ok(kept)
-}
-
-/// X15 at the first key that stands before.
-fn judge_keys(alloc: Global, pairs: &List<MarkedPair>) -> Result<(), ExpandFault>
-    ensures { Gives result (unless_at KeyTwice (first_double pairs.now) tt) }
-{
-    match first_double(alloc, pairs)? {
-        None => Ok(()),
-        Some(place) => {
-            let first = complain(alloc, ExpandProblem::KeyTwice, &place)?;
-            Err(ExpandFault::Refused(first))
-        }
-    }
 }
 
 /// The pairs of the root's object, with those that the template gives that it extends.
@@ -357,7 +265,7 @@ fn root_from(alloc: Global, origin: Origin, filling: RootFilling) -> Result<Root
 }
 
 /// The root's mapping, in its frame.
-#[tactic(auto, using(crate::proofs::Alone::gives_alone))]
+#[tactic(auto, using(pl_calls::proofs::Alone::gives_alone))]
 fn fill_in<F: Files>(
     alloc: Global,
     place: &Place,

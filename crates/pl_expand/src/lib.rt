@@ -1,4 +1,6 @@
-//! Pipelines, expanded: directives, expressions, parameters, variables, resources and templates.
+//! Pipelines, expanded: the root file with its run arguments, its variables first, then its pairs
+//! and what it extends. The recursion into nodes and called templates stands below it, in
+//! `pl_expanding`.
 #![tactic(auto)]
 
 mod expansion;
@@ -6,6 +8,7 @@ mod extending;
 mod filling;
 mod merging;
 mod root;
+mod rooting;
 
 pub use expansion::{expand, expand_counted};
 pub use pl_calls::{Files, Parsed};

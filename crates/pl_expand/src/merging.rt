@@ -5,29 +5,16 @@ ghost use Rattle.pl_literal.specs.Items.{is};
 ghost use Rattle.pl_calls.specs.Judging.{unless_at};
 ghost use Rattle.pl_directives.specs.Gives.{Gives};
 ghost use Rattle.pl_directives.specs.declared.fault.ExpandProblem.TheVariants.{WrongKind};
-ghost use Rattle.pl_expand.specs.Extending.{item_under, has_key, variables_in, joined_variables};
+ghost use Rattle.pl_expand.specs.Extending.{has_key, variables_in, joined_variables};
 ghost use Rattle.pl_expand.specs.Extending.{both_variables, with_items, is_replaced, root_side};
 ghost use Rattle.pl_expand.specs.Extending.{template_side, is_form, form_place, joined_pairs};
 ghost use Rattle.pl_expand.specs.Extending.{shared_variables, merged_with, merged};
 
-use crate::extending::Extension;
+use crate::extending::{Extension, item_under};
 use pl_base::{ExactCopy, List, MarkedNode, MarkedPair, Memory, Place, Text, Value};
 use pl_directives::{ExpandFault, ExpandProblem, complain};
 use pl_expanding::variable_items;
 use std::alloc::Global;
-
-/// The value under a key.
-#[tactic(auto, using(pl_root::proofs::Finding::find_drop_yes, pl_root::proofs::Finding::find_drop_no))]
-fn item_under<'p>(key: &str, pairs: &'p List<MarkedPair>) -> Option<&'p MarkedNode>
-    ensures { option_copied result ≡ item_under key.now pairs.now }
-{
-    for pair in pairs.as_slice() {
-        if pair.key.as_str() == key {
-            return Some(&pair.item);
-        }
-    }
-    None
-}
 
 /// Whether one of the pairs has a key.
 fn has_key(key: &str, pairs: &List<MarkedPair>) -> bool
@@ -204,7 +191,7 @@ fn template_sides(
 }
 
 /// Whether a key is that of the root's own jobs.
-fn is_form(key: &Text) -> bool
+pub fn is_form(key: &Text) -> bool
     ensures { result ≡ is_form key.now }
 {
     match key.as_str() {
@@ -214,8 +201,8 @@ fn is_form(key: &Text) -> bool
 }
 
 /// Where the first key of the root's own jobs comes from.
-#[tactic(auto, using(pl_root::proofs::Finding::find_drop_yes, pl_root::proofs::Finding::find_drop_no))]
-fn form_place(pairs: &List<MarkedPair>) -> Option<&Place>
+#[tactic(auto, using(pl_params::proofs::Finding::find_drop_yes, pl_params::proofs::Finding::find_drop_no))]
+pub fn form_place(pairs: &List<MarkedPair>) -> Option<&Place>
     ensures { option_copied result ≡ form_place pairs.now }
 {
     for pair in pairs.as_slice() {

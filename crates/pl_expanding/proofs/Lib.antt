@@ -1,4 +1,3 @@
-pub mod Alone
 pub mod Filled
 pub mod Itself
 pub mod Levels

@@ -1,7 +1,7 @@
 -- The expansion of a node in a frame (Microsoft Learn, Azure Pipelines, "Templates" and "Template
 -- expressions"). Nodes are entered and counted in the order in which they stand, and the first
 -- fault that is met is the answer.
-use Rattle.std.specs.Prelude.{ℕ, List, [], ◌∷◌, map, Bool, true, false, Result, Ok}
+use Rattle.std.specs.Prelude.{ℕ, List, [], ◌∷◌, map, Bool, true, false, None, Result, Ok}
 use Rattle.pl_base.specs.declared.place.FileKey.{FileKey}
 use Rattle.pl_base.specs.declared.place.Place.{Place}
 use Rattle.pl_base.specs.declared.node.Node.{Node, fold-Node}
@@ -13,16 +13,18 @@ use Rattle.pl_base.specs.declared.value.MarkedNode.{MarkedNode}
 use Rattle.pl_frame.specs.Names.{within}
 use Rattle.pl_frame.specs.Origins.{literal_at}
 use Rattle.pl_frame.specs.declared.frame.Frame.{Frame}
-use Rattle.pl_template.specs.Keys.{key_form_of}
+use Rattle.pl_template.specs.Forms.{form_of}
 use Rattle.pl_directives.specs.declared.action.Action.{Action}
 use Rattle.pl_directives.specs.declared.action.Action.TheVariants.{Put, Run, Pass, Repeat, Insert}
 use Rattle.pl_directives.specs.declared.fault.ExpandFault.{ExpandFault}
 use Rattle.pl_directives.specs.declared.fault.ExpandProblem.{ExpandProblem}
 use Rattle.pl_directives.specs.declared.fault.ExpandProblem.TheVariants.{WrongKind, InsertNoMapping}
+use Rattle.pl_directives.specs.declared.fault.ExpandProblem.TheVariants.{BadDirective}
 use Rattle.pl_directives.specs.declared.manner.Kind.{Kind}
 use Rattle.pl_directives.specs.declared.manner.Kind.TheVariants as kind
 use Rattle.pl_directives.specs.declared.manner.Manner.{Manner}
 use Rattle.pl_directives.specs.declared.manner.Manner.TheVariants.{Empty, Stays, Splices, Mixed}
+use Rattle.pl_directives.specs.declared.manner.Manner.TheVariants.{Unclosed}
 use Rattle.pl_directives.specs.declared.progress.Chain.TheVariants.{Closed}
 use Rattle.pl_directives.specs.declared.progress.Counted.{Counted}
 use Rattle.pl_directives.specs.declared.progress.Progress.{Progress}
@@ -33,11 +35,13 @@ use Rattle.pl_directives.specs.Contents.{put_pair, finished, absorbed}
 use Rattle.pl_directives.specs.Counting.{entered}
 use Rattle.pl_directives.specs.Manners.{Facet, manner_of}
 use Rattle.pl_directives.specs.Regions.{under, inside, of_item, is_path}
+use Rattle.pl_directives.specs.Strays.{told, key_stray, unless_stray, given_value}
 use Rattle.pl_reading.specs.Steps.{◌>>=◌}
 use Rattle.pl_calls.specs.Meant.{◌>>>◌, alone}
 use Rattle.pl_expanding.specs.Following.{Scope, in_frame, in_region}
 use Rattle.pl_expanding.specs.Putting.{add_item, splice, spread}
 use Rattle.pl_expanding.specs.Scalars.{scalar_at, path_at}
+use Rattle.pl_expanding.specs.Settling.{node_settling}
 
 -- ---- A node as what it stands in sees it
 
@@ -79,11 +83,14 @@ value_by (sequence fill) place scope count used =
 value_by (mapping manner fill) place scope count used =
     collected kind.Pairs fill place scope count used
 
--- ---- a node in a directive's place: its items or its pairs, else a problem where it stands
+-- ---- a node in a directive's place: its items or its pairs, else a problem where it stands; what
+-- an expression gives for a call is judged before the calls in it are followed
 
 abbrev pub body_by : Shape → Place → ExpandProblem → Filling
 body_by (scalar text) place problem scope progress used =
-    scalar_at text scope place progress.count used >>> λ one used.
+    given_value text scope.frame place progress.count scope.region (told progress.content) >>=
+    λ one.
+    node_settling one.node scope one.count used >>> λ one used.
     alone (absorbed one.node problem place (with_count one.count progress)) used
 body_by (sequence fill) place problem scope progress used =
     entered place progress.count >>= λ count.
@@ -109,7 +116,8 @@ turns name part (item ∷ items) scope progress used =
 
 -- ---- pairs of a mapping
 
--- the path of a call is a text, and not a value like any other
+-- The path of a call is a text, and not a value like any other. A key that may not stand there is
+-- refused before its value is expanded.
 abbrev pub path_by : Shape → Place → Frame → ℕ → Result Counted ExpandFault
 path_by (scalar text) place frame count = path_at text frame place count
 path_by other place frame count = entered place count >>= λ count. refused WrongKind place
@@ -122,6 +130,7 @@ value_under false key part scope count used =
 
 abbrev pub done : Action → Part → Filling
 done (Put key origin) part scope progress used =
+    unless_stray (key_stray scope.region progress.content key origin.source) >>= λ none.
     value_under (is_path scope.region progress.content key) key part scope progress.count used >>>
     λ one used.
     alone
@@ -162,6 +171,7 @@ mapping_behind (Splices kind) fill place scope progress used =
     splice scope (literal_at scope.frame place) inner.content
     (with_chain inner.chain (with_count inner.count progress)) used
 mapping_behind (Mixed other) fill place scope progress used = refused WrongKind other
+mapping_behind (Unclosed key) fill place scope progress used = refused BadDirective key
 
 abbrev pub mapping_item_by : Manner → Filling → Place → Filling
 mapping_item_by manner fill place scope progress used =
@@ -170,7 +180,8 @@ mapping_item_by manner fill place scope progress used =
 
 abbrev pub item_by : Shape → Place → Filling
 item_by (scalar text) place scope progress used =
-    scalar_at text scope place progress.count used >>> λ one used.
+    given_value text scope.frame place progress.count (of_item scope.region) None >>= λ one.
+    node_settling one.node scope one.count used >>> λ one used.
     spread scope one.node (with_chain Closed (with_count one.count progress)) used
 item_by (sequence fill) place scope progress used =
     collected kind.Items fill place (in_region (inside scope.region) scope) progress.count used >>>
@@ -196,7 +207,8 @@ kind_of (mapping manner fill) = kind.Pairs
 
 abbrev pub facet_of : Entry → Facet
 facet_of entry = record {
-  form = key_form_of entry.key;
+  key = form_of entry.key;
+  key_place = entry.key_place;
   kind = kind_of entry.part.shape;
   place = entry.part.place;
 }

@@ -1,6 +1,6 @@
 -- A call that is followed (Microsoft Learn, Azure Pipelines, "Templates"), in the order in which it
 -- is judged.
-use Rattle.std.specs.Prelude.{ℕ, zero, suc, ◌-◌, List, [], ◌∷◌, map, codes}
+use Rattle.std.specs.Prelude.{ℕ, zero, suc, List, [], ◌∷◌, map, codes}
 use Rattle.std.specs.Prelude.{Option, Some, None, Result, Ok}
 use Rattle.pl_base.specs.declared.node.NodePair.{NodePair}
 use Rattle.pl_base.specs.declared.origin.Crossing.{Crossing}
@@ -26,7 +26,7 @@ use Rattle.pl_directives.specs.Counting.{entered}
 use Rattle.pl_reading.specs.Steps.{◌>>=◌}
 use Rattle.pl_calls.specs.Calls.{Called, call_of}
 use Rattle.pl_calls.specs.Frames.{template_of, framed_by}
-use Rattle.pl_calls.specs.Judging.{template_in, body_in}
+use Rattle.pl_calls.specs.Judging.{template_in, body_in, body_fits}
 use Rattle.pl_calls.specs.Meant.{◌>>>◌, alone}
 use Rattle.pl_calls.specs.Reaching.{Opens, node_in}
 use Rattle.pl_expanding.specs.Expanding.{expanded}
@@ -61,9 +61,9 @@ abbrev pub border : FileKey → Place → Crossing
 border file at = Include file at
 
 abbrev pub frame_for :
-    FileKey → ℕ → List NodePair → Called → Frame → Result Frame ExpandFault
-frame_for file level pairs call frame =
-    framed_by (template_of file level pairs) frame.variables call.arguments (border file call.at)
+    FileKey → List NodePair → Called → Frame → Result Frame ExpandFault
+frame_for file pairs call frame =
+    framed_by (template_of file pairs) frame.variables call.arguments (border file call.at)
     call.crossings
 
 -- ---- the call, in this order: the path's text and the arguments; one level more; the file; what
@@ -73,20 +73,21 @@ abbrev pub deeper : Option Follow → Place → Result Follow ExpandFault
 deeper None at = refused NestedTooDeep at
 deeper (Some follow) at = Ok follow
 
-abbrev pub call_by : Option Follow → ℕ → Opens → Follow
-call_by next level opens frame form item count used =
+abbrev pub call_by : Option Follow → Opens → Follow
+call_by next opens frame form item count used =
     call_of item >>= λ call.
     deeper next call.at >>= λ follow.
     opens call.at call.path used >>> λ opened used.
     node_in opened.file >>= λ node.
     template_in node >>= λ pairs.
     body_in form node.place pairs >>= λ body.
-    frame_for opened.key level pairs call frame >>= λ inner.
+    frame_for opened.key pairs call frame >>= λ inner.
     entered node.place count >>= λ count.
+    body_fits form body >>= λ none.
     expanded body (scope_of follow inner (InCalls form)) count used >>> λ one used.
     alone (items_from form body.place one) used
 
 -- with so many levels left below the caller: the root may be followed by 100
 unfoldable pub followed : ℕ → Opens → Follow
-followed zero opens = call_by None 0 opens
-followed (suc left) opens = call_by (Some (followed left opens)) (100 - left) opens
+followed zero opens = call_by None opens
+followed (suc left) opens = call_by (Some (followed left opens)) opens

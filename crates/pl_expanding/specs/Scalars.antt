@@ -9,44 +9,24 @@ use Rattle.pl_frame.specs.Origins.{literal_at}
 use Rattle.pl_frame.specs.declared.frame.Frame.{Frame}
 use Rattle.pl_template.specs.Forms.{form_of}
 use Rattle.pl_template.specs.declared.forms.ScalarForm.{ScalarForm}
-use Rattle.pl_template.specs.declared.forms.ScalarForm.TheVariants.{Plain, Whole, Joined, Unclosed}
+use Rattle.pl_template.specs.declared.forms.ScalarForm.TheVariants.{Plain}
 use Rattle.pl_directives.specs.declared.fault.ExpandFault.{ExpandFault}
-use Rattle.pl_directives.specs.declared.fault.ExpandProblem.TheVariants.{BadDirective}
 use Rattle.pl_directives.specs.declared.keys.MadeKey.{MadeKey}
 use Rattle.pl_directives.specs.declared.progress.Counted.{Counted}
-use Rattle.pl_directives.specs.Complaints.{refused}
 use Rattle.pl_directives.specs.Counting.{entered}
 use Rattle.pl_directives.specs.Keys.{key_by}
-use Rattle.pl_directives.specs.Scalars.{counted_value_at, plain_scalar, joined_scalar}
+use Rattle.pl_directives.specs.Scalars.{scalar_value}
 use Rattle.pl_reading.specs.Steps.{◌>>=◌}
-use Rattle.pl_calls.specs.Meant.{alone}
 use Rattle.pl_expanding.specs.Following.{Scope}
 use Rattle.pl_expanding.specs.Settling.{node_settling}
 
--- ---- a scalar in a region
-
--- where it is one expression it is that value, of its own kind and with its own origin, in which
--- calls are followed
-abbrev pub whole_scalar :
-    List ℕ → Scope → Place → ℕ → List FileKey → Result (Counted × List FileKey) ExpandFault
-whole_scalar inside scope place count used =
-    counted_value_at scope.frame place inside count >>= λ one.
-    node_settling one.node scope one.count used
-
-abbrev pub scalar_by :
-    ScalarForm → List ℕ → Scope → Place → ℕ → List FileKey →
-    Result (Counted × List FileKey) ExpandFault
-scalar_by Plain text scope place count used =
-    Ok (plain_scalar text scope.frame place count, used)
-scalar_by (Whole inside) text scope place count used = whole_scalar inside scope place count used
-scalar_by (Joined pieces) text scope place count used =
-    alone (joined_scalar pieces scope.frame place count) used
-scalar_by Unclosed text scope place count used = refused BadDirective place
+-- ---- a scalar in a region: its value, in which calls are followed
 
 abbrev pub scalar_at :
     List ℕ → Scope → Place → ℕ → List FileKey → Result (Counted × List FileKey) ExpandFault
 scalar_at text scope place count used =
-    entered place count >>= λ count. scalar_by (form_of text) text scope place count used
+    scalar_value text scope.frame place count >>= λ one.
+    node_settling one.node scope one.count used
 
 -- ---- the path of a call: a text, and what its expressions yield isn't counted
 

@@ -1,5 +1,5 @@
 -- The steps of a call, one behind the other.
-use Rattle.std.specs.Prelude.{ℕ, zero, suc, ◌-◌, List, Result}
+use Rattle.std.specs.Prelude.{ℕ, zero, suc, List, Result}
 use Rattle.pl_base.specs.declared.node.Node.{Node}
 use Rattle.pl_base.specs.declared.place.FileKey.{FileKey}
 use Rattle.pl_base.specs.declared.place.Place.{Place}
@@ -12,7 +12,7 @@ use Rattle.pl_directives.specs.Complaints.{refused}
 use Rattle.pl_directives.specs.Counting.{entered}
 use Rattle.pl_reading.specs.Steps.{◌>>=◌}
 use Rattle.pl_calls.specs.Calls.{Called}
-use Rattle.pl_calls.specs.Judging.{template_in, body_in}
+use Rattle.pl_calls.specs.Judging.{template_in, body_in, body_fits}
 use Rattle.pl_calls.specs.Meant.{◌>>>◌, alone}
 use Rattle.pl_calls.specs.Reaching.{Opens, node_in}
 use Rattle.pl_calls.specs.declared.reaching.Opened.{Opened}
@@ -38,6 +38,7 @@ abbrev pub filled_in :
     Place → Node → Form → Scope → ℕ → List FileKey → Result (Followed × List FileKey) ExpandFault
 filled_in place body form scope count used =
     entered place count >>= λ count.
+    body_fits form body >>= λ none.
     expanded body scope count used >>> λ one used.
     alone (items_from form body.place one) used
 
@@ -48,7 +49,7 @@ found_in opened left opens calling used =
     node_in opened.file >>= λ node.
     template_in node >>= λ pairs.
     body_in calling.form node.place pairs >>= λ body.
-    frame_for opened.key (100 - left) pairs calling.call calling.frame >>= λ inner.
+    frame_for opened.key pairs calling.call calling.frame >>= λ inner.
     filled_in node.place body calling.form
     (scope_of (followed left opens) inner (InCalls calling.form)) calling.count used
 

@@ -4,6 +4,7 @@ ghost use Rattle.pl_calls.specs.Reaching.{opens};
 ghost use Rattle.pl_directives.specs.Gives.{Gives};
 ghost use Rattle.pl_directives.specs.Misfits.{problem_of};
 ghost use Rattle.pl_directives.specs.Regions.{is_path};
+ghost use Rattle.pl_directives.specs.declared.action.Action.TheVariants.{Put};
 ghost use Rattle.pl_expanding.specs.Expanding.{part_of, entry_of, expanded, body, turns, done};
 ghost use Rattle.pl_expanding.specs.Expanding.{pair_behind, pairs_behind, item_behind};
 ghost use Rattle.pl_expanding.specs.Expanding.{items_behind, mapping_item, path_by, value_under};
@@ -14,11 +15,13 @@ use crate::facets::manner_of;
 use crate::putting::{add_item, put_alone, splice, spread};
 use crate::scalars::{expand_scalar, path_at};
 use crate::scope::Scope;
+use crate::settling::settle;
 use pl_base::{ExactCopy, List, MarkedPair, Node, NodeBody, NodePair, Place, Text};
 use pl_calls::{Files, Reach};
 use pl_directives::{
-    Action, Chain, Counted, ExpandFault, ExpandProblem, Kind, Manner, Misfit, Progress, Turns,
-    absorb, as_items, as_pairs, begin, begin_spliced, complain, enter, finish, key_asks, put_pair,
+    Action, Chain, Counted, ExpandFault, ExpandProblem, Kind, MadeKey, Manner, Misfit, Progress,
+    Turns, absorb, as_items, as_pairs, begin, begin_spliced, complain, enter, finish, given_value,
+    judge_key, key_asks, put_pair, told,
 };
 use pl_frame::{Frame, within};
 use std::alloc::Global;
@@ -26,7 +29,7 @@ use std::alloc::Global;
 /// A node as a value in a frame, where it stands: a scalar, a sequence's items or a mapping's
 /// pairs.
 #[cycle(expansion)]
-#[tactic(auto, using(crate::proofs::Alone::gives_alone))]
+#[tactic(auto, using(pl_calls::proofs::Alone::gives_alone))]
 pub fn expand_node<F: Files>(
     alloc: Global,
     node: &Node,
@@ -81,7 +84,10 @@ fn fill_body<F: Files>(
     let count = progress.count;
     let after = match &node.body {
         NodeBody::Scalar(text) => {
-            let one = expand_scalar(alloc, text, scope, place, count, files, reach)?;
+            let called = told(&progress.content);
+            let region = scope.at.region;
+            let one = given_value(alloc, text, scope.frame, place, count, region, called)?;
+            let one = settle(alloc, one, scope, files, reach)?;
             absorb(
                 alloc,
                 misfit,
@@ -157,7 +163,7 @@ pub fn fill_pair<F: Files>(
 
 /// What a key asked for.
 #[cycle(expansion)]
-#[tactic(auto, using(crate::proofs::Alone::gives_alone))]
+#[tactic(auto, using(pl_calls::proofs::Alone::gives_alone))]
 fn fill_asked<F: Files>(
     alloc: Global,
     action: Action,
@@ -174,15 +180,9 @@ fn fill_asked<F: Files>(
     ensures home { reach.new.home ≡ reach.old.home }
 {
     match action {
-        Action::Put(key, key_origin) => {
-            let one = expand_under(alloc, &key, node, scope, &progress, files, reach)?;
-            let item = one.node;
-            let pair = MarkedPair {
-                key,
-                key_origin,
-                item,
-            };
-            put_pair(alloc, pair, one.count, progress)
+        Action::Put(key, origin) => {
+            let made = MadeKey { key, origin };
+            fill_key(alloc, made, node, scope, progress, files, reach)
         }
         Action::Run(chain) => {
             let after = fill_body(
@@ -213,9 +213,49 @@ fn fill_asked<F: Files>(
     }
 }
 
+/// A key and its value behind what is there. X9 at a key that may not stand there, before its value
+/// is expanded.
+#[cycle(expansion)]
+#[tactic(auto, using(pl_calls::proofs::Alone::gives_alone))]
+pub fn fill_key<F: Files>(
+    alloc: Global,
+    made: MadeKey,
+    node: &Node,
+    scope: Scope<'_>,
+    progress: Progress,
+    files: &mut F,
+    reach: &mut Reach,
+) -> Result<Progress, ExpandFault>
+    ensures gives { GivesUsed result reach.new.used (done (Put made.key made.origin) (part_of
+        node.now) (scope_of (followed scope.entry.at.calls (opens (F.files files.old)
+        reach.old.home)) scope.entry.frame.now scope.entry.at.region) progress reach.old.used) }
+    ensures files { F.files files.new ≡ F.files files.old }
+    ensures home { reach.new.home ≡ reach.old.home }
+{
+    let MadeKey {
+        key,
+        origin: key_origin,
+    } = made;
+    judge_key(
+        alloc,
+        scope.at.region,
+        &progress.content,
+        &key,
+        &key_origin.source,
+    )?;
+    let one = expand_under(alloc, &key, node, scope, &progress, files, reach)?;
+    let item = one.node;
+    let pair = MarkedPair {
+        key,
+        key_origin,
+        item,
+    };
+    put_pair(alloc, pair, one.count, progress)
+}
+
 /// The value of a key: the path of a call, or a value like any other.
 #[cycle(expansion)]
-#[tactic(auto, using(crate::proofs::Alone::gives_alone))]
+#[tactic(auto, using(pl_calls::proofs::Alone::gives_alone))]
 fn expand_under<F: Files>(
     alloc: Global,
     key: &Text,
@@ -325,7 +365,9 @@ fn fill_item<F: Files>(
     let count = progress.count;
     match &node.body {
         NodeBody::Scalar(text) => {
-            let one = expand_scalar(alloc, text, scope, place, count, files, reach)?;
+            let region = scope.at.region.of_item();
+            let one = given_value(alloc, text, scope.frame, place, count, region, None)?;
+            let one = settle(alloc, one, scope, files, reach)?;
             let progress = progress.at(Chain::Closed, one.count);
             spread(alloc, scope, one.node, progress, files, reach)
         }
@@ -382,6 +424,10 @@ fn fill_mapping<F: Files>(
         }
         Manner::Mixed(other) => {
             let first = complain(alloc, ExpandProblem::WrongKind, &other)?;
+            Err(ExpandFault::Refused(first))
+        }
+        Manner::Unclosed(key) => {
+            let first = complain(alloc, ExpandProblem::BadDirective, &key)?;
             Err(ExpandFault::Refused(first))
         }
     }

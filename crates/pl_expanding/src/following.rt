@@ -13,7 +13,8 @@ use crate::items::items_from;
 use crate::scope::Scope;
 use pl_base::{Crossing, DEEPEST, ExactCopy, List, MarkedNode, Memory, Node, NodePair, Place};
 use pl_calls::{
-    Call, Files, Opened, Reach, Template, body_in, call_of, framed_by, node_in, open, template_in,
+    Call, Files, Opened, Reach, Template, body_in, call_of, framed_by, judge_body, node_in, open,
+    template_in,
 };
 use pl_directives::{ExpandFault, ExpandProblem, Form, Region, Standing, complain, enter};
 use pl_frame::Frame;
@@ -104,7 +105,7 @@ fn enter_file<F: Files>(
     let node = node_in(alloc, &opened.file)?;
     let pairs = template_in(alloc, node)?;
     let body = body_in(alloc, calling.form, &node.place, pairs)?;
-    let inner = frame_for(alloc, opened, left, pairs, calling.call, calling.frame)?;
+    let inner = frame_for(alloc, opened, pairs, calling.call, calling.frame)?;
     let scope = Scope {
         frame: &inner,
         at: Standing {
@@ -120,18 +121,14 @@ fn enter_file<F: Files>(
 fn frame_for(
     alloc: Global,
     opened: &Opened,
-    left: u32,
     pairs: &List<NodePair>,
     call: &Call<'_>,
     frame: &Frame,
 ) -> Result<Frame, ExpandFault>
-    ensures { Gives result (frame_for opened.now.key (100 - left) pairs.now (seen call.now)
-        frame.now) }
+    ensures { Gives result (frame_for opened.now.key pairs.now (seen call.now) frame.now) }
 {
-    let level = MOST_LEVELS.saturating_sub(left);
     let template = Template {
         file: &opened.key,
-        level,
         pairs,
     };
     let border = border(alloc, opened, call.at)?;
@@ -156,7 +153,7 @@ fn border(alloc: Global, opened: &Opened, at: &Place) -> Result<Crossing, Memory
 
 /// The template's body in its frame.
 #[cycle(expansion)]
-#[tactic(auto, using(crate::proofs::Alone::gives_alone))]
+#[tactic(auto, using(pl_calls::proofs::Alone::gives_alone))]
 fn fill<F: Files>(
     alloc: Global,
     place: &Place,
@@ -173,6 +170,7 @@ fn fill<F: Files>(
     ensures home { reach.new.home ≡ reach.old.home }
 {
     let count = enter(alloc, place, calling.count)?;
+    judge_body(alloc, calling.form, body)?;
     let one = expand_node(alloc, body, scope, count, files, reach)?;
     items_from(alloc, calling.form, &body.place, one)
 }

@@ -1,5 +1,6 @@
-//! The expansion of a node in a frame, with the templates that it calls, and with where each node
-//! comes from.
+//! The recursion of an expansion: a node of any file in a frame, with the templates that it calls,
+//! and with where each node comes from. What is read of the root file alone stands above it, in
+//! `pl_expand`.
 #![tactic(auto)]
 
 mod expanding;
@@ -12,8 +13,9 @@ mod scalars;
 mod scope;
 mod settling;
 
-pub use expanding::{expand_node, expand_path, fill_pair};
+pub use expanding::{expand_node, expand_path, fill_key, fill_pair};
 pub use followed::{Followed, SettledPairs};
 pub use following::MOST_LEVELS;
 pub use items::variable_items;
 pub use scope::Scope;
+pub use settling::settle_node;

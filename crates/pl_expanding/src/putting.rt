@@ -20,7 +20,7 @@ use std::alloc::Global;
 
 /// An item behind those that are there: a call is followed.
 #[cycle(expansion)]
-#[tactic(auto, using(crate::proofs::Alone::gives_alone))]
+#[tactic(auto, using(pl_calls::proofs::Alone::gives_alone))]
 pub fn add_item<F: Files>(
     alloc: Global,
     scope: Scope<'_>,
@@ -80,7 +80,7 @@ pub fn put_alone<F: Files>(
 /// What directives alone put in an item's place, behind the items that are there: items as they
 /// are, pairs as one item, and nothing where nothing came of it.
 #[cycle(expansion)]
-#[tactic(auto, using(crate::proofs::Alone::gives_alone))]
+#[tactic(auto, using(pl_calls::proofs::Alone::gives_alone))]
 pub fn splice<F: Files>(
     alloc: Global,
     scope: Scope<'_>,
@@ -131,7 +131,7 @@ fn splice_pairs<F: Files>(
 
 /// An expression's value as an item: an array's items stand in its place.
 #[cycle(expansion)]
-#[tactic(auto, using(crate::proofs::Alone::gives_alone))]
+#[tactic(auto, using(pl_calls::proofs::Alone::gives_alone))]
 pub fn spread<F: Files>(
     alloc: Global,
     scope: Scope<'_>,

@@ -6,45 +6,20 @@ ghost use Rattle.pl_frame.specs.Origins.{literal_at};
 ghost use Rattle.pl_template.specs.Forms.{form_of};
 ghost use Rattle.pl_expanding.specs.Following.{scope_of};
 ghost use Rattle.pl_expanding.specs.Levels.{followed};
-ghost use Rattle.pl_expanding.specs.Scalars.{whole_scalar, scalar_at, path_by, path_at};
+ghost use Rattle.pl_expanding.specs.Scalars.{scalar_at, path_by, path_at};
 
 use crate::scope::Scope;
 use crate::settling::settle;
 use pl_base::{ExactCopy, MarkedNode, Memory, Place, Text, Value};
 use pl_calls::{Files, Reach};
-use pl_directives::{
-    Counted, ExpandFault, ExpandProblem, MadeKey, complain, counted_value_at, enter, joined_scalar,
-    key_by, plain_scalar,
-};
+use pl_directives::{Counted, ExpandFault, MadeKey, enter, key_by, scalar_value};
 use pl_frame::{Frame, literal_at};
 use pl_template::{ScalarForm, scalar_form};
 use std::alloc::Global;
 
-/// A scalar that is one expression.
+/// A scalar where it stands: its value, in which calls are followed. X5 where an expression has no
+/// end.
 #[cycle(expansion)]
-fn whole_scalar<F: Files>(
-    alloc: Global,
-    inside: &Text,
-    scope: Scope<'_>,
-    place: &Place,
-    count: u32,
-    files: &mut F,
-    reach: &mut Reach,
-) -> Result<Counted, ExpandFault>
-    ensures whole { GivesUsed result reach.new.used (whole_scalar inside.now (scope_of (followed
-        scope.entry.at.calls (opens (F.files files.old) reach.old.home)) scope.entry.frame.now
-        scope.entry.at.region) place.now count reach.old.used) }
-    ensures files { F.files files.new ≡ F.files files.old }
-    ensures home { reach.new.home ≡ reach.old.home }
-{
-    let one = counted_value_at(alloc, scope.frame, place, inside, count)?;
-    settle(alloc, &one.node, scope, one.count, files, reach)
-}
-
-/// A scalar where it stands: its text where no expression stands in it, the value of the one
-/// expression that it is, else the joined text. X5 where an expression has no end.
-#[cycle(expansion)]
-#[tactic(auto, using(crate::proofs::Alone::gives_alone))]
 pub fn expand_scalar<F: Files>(
     alloc: Global,
     text: &Text,
@@ -60,18 +35,8 @@ pub fn expand_scalar<F: Files>(
     ensures files { F.files files.new ≡ F.files files.old }
     ensures home { reach.new.home ≡ reach.old.home }
 {
-    let count = enter(alloc, place, count)?;
-    match scalar_form(alloc, text)? {
-        ScalarForm::Plain => Ok(plain_scalar(alloc, text, scope.frame, place, count)?),
-        ScalarForm::Whole(inside) => {
-            whole_scalar(alloc, &inside, scope, place, count, files, reach)
-        }
-        ScalarForm::Joined(pieces) => joined_scalar(alloc, &pieces, scope.frame, place, count),
-        ScalarForm::Unclosed => {
-            let first = complain(alloc, ExpandProblem::BadDirective, place)?;
-            Err(ExpandFault::Refused(first))
-        }
-    }
+    let one = scalar_value(alloc, text, scope.frame, place, count)?;
+    settle(alloc, one, scope, files, reach)
 }
 
 /// The text that is written as a path.

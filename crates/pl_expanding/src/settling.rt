@@ -16,9 +16,32 @@ use pl_calls::{Files, Reach};
 use pl_directives::{Counted, ExpandFault};
 use std::alloc::Global;
 
-/// A node that an expression gave, where it stands: the calls in it are followed.
+/// A value where it stands: the calls in it are followed.
 #[cycle(expansion)]
 pub fn settle<F: Files>(
+    alloc: Global,
+    one: Counted,
+    scope: Scope<'_>,
+    files: &mut F,
+    reach: &mut Reach,
+) -> Result<Counted, ExpandFault>
+    ensures settled { GivesUsed result reach.new.used (node_settling one.node (scope_of (followed
+        scope.entry.at.calls (opens (F.files files.old) reach.old.home)) scope.entry.frame.now
+        scope.entry.at.region) one.count reach.old.used) }
+    ensures files { F.files files.new ≡ F.files files.old }
+    ensures home { reach.new.home ≡ reach.old.home }
+{
+    match &one.node.value {
+        Value::Array(_) | Value::Object(_) => {
+            settle_node(alloc, &one.node, scope, one.count, files, reach)
+        }
+        _atom => Ok(one),
+    }
+}
+
+/// A node that an expression gave, where it stands: the calls in it are followed.
+#[cycle(expansion)]
+pub fn settle_node<F: Files>(
     alloc: Global,
     node: &MarkedNode,
     scope: Scope<'_>,
@@ -130,7 +153,7 @@ fn settle_item<F: Files>(
             Ok(items_with(before, more)?)
         }
         None => {
-            let one = settle(alloc, item, scope.inside(), before.count, files, reach)?;
+            let one = settle_node(alloc, item, scope.inside(), before.count, files, reach)?;
             Ok(items_and(before, one)?)
         }
     }
@@ -179,6 +202,6 @@ fn settle_pair<F: Files>(
     ensures home { reach.new.home ≡ reach.old.home }
 {
     let scope = scope.under(&pair.key);
-    let one = settle(alloc, &pair.item, scope, before.count, files, reach)?;
+    let one = settle_node(alloc, &pair.item, scope, before.count, files, reach)?;
     Ok(pairs_and(alloc, before, pair, one)?)
 }

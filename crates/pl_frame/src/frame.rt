@@ -24,13 +24,12 @@ pub struct Loop {
     pub item: MarkedNode,
 }
 
-/// Where an expansion stands: the file, its level (the root's is 0), its parameters, the variables,
-/// the loops around with the innermost last, and the borders that were crossed on the way to the
-/// file. Frames share these lists, so that one more loop costs no copy of them.
+/// Where an expansion stands: the file, its parameters, the variables, the loops around with the
+/// innermost last, and the borders that were crossed on the way to the file. Frames share these
+/// lists, so that one more loop costs no copy of them.
 #[derive(Debug, Drop)]
 pub struct Frame {
     pub file: Shared<FileKey>,
-    pub level: u32,
     pub parameters: Shared<List<Parameter>>,
     pub variables: Shared<List<Variable>>,
     pub loops: SharedList<Loop>,

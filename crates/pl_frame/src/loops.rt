@@ -18,7 +18,6 @@ pub fn within(alloc: Global, frame: &Frame, name: &Text, item: MarkedNode) -> Re
     let loops = frame.loops.with(alloc, Loop { name, item })?;
     Ok(Frame {
         file: frame.file.copy(alloc)?,
-        level: frame.level,
         parameters: frame.parameters.copy(alloc)?,
         variables: frame.variables.copy(alloc)?,
         loops,

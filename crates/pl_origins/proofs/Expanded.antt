@@ -1,5 +1,5 @@
 -- What a file's node gives in a frame.
-use Rattle.std.proofs.Common.{◌≡◌, ℕ, Bool, true, false, List, []}
+use Rattle.std.proofs.Common.{◌≡◌, ℕ, Bool, true, false, None, List, []}
 use Rattle.std.proofs.Common.{◌∷◌, map, sym, subst, rules}
 use Rattle.std.specs.Prelude.{IfOk}
 use Rattle.std.specs.List.{AllByRecursion as Each}
@@ -25,6 +25,7 @@ use Rattle.pl_directives.specs.declared.manner.Kind.{Kind}
 use Rattle.pl_directives.specs.declared.manner.Kind.TheVariants as kind
 use Rattle.pl_directives.specs.declared.manner.Manner.{Manner}
 use Rattle.pl_directives.specs.declared.manner.Manner.TheVariants.{Empty, Stays, Splices, Mixed}
+use Rattle.pl_directives.specs.declared.manner.Manner.TheVariants.{Unclosed}
 use Rattle.pl_directives.specs.declared.progress.Chain.TheVariants.{Closed}
 use Rattle.pl_directives.specs.declared.progress.Progress.{Progress}
 use Rattle.pl_directives.specs.declared.region.Region.{Region}
@@ -34,14 +35,15 @@ use Rattle.pl_directives.specs.Contents.{finished, absorbed}
 use Rattle.pl_directives.specs.Counting.{entered}
 use Rattle.pl_directives.specs.Manners.{manner_of}
 use Rattle.pl_directives.specs.Regions.{under, inside, of_item, is_path}
-use Rattle.pl_directives.specs.Scalars.{counted_value_at, plain_scalar, joined_scalar}
+use Rattle.pl_directives.specs.Scalars.{scalar_value}
+use Rattle.pl_directives.specs.Strays.{told, key_stray, unless_stray, given_value}
 use Rattle.pl_expanding.specs.Expanding.{Filling, Shape, Part, Entry, scalar, sequence, mapping}
 use Rattle.pl_expanding.specs.Expanding.{collected, value_by, body_by, body, turns, path_by, done}
 use Rattle.pl_expanding.specs.Expanding.{value_under, pair_behind, pairs_behind, mapping_behind}
 use Rattle.pl_expanding.specs.Expanding.{item_by, item_behind, items_behind}
 use Rattle.pl_expanding.specs.Expanding.{facet_of, part_of, shape_of, entry_of, expanded}
 use Rattle.pl_expanding.specs.Following.{Follow, scope_of}
-use Rattle.pl_expanding.specs.Scalars.{scalar_by, scalar_at, path_at}
+use Rattle.pl_expanding.specs.Scalars.{scalar_at, path_at}
 use Rattle.pl_expanding.specs.Scalars.{path_by as path_text_by}
 use Rattle.pl_expanding.specs.Settling.{node_settling}
 use Rattle.pl_directives.specs.declared.progress.Counted.{Counted}
@@ -55,8 +57,9 @@ use Rattle.pl_origins.proofs.Following.{KeptFrom, settling_gives}
 use Rattle.pl_origins.proofs.Frames.{Seen, SeenFrom, FrameFrom, turn_from, literal_seen}
 use Rattle.pl_origins.proofs.Induction.{BodyParts, written_induction}
 use Rattle.pl_origins.proofs.Nodes.{NodeIn, PairIn, BodyIn, node_in, pair_in}
-use Rattle.pl_origins.proofs.Scalars.{OneFrom, KeyFrom, ActionFrom, counted_value_from, plain_from}
-use Rattle.pl_origins.proofs.Scalars.{joined_from, key_by_from, key_asks_from, SeenOne, seen_tree}
+use Rattle.pl_origins.proofs.Scalars.{OneFrom, KeyFrom, ActionFrom, scalar_value_from}
+use Rattle.pl_origins.proofs.Scalars.{given_value_from, key_by_from, key_asks_from, SeenOne}
+use Rattle.pl_origins.proofs.Scalars.{seen_tree}
 use Rattle.pl_origins.proofs.Scalars.{seen_held, text_held}
 use Rattle.pl_origins.proofs.Steps.{Gives, ok_then, any_then, given, implied, done_gives}
 use Rattle.pl_origins.proofs.Steps.{alone_gives}
@@ -136,26 +139,17 @@ module _ (P : Origin → Type 0) (R : Place → Type 0) (U : List FileKey → Ty
 
     -- ---- scalars
 
-    scalar_by_gives :
-        (form : ScalarForm) (text : List ℕ) (H : Type 0) (frame : Frame) (region : Region)
-        (place : Place) (count : ℕ) (used : List FileKey) → R place → (H → FrameFrom P R frame) →
-        Gives U H used (scalar_by form text (scope_of follow frame region) place count used)
+    pub settled_gives :
+        (one : Counted) (H : Type 0) (frame : Frame) (region : Region) (used : List FileKey) →
+        (H → SeenOne P R one) →
+        Gives U H used (node_settling one.node (scope_of follow frame region) one.count used)
         (OneFrom P R)
-    scalar_by_gives Plain text H frame region place count used stands from =
-        done_gives U (OneFrom P R) H used (plain_scalar text frame place count)
-        (λ h. plain_from P R frame (from h) place stands text count)
-    scalar_by_gives (Whole inside) text H frame region place count used stands from =
-        first_then U (SeenOne P R) (OneFrom P R) H used (counted_value_at frame place inside count)
-        _ (λ h. counted_value_from P R frame (from h) place stands inside count)
-        (λ one. implied U (KeptFrom P one.node) (OneFrom P R) (H × SeenOne P R one) used
+    settled_gives one H frame region used seen =
+        implied U (KeptFrom P one.node) (OneFrom P R) H used
         (node_settling one.node (scope_of follow frame region) one.count used)
-        (λ after h kept. kept_held P R one.node after h.1 kept)
-        (settling_gives P U (H × SeenOne P R one) one.node follow frame region one.count used
-        follows (λ h. seen_tree P R one.node h.1)))
-    scalar_by_gives (Joined pieces) text H frame region place count used stands from =
-        alone_gives U (OneFrom P R) H used (joined_scalar pieces frame place count)
-        (λ h. joined_from P R frame (from h) place stands pieces count)
-    scalar_by_gives Unclosed text H frame region place count used stands from = tt
+        (λ after h kept. kept_held P R one.node after (seen h) kept)
+        (settling_gives P U H one.node follow frame region one.count used follows
+        (λ h. seen_tree P R one.node (seen h)))
 
     scalar_gives :
         (text : List ℕ) (H : Type 0) (frame : Frame) (region : Region) (place : Place) (count : ℕ)
@@ -163,8 +157,9 @@ module _ (P : Origin → Type 0) (R : Place → Type 0) (U : List FileKey → Ty
         Gives U H used (scalar_at text (scope_of follow frame region) place count used)
         (OneFrom P R)
     scalar_gives text H frame region place count used stands from =
-        plain_then U (OneFrom P R) H used (entered place count) _
-        (λ count. scalar_by_gives (form_of text) text H frame region place count used stands from)
+        first_then U (SeenOne P R) (OneFrom P R) H used (scalar_value text frame place count) _
+        (λ h. scalar_value_from P R frame (from h) place stands text count)
+        (λ one. settled_gives one (H × SeenOne P R one) frame region used (λ h. h.1))
 
     -- ---- a node as a value
 
@@ -206,13 +201,17 @@ module _ (P : Origin → Type 0) (R : Place → Type 0) (U : List FileKey → Ty
         Gives U H used (body_by shape place problem (scope_of follow frame region) progress used)
         (ProgressFrom P R)
     body_by_gives (scalar text) fills H place problem frame region progress used stands from all =
-        used_then U (OneFrom P R) (ProgressFrom P R) H used
-        (scalar_at text (scope_of follow frame region) place progress.count used) _
-        (scalar_gives text H frame region place progress.count used stands from)
-        (λ one later. alone_gives U (ProgressFrom P R) (H × OneFrom P R one) later
-        (absorbed one.node problem place (with_count one.count progress))
+        first_then U (SeenOne P R) (ProgressFrom P R) H used
+        (given_value text frame place progress.count region (told progress.content)) _
+        (λ h. given_value_from P R frame (from h) place stands text progress.count region
+        (told progress.content))
+        (λ given. used_then U (OneFrom P R) (ProgressFrom P R) (H × SeenOne P R given) used
+        (node_settling given.node (scope_of follow frame region) given.count used) _
+        (settled_gives given (H × SeenOne P R given) frame region used (λ h. h.1))
+        (λ one later. alone_gives U (ProgressFrom P R) ((H × SeenOne P R given) × OneFrom P R one)
+        later (absorbed one.node problem place (with_count one.count progress))
         (λ h. absorbed_from P R one.node problem place (with_count one.count progress) h.1
-        (all h.0)))
+        (all h.0.0))))
     body_by_gives (sequence fill) fills H place problem frame region progress used stands from
         all =
         plain_then U (ProgressFrom P R) H used (entered place progress.count) _
@@ -277,14 +276,16 @@ module _ (P : Origin → Type 0) (R : Place → Type 0) (U : List FileKey → Ty
     value_under_gives false key part fills H frame region count used from =
         value_gives part.shape fills.1 H part.place frame (under key region) count used fills.0 from
 
-    done_gives_all :
+    pub done_gives_all :
         (asked : Action) (part : Part) → PartFrom part → (H : Type 0) (frame : Frame)
         (region : Region) (progress : Progress) (used : List FileKey) →
         (H → ActionFrom P R asked) → (H → FrameFrom P R frame) → (H → ProgressFrom P R progress) →
         Gives U H used (done asked part (scope_of follow frame region) progress used)
         (ProgressFrom P R)
     done_gives_all (action.Put key origin) part fills H frame region progress used own from all =
-        used_then U (OneFrom P R) (ProgressFrom P R) H used
+        plain_then U (ProgressFrom P R) H used
+        (unless_stray (key_stray region progress.content key origin.source)) _
+        (λ none. used_then U (OneFrom P R) (ProgressFrom P R) H used
         (value_under (is_path region progress.content key) key part (scope_of follow frame region)
         progress.count used) _
         (value_under_gives (is_path region progress.content key) key part fills H frame region
@@ -292,7 +293,7 @@ module _ (P : Origin → Type 0) (R : Place → Type 0) (U : List FileKey → Ty
         (λ one later. alone_gives U (ProgressFrom P R) (H × OneFrom P R one) later _
         (λ h. put_pair_from P R (record { key = key; key_origin = origin; item = one.node })
         one.count progress (pair_from P P key origin one.node (own h.0).0 h.1.0) h.1.1.0
-        (all h.0)))
+        (all h.0))))
     done_gives_all (action.Run chain) part fills H frame region progress used own from all =
         used_then U (ProgressFrom P R) (ProgressFrom P R) H used
         (body part WrongKind (scope_of follow frame region) progress used) _
@@ -382,6 +383,8 @@ module _ (P : Origin → Type 0) (R : Place → Type 0) (U : List FileKey → Ty
         (λ h. literal_seen P R frame (from h.0) place stands) (λ h. h.1) (λ h. all h.0))
     mapping_gives (Mixed other) fill fills H place frame region count progress used stands from
         all = tt
+    mapping_gives (Unclosed key) fill fills H place frame region count progress used stands from
+        all = tt
 
     item_by_gives :
         (shape : Shape) → ShapeFrom shape → (H : Type 0) (place : Place) (frame : Frame)
@@ -390,11 +393,17 @@ module _ (P : Origin → Type 0) (R : Place → Type 0) (U : List FileKey → Ty
         Gives U H used (item_by shape place (scope_of follow frame region) progress used)
         (ProgressFrom P R)
     item_by_gives (scalar text) fills H place frame region progress used stands from all =
-        used_then U (OneFrom P R) (ProgressFrom P R) H used
-        (scalar_at text (scope_of follow frame region) place progress.count used) _
-        (scalar_gives text H frame region place progress.count used stands from)
-        (λ one later. spread_gives P R U follow follows frame region (H × OneFrom P R one) one.node
-        (with_chain Closed (with_count one.count progress)) later (λ h. h.1.0) (λ h. all h.0))
+        first_then U (SeenOne P R) (ProgressFrom P R) H used
+        (given_value text frame place progress.count (of_item region) None) _
+        (λ h. given_value_from P R frame (from h) place stands text progress.count
+        (of_item region) None)
+        (λ given. used_then U (OneFrom P R) (ProgressFrom P R) (H × SeenOne P R given) used
+        (node_settling given.node (scope_of follow frame region) given.count used) _
+        (settled_gives given (H × SeenOne P R given) frame region used (λ h. h.1))
+        (λ one later. spread_gives P R U follow follows frame region
+        ((H × SeenOne P R given) × OneFrom P R one) one.node
+        (with_chain Closed (with_count one.count progress)) later (λ h. h.1.0)
+        (λ h. all h.0.0)))
     item_by_gives (sequence fill) fills H place frame region progress used stands from all =
         used_then U (OneFrom P R) (ProgressFrom P R) H used
         (collected kind.Items fill place (scope_of follow frame (inside region)) progress.count

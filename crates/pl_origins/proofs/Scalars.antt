@@ -1,5 +1,5 @@
 -- Scalars, keys and what keys ask for, in a frame.
-use Rattle.std.proofs.Common.{ℕ, Bool, true, false, List, []}
+use Rattle.std.proofs.Common.{ℕ, Bool, true, false, Option, List, []}
 use Rattle.std.specs.Prelude.{IfOk}
 use Rattle.std.specs.List.{AllByRecursion as Each}
 use Rattle.pl_base.specs.declared.origin.Origin.{Origin}
@@ -13,11 +13,11 @@ use Rattle.pl_frame.specs.declared.frame.Frame.{Frame}
 use Rattle.pl_frame.specs.Names.{pair_object}
 use Rattle.pl_frame.specs.Origins.{literal_at, made_at}
 use Rattle.pl_frame.specs.Trees.{nodes_in}
+use Rattle.pl_template.specs.Forms.{form_of}
 use Rattle.pl_template.specs.declared.forms.ScalarForm.{ScalarForm}
 use Rattle.pl_template.specs.declared.forms.ScalarForm.TheVariants.{Plain, Whole, Joined, Unclosed}
 use Rattle.pl_template.specs.declared.forms.KeyForm.{KeyForm}
 use Rattle.pl_template.specs.declared.forms.KeyForm.TheVariants as form
-use Rattle.pl_template.specs.declared.forms.Piece.{Piece}
 use Rattle.pl_template.specs.Keys.{key_form_of}
 use Rattle.pl_directives.specs.declared.action.Action.{Action}
 use Rattle.pl_directives.specs.declared.action.Action.TheVariants as action
@@ -25,12 +25,14 @@ use Rattle.pl_directives.specs.declared.keys.MadeKey.{MadeKey}
 use Rattle.pl_directives.specs.declared.progress.Chain.{Chain}
 use Rattle.pl_directives.specs.declared.progress.Chain.TheVariants.{Closed, Waiting, Taken}
 use Rattle.pl_directives.specs.declared.progress.Counted.{Counted}
+use Rattle.pl_directives.specs.declared.region.Region.{Region}
 use Rattle.pl_directives.specs.Actions.{branch, if_asks, elseif_asks, else_asks, items_for}
 use Rattle.pl_directives.specs.Actions.{each_asks, computed_asks, asks, key_asks}
-use Rattle.pl_directives.specs.Counting.{counted}
+use Rattle.pl_directives.specs.Counting.{counted, entered}
 use Rattle.pl_directives.specs.Keys.{key_from, key_pieces_behind, key_by}
 use Rattle.pl_directives.specs.Scalars.{value_at, truth_at, one_more, counted_value_at}
-use Rattle.pl_directives.specs.Scalars.{pieces_behind, plain_scalar, joined_scalar}
+use Rattle.pl_directives.specs.Scalars.{pieces_behind, scalar_by, scalar_value}
+use Rattle.pl_directives.specs.Strays.{given_stray, unless_stray, given_value}
 use Rattle.pl_eval_laws.proofs.Leads.{Opened, head_of}
 use Rattle.pl_eval_laws.proofs.Lists.{Has, each_map}
 use Rattle.pl_eval_laws.proofs.Trees.{NodeFrom, PairFrom, OpenedFrom, pair_from, text_node}
@@ -39,8 +41,8 @@ use Rattle.pl_origins.proofs.Frames.{Seen, SeenFrom, FrameFrom, literal_seen, ma
 use Rattle.pl_origins.proofs.Frames.{made_object, value_from}
 use Rattle.pl_origins.proofs.Steps.{ok_then, any_then}
 
--- What stands in a frame's place: calls that it holds gave what isn't seen in the frame, but its own
--- origin is, and the one of its first value.
+-- What stands in a frame's place: calls that it holds gave what isn't seen in the frame, but its
+-- own origin is, and the one of its first value.
 abbrev pub HeldFrom : (Origin → Type 0) → (Place → Type 0) → MarkedNode → Type 0
 HeldFrom P R node =
     NodeFrom P P node × (Seen P R node.origin × Has (Seen P R) (head_of node.value))
@@ -90,17 +92,32 @@ module _ (P : Origin → Type 0) (R : Place → Type 0) (frame : Frame) (from : 
       (value_from P R frame from place stands text)
       (λ node all. any_then (SeenOne P R) (counted place (nodes_in node) count) _ (λ count. all))
 
-  pub plain_from : (text : List ℕ) (count : ℕ) → OneFrom P R (plain_scalar text frame place count)
-  plain_from text count =
-      text_held P R (literal_at frame place) text (literal_seen P R frame from place stands)
-
-  pub joined_from :
-      (pieces : List Piece) (count : ℕ) →
-      IfOk (joined_scalar pieces frame place count) (OneFrom P R)
-  joined_from pieces count =
-      any_then (OneFrom P R) (pieces_behind frame place pieces (record { text = []; count = count }))
-      _ (λ joined. text_held P R (made_at frame place) joined.text
+  scalar_from :
+      (form : ScalarForm) (text : List ℕ) (count : ℕ) →
+      IfOk (scalar_by form text frame place count) (SeenOne P R)
+  scalar_from Plain text count =
+      text_seen P R (literal_at frame place) text (literal_seen P R frame from place stands)
+  scalar_from (Whole inside) text count = counted_value_from inside count
+  scalar_from (Joined pieces) text count =
+      any_then (SeenOne P R)
+      (pieces_behind frame place pieces (record { text = []; count = count }))
+      _ (λ joined. text_seen P R (made_at frame place) joined.text
       (made_seen P R frame from place stands))
+  scalar_from Unclosed text count = tt
+
+  pub scalar_value_from :
+      (text : List ℕ) (count : ℕ) → IfOk (scalar_value text frame place count) (SeenOne P R)
+  scalar_value_from text count =
+      any_then (SeenOne P R) (entered place count) _ (scalar_from (form_of text) text)
+
+  pub given_value_from :
+      (text : List ℕ) (count : ℕ) (region : Region) (called : Option Bool) →
+      IfOk (given_value text frame place count region called) (SeenOne P R)
+  given_value_from text count region called =
+      ok_then (SeenOne P R) (SeenOne P R) (scalar_value text frame place count) _
+      (scalar_value_from text count)
+      (λ one seen. any_then (SeenOne P R)
+      (unless_stray (given_stray region called (out-Value one.node.value))) _ (λ none. seen))
 
   -- ---- keys
 
@@ -162,7 +179,8 @@ module _ (P : Origin → Type 0) (R : Place → Type 0) (frame : Frame) (from : 
       IfOk (items_for opened frame place name count) (ActionFrom P R)
   items_from (layer.Array items) name count all = all
   items_from (layer.Object pairs) name count all =
-      each_map (PairFrom (Seen P R) P) (SeenFrom P R) (pair_object frame place) turn_of_pair pairs all
+      each_map (PairFrom (Seen P R) P) (SeenFrom P R) (pair_object frame place) turn_of_pair pairs
+      all
   items_from layer.Null name count all = tt
   items_from (layer.Bool truth) name count all = tt
   items_from (layer.Number number) name count all = tt

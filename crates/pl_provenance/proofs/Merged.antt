@@ -1,7 +1,7 @@
 -- All pairs of the tree of a root file and of the template that it extends.
-use Rattle.std.proofs.Common.{ℕ, Bool, true, false, cond, Option, Some, None}
+use Rattle.std.proofs.Common.{Bool, true, false, cond, Option, Some, None}
 use Rattle.std.proofs.Common.{List, [], ◌∷◌}
-use Rattle.std.specs.Prelude.{IfOk, filter, find, codes}
+use Rattle.std.specs.Prelude.{IfOk, filter, codes}
 use Rattle.std.specs.List.{AllByRecursion as Each, filter_map}
 use Rattle.pl_base.specs.declared.origin.Origin.{Origin}
 use Rattle.pl_base.specs.declared.place.Place.{Place}
@@ -15,7 +15,7 @@ use Rattle.pl_directives.specs.declared.progress.Content.{Content}
 use Rattle.pl_directives.specs.declared.progress.Content.TheVariants.{Unknown, Items, Pairs}
 use Rattle.pl_calls.specs.Judging.{unless_at}
 use Rattle.pl_eval_laws.proofs.Leads.{Opened, head_in}
-use Rattle.pl_eval_laws.proofs.Lists.{Has, has_map, each_append, each_filter_map, each_found}
+use Rattle.pl_eval_laws.proofs.Lists.{Has, each_append, each_filter_map}
 use Rattle.pl_eval_laws.proofs.Lists.{each_implies}
 use Rattle.pl_eval_laws.proofs.Trees.{NodeFrom, PairFrom, OpenedFrom, Any, pair_from, array_node}
 use Rattle.pl_eval_laws.proofs.Trees.{object_node, node_parts, pair_parts, value_parts, led_from}
@@ -29,6 +29,7 @@ use Rattle.pl_expand.specs.Extending.{joined_variables, both_variables, with_ite
 use Rattle.pl_expand.specs.Extending.{root_side, template_side, form_place, joined_pairs}
 use Rattle.pl_expand.specs.Extending.{shared_variables, merged}
 use Rattle.pl_expand.specs.Tree.{stands, object_pairs, root_object}
+use Rattle.pl_provenance.proofs.Extended.{under_from}
 
 module _ (P : Origin → Type 0) where
   each_kept :
@@ -77,13 +78,6 @@ module _ (P : Origin → Type 0) where
       (in_from second from_second) (λ more also. each_append (NodeFrom P P) items more are also)))
       (λ items are. are)
 
-  under_from : (key : List ℕ) (pairs : List MarkedPair) → Each (PairFrom P P) pairs →
-      Has (NodeFrom P P) (item_under key pairs)
-  under_from key pairs all =
-      has_map (PairFrom P P) (NodeFrom P P) (λ pair. pair.item)
-      (λ pair own. (pair_parts P P pair own).1) (find (λ pair. is pair.key key) pairs)
-      (each_found (PairFrom P P) (λ pair. is pair.key key) pairs all)
-
   -- ---- the pairs
 
   items_from : (joined : Option (List MarkedNode)) (pair : MarkedPair) → SharedFrom joined →
@@ -130,8 +124,8 @@ module _ (P : Origin → Type 0) where
       (λ none. ok_then SharedFrom (Each (PairFrom P P)) (shared_variables pairs extension.pairs) _
       (both_from (item_under (codes "variables") pairs)
       (item_under (codes "variables") extension.pairs)
-      (under_from (codes "variables") pairs all)
-      (under_from (codes "variables") extension.pairs more))
+      (under_from P (codes "variables") pairs all)
+      (under_from P (codes "variables") extension.pairs more))
       (λ joined shared. joined_from pairs extension.pairs joined shared all more))
 
   -- of the calls that mappings of the tree would be nothing is asked any more

@@ -1,6 +1,6 @@
 -- The pairs of a root file, and the tree of the whole.
 use Rattle.std.proofs.Common.{◌≡◌, ℕ, Bool, true, false, cond, Option, Some, None, Result, Ok, Err}
-use Rattle.std.proofs.Common.{List, [], ◌∷◌, ◌++◌, refl, sym, subst}
+use Rattle.std.proofs.Common.{List, [], ◌∷◌, ◌++◌, map, refl, sym, subst, rules}
 use Rattle.std.specs.Prelude.{IfOk, codes}
 use Rattle.std.specs.List.{AllByRecursion as Each}
 use Rattle.pl_base.specs.Places.{place_at}
@@ -11,51 +11,78 @@ use Rattle.pl_base.specs.declared.origin.Origin.{Origin}
 use Rattle.pl_base.specs.declared.place.FileKey.{FileKey}
 use Rattle.pl_base.specs.declared.place.Place.{Place}
 use Rattle.pl_base.specs.declared.node.Node.{Node}
+use Rattle.pl_base.specs.declared.node.NodeBody.{NodeBody, out-NodeBody, roll-NodeBody, the_lemmas}
+use Rattle.pl_base.specs.declared.node.NodeBody.TheOpen.{Scalar, Seq, Map}
 use Rattle.pl_base.specs.declared.node.NodePair.{NodePair}
+use Rattle.pl_base.specs.declared.value.Value.{out-Value}
+use Rattle.pl_base.specs.declared.value.Value.TheOpen as layer
 use Rattle.pl_base.specs.declared.value.MarkedNode.{MarkedNode}
+use Rattle.pl_base.specs.declared.value.MarkedPair.{MarkedPair}
 use Rattle.pl_frame.specs.declared.frame.Frame.{Frame}
 use Rattle.pl_frame.specs.declared.frame.Parameter.{Parameter}
 use Rattle.pl_frame.specs.declared.frame.Variable.{Variable}
+use Rattle.pl_frame.specs.Names.{within as turn_frame}
 use Rattle.pl_frame.specs.Origins.{literal_at}
 use Rattle.pl_line.specs.declared.code.YamlCode.{YamlCode}
+use Rattle.pl_literal.specs.Items.{is}
 use Rattle.pl_literal.specs.Literal.{literal, origin_at}
 use Rattle.pl_params.specs.declared.given.Given.{Given}
 use Rattle.pl_params.specs.declared.kind.ParamKind.{ParamKind}
 use Rattle.pl_params.specs.declared.param.Param.{Param}
 use Rattle.pl_yaml.specs.Spells as yaml
+use Rattle.pl_directives.specs.declared.action.Action.{Action}
+use Rattle.pl_directives.specs.declared.action.Action.TheVariants.{Put, Run, Pass, Repeat, Insert}
+use Rattle.pl_directives.specs.declared.fault.ExpandProblem.{ExpandProblem}
+use Rattle.pl_directives.specs.declared.fault.ExpandProblem.TheVariants.{WrongKind, InsertNoMapping}
 use Rattle.pl_directives.specs.declared.manner.Kind.TheVariants as content
 use Rattle.pl_directives.specs.declared.progress.Chain.TheVariants.{Closed}
+use Rattle.pl_directives.specs.declared.progress.Counted.{Counted}
 use Rattle.pl_directives.specs.declared.progress.Progress.{Progress}
 use Rattle.pl_directives.specs.declared.region.Form.TheVariants.{Variables as InVariables}
 use Rattle.pl_directives.specs.declared.region.Region.TheVariants.{Free, Calls}
-use Rattle.pl_directives.specs.Contents.{begun, with_chain, with_count}
+use Rattle.pl_directives.specs.Actions.{key_asks}
+use Rattle.pl_directives.specs.Contents.{begun, put_pair}
 use Rattle.pl_directives.specs.Counting.{entered}
+use Rattle.pl_directives.specs.Regions.{under as inside_key}
+use Rattle.pl_directives.specs.Scalars.{scalar_value}
 use Rattle.pl_calls.specs.Parameters.{declared_by}
-use Rattle.pl_calls.specs.Parts.{under}
+use Rattle.pl_calls.specs.Parts.{Body, under}
 use Rattle.pl_calls.specs.Reaching.{Opens}
-use Rattle.pl_expanding.specs.Expanding.{expanded, entry_of, pair_behind}
+use Rattle.pl_expanding.specs.Expanding.{expanded, part_of, done}
 use Rattle.pl_expanding.specs.Following.{scope_of}
 use Rattle.pl_expanding.specs.Levels.{followed}
+use Rattle.pl_expanding.specs.Settling.{node_settling}
+use Rattle.pl_eval_laws.proofs.Leads.{Opened}
 use Rattle.pl_eval_laws.proofs.Lists.{Has, each_append}
-use Rattle.pl_eval_laws.proofs.Trees.{NodeFrom, PairFrom, pair_from, text_node, node_implies}
+use Rattle.pl_eval_laws.proofs.Trees.{NodeFrom, PairFrom, OpenedFrom, pair_from, text_node}
+use Rattle.pl_eval_laws.proofs.Trees.{node_implies, node_parts, pair_parts, value_parts}
 use Rattle.pl_origins.proofs.Bound.{ParamIn, BoundFrom, Takeable, declared_in, bound_to_from}
 use Rattle.pl_origins.proofs.Bound.{parameters_from, literal_from, Stands}
 use Rattle.pl_origins.proofs.Called.{Borders, OpensFrom}
 use Rattle.pl_origins.proofs.Contents.{ProgressFrom, put_pair_from}
-use Rattle.pl_origins.proofs.Expanded.{entry_from, expanded_gives, pair_gives}
+use Rattle.pl_origins.proofs.Expanded.{part_from, expanded_gives, done_gives_all, settled_gives}
 use Rattle.pl_origins.proofs.Following.{FollowFrom}
-use Rattle.pl_origins.proofs.Frames.{Seen, FrameFrom, ParameterFrom}
-use Rattle.pl_origins.proofs.Nodes.{NodeIn, PairIn, pair_in, under_in}
-use Rattle.pl_origins.proofs.Scalars.{HeldFrom, OneFrom}
-use Rattle.pl_origins.proofs.Steps.{Gives, ok_then, any_then, plain_then}
-use Rattle.pl_origins.proofs.Steps.{used_then, alone_gives, done_gives}
+use Rattle.pl_origins.proofs.Frames.{Seen, SeenFrom, FrameFrom, ParameterFrom, turn_from}
+use Rattle.pl_origins.proofs.Induction.{BodyParts, written_induction}
+use Rattle.pl_origins.proofs.Nodes.{NodeIn, PairIn, BodyIn, node_in, pair_in, under_in}
+use Rattle.pl_origins.proofs.Scalars.{HeldFrom, OneFrom, SeenOne, ActionFrom, key_asks_from}
+use Rattle.pl_origins.proofs.Scalars.{scalar_value_from, seen_tree}
+use Rattle.pl_origins.proofs.Steps.{Gives, ok_then, any_then, plain_then, first_then}
+use Rattle.pl_origins.proofs.Steps.{used_then, alone_gives, done_gives, given}
 use Rattle.pl_expand.specs.declared.extending.Extension.{Extension}
 use Rattle.pl_expand.specs.declared.filling.Early.{Early}
-use Rattle.pl_expand.specs.declared.filling.RootFilling.{RootFilling}
+use Rattle.pl_expand.specs.declared.rooting.RootFilling.{RootFilling}
 use Rattle.pl_expand.specs.declared.root.RootNode.{RootNode}
 use Rattle.pl_root.specs.declared.root_key.RootKey.{RootKey}
 use Rattle.pl_root.specs.declared.root_key.RootKey.TheVariants as key
-use Rattle.pl_expand.specs.Extending.{extended}
+use Rattle.pl_expand.specs.Extending.{extended, value_extended}
+use Rattle.pl_expand.specs.Rooting.{Rooting, filled_with, chained, counting, misplaced}
+use Rattle.pl_expand.specs.Rooting.{unless_misplaced, extended_behind, key_put, named_put}
+use Rattle.pl_expand.specs.Rooting.{with_item, item_put, given_by, given_put, all_given_put}
+use Rattle.pl_expand.specs.Rooting.{value_put, text_put, list_put, pairs_put, mapping_put}
+use Rattle.pl_expand.specs.Rooting.{node_put, turns_put, asked_put, pair_put, node_seen}
+use Rattle.pl_expand.specs.Rooting.{body_seen, pair_seen}
+use Rattle.pl_expand.proofs.Itself.{node_itself}
 use Rattle.pl_root.specs.Arguments.{argument_file, whole_text, read_told, is_text}
 use Rattle.pl_root.specs.Arguments.{argument_value, kind_for, argument_given, arguments_given}
 use Rattle.pl_root.specs.Arguments.{bound_by}
@@ -63,14 +90,14 @@ use Rattle.pl_root.specs.Arguments.{parameters_by}
 use Rattle.pl_root.specs.Frames.{root_frame, first_frame}
 use Rattle.pl_expand.specs.Tree.{early_by}
 use Rattle.pl_root.specs.Keys.{root_key}
-use Rattle.pl_expand.specs.Tree.{put_variables, filled_with, ordinary_pair, extends_pair}
+use Rattle.pl_expand.specs.Tree.{put_variables}
 use Rattle.pl_expand.specs.Tree.{passed_over, variables_pair, root_pair, given_to, early_behind}
 use Rattle.pl_expand.specs.Tree.{root_pairs, root_object, root_from}
 use Rattle.pl_root.specs.Frames.{second_frame}
 use Rattle.pl_expand.specs.Tree.{root_mapping, filled_root, pairs_expanded}
 use Rattle.pl_provenance.specs.Roots.{jobs_of}
 use Rattle.pl_provenance.proofs.Extended.{ExtendsBorder, ExtensionFrom, extended_gives}
-use Rattle.pl_provenance.proofs.Extended.{levels_follow}
+use Rattle.pl_provenance.proofs.Extended.{levels_follow, value_extends}
 use Rattle.pl_provenance.proofs.Joined.{tree_from}
 
 -- What must be so in the root's own frame. A holds of the places of a run argument.
@@ -192,7 +219,7 @@ module _ (P : Origin → Type 0) (R : Place → Type 0) (A : RunArgument → Pla
 -- ---- the root's pairs
 
 module _ (P : Origin → Type 0) (T : FileKey → Origin → Type 0) (R : FileKey → Place → Type 0)
-    (K : FileKey → Type 0) (U : List FileKey → Type 0) (border : ExtendsBorder P T R K)
+    (K : Place → FileKey → Type 0) (U : List FileKey → Type 0) (border : ExtendsBorder P T R K)
     (inside : (file : FileKey) → Borders (T file) R K) (outside : Borders P R K) (opens : Opens)
     (opening : OpensFrom R K U opens) (root : FileKey) where
   abbrev pub FillingFrom : RootFilling → Type 0
@@ -202,34 +229,299 @@ module _ (P : Origin → Type 0) (T : FileKey → Origin → Type 0) (R : FileKe
   follows : (levels : ℕ) → FollowFrom P U (followed levels opens)
   follows levels = levels_follow P T R K U border inside outside opens opening levels
 
-  ordinary_gives :
-      (pair : NodePair) (H : Type 0) (frame : Frame) (filling : RootFilling)
-      (used : List FileKey) → PairIn (R root) pair → (H → FrameFrom P (R root) frame) →
+  -- ---- a pair whose key is known
+
+  key_gives :
+      (extends : Bool) (key : List ℕ) (origin : Origin) (node : Node) (H : Type 0) (frame : Frame)
+      (filling : RootFilling) (used : List FileKey) → NodeIn (R root) node →
+      (H → Seen P (R root) origin) → (H → FrameFrom P (R root) frame) →
       (H → FillingFrom filling) →
-      Gives U H used (ordinary_pair pair opens frame filling used) FillingFrom
-  ordinary_gives pair H frame filling used within from all =
+      Gives U H used (key_put extends key origin node opens frame filling used) FillingFrom
+  key_gives true key origin node H frame filling used within own from all =
+      used_then U (ExtensionFrom T) FillingFrom H used
+      (extended opens origin node frame filling.progress.count used) _
+      (extended_gives P T R K U border inside outside opens opening root origin H frame from
+      (λ h. (own h).0) node filling.progress.count used within)
+      (λ extension later. done_gives U FillingFrom (H × ExtensionFrom T extension) later
+      (extended_behind filling extension) (λ h. ((all h.0).0, h.1)))
+  key_gives false key origin node H frame filling used within own from all =
       used_then U (ProgressFrom P (R root)) FillingFrom H used
-      (pair_behind (entry_of pair) (scope_of (followed 100 opens) frame Free) filling.progress used)
-      _ (pair_gives P (R root) U (followed 100 opens) (follows 100) (entry_of pair)
-      (entry_from P (R root) U pair within) H frame Free filling.progress used from
-      (λ h. (all h).0))
+      (done (Put key origin) (part_of node) (scope_of (followed 100 opens) frame Free)
+      filling.progress used)
+      _ (done_gives_all P (R root) U (followed 100 opens) (follows 100) (Put key origin)
+      (part_of node) (part_from P (R root) U node within) H frame Free filling.progress used own
+      from (λ h. (all h).0))
       (λ after later. done_gives U FillingFrom (H × ProgressFrom P (R root) after) later
       (filled_with filling.extension after) (λ h. (h.1, (all h.0).1)))
 
-  extends_gives :
-      (pair : NodePair) (H : Type 0) (frame : Frame) (filling : RootFilling)
-      (used : List FileKey) → PairIn (R root) pair → (H → FrameFrom P (R root) frame) →
+  named_gives :
+      (key : List ℕ) (origin : Origin) (node : Node) (H : Type 0) (frame : Frame)
+      (filling : RootFilling) (used : List FileKey) → NodeIn (R root) node →
+      (H → Seen P (R root) origin) → (H → FrameFrom P (R root) frame) →
       (H → FillingFrom filling) →
-      Gives U H used (extends_pair pair opens frame filling used) FillingFrom
-  extends_gives pair H frame filling used within from all =
+      Gives U H used (named_put key origin node opens frame filling used) FillingFrom
+  named_gives key origin node H frame filling used within own from all =
+      plain_then U FillingFrom H used
+      (unless_misplaced (misplaced filling key) origin.source) _
+      (λ none. key_gives (is key (codes "extends")) key origin node H frame filling used within
+      own from all)
+
+  -- ---- pairs that an expression gave
+
+  abbrev GivenSeen : MarkedPair → Type 0
+  GivenSeen pair = Seen P (R root) pair.key_origin × SeenFrom P (R root) pair.item
+
+  given_gives :
+      (extends : Bool) (pair : MarkedPair) (H : Type 0) (frame : Frame) (filling : RootFilling)
+      (used : List FileKey) → (H → GivenSeen pair) → (H → FrameFrom P (R root) frame) →
+      (H → FillingFrom filling) →
+      Gives U H used (given_by extends pair opens frame filling used) FillingFrom
+  given_gives true pair H frame filling used seen from all =
       used_then U (ExtensionFrom T) FillingFrom H used
-      (extended opens pair.item frame filling.progress.count used) _
-      (extended_gives P T R K U border inside outside opens opening root pair.item H frame
-      filling.progress.count used (pair_in (R root) pair within).1 from)
+      (value_extended opens pair.key_origin pair.item.origin.source pair.item frame
+      filling.progress.count used) _
+      (value_extends P T R K U border inside outside opens opening pair.key_origin
+      pair.item.origin.source pair.item H frame filling.progress.count used
+      (λ h. (seen h).0.0) (λ h. seen_tree P (R root) pair.item (seen h).1))
       (λ extension later. done_gives U FillingFrom (H × ExtensionFrom T extension) later
-      (filled_with (Some extension)
-      (with_chain Closed (with_count extension.count filling.progress)))
-      (λ h. ((all h.0).0, h.1)))
+      (extended_behind filling extension) (λ h. ((all h.0).0, h.1)))
+  given_gives false pair H frame filling used seen from all =
+      let at = filling.progress.count in
+      let one : Counted = record { node = pair.item; count = at } in
+      used_then U (OneFrom P (R root)) FillingFrom H used
+      (node_settling pair.item (scope_of (followed 100 opens) frame (inside_key pair.key Free)) at
+      used) _
+      (settled_gives P (R root) U (followed 100 opens) (follows 100) one H frame
+      (inside_key pair.key Free) used (λ h. (seen h).1))
+      (λ one later. alone_gives U FillingFrom (H × OneFrom P (R root) one) later
+      (item_put pair filling one)
+      (λ h. ok_then (ProgressFrom P (R root)) FillingFrom
+      (put_pair (with_item pair one.node) one.count filling.progress) _
+      (put_pair_from P (R root) (with_item pair one.node) one.count filling.progress
+      (pair_from P P pair.key pair.key_origin one.node (seen h.0).0.0 h.1.0) h.1.1.0 (all h.0).0)
+      (λ after is_from. (is_from, (all h.0).1))))
+
+  all_given_gives :
+      (pairs : List MarkedPair) (H : Type 0) (frame : Frame) (filling : RootFilling)
+      (used : List FileKey) → (H → Each GivenSeen pairs) → (H → FrameFrom P (R root) frame) →
+      (H → FillingFrom filling) →
+      Gives U H used (all_given_put pairs opens frame filling used) FillingFrom
+  all_given_gives [] H frame filling used seen from all =
+      done_gives U FillingFrom H used filling all
+  all_given_gives (pair ∷ pairs) H frame filling used seen from all =
+      used_then U FillingFrom FillingFrom H used (given_put pair opens frame filling used)
+      (all_given_put pairs opens frame)
+      (plain_then U FillingFrom H used
+      (unless_misplaced (misplaced filling pair.key) pair.key_origin.source) _
+      (λ none. given_gives (is pair.key (codes "extends")) pair H frame filling used
+      (λ h. (seen h).0) from all))
+      (λ after later. all_given_gives pairs (H × FillingFrom after) frame after later
+      (λ h. (seen h.0).1) (λ h. from h.0) (λ h. h.1))
+
+  each_seen :
+      (pairs : List MarkedPair) → Each (PairFrom (Seen P (R root)) P) pairs →
+      Each GivenSeen pairs
+  each_seen [] all = tt
+  each_seen (pair ∷ pairs) all =
+      (pair_parts (Seen P (R root)) P pair all.0, each_seen pairs all.1)
+
+  value_puts :
+      (opened : Opened) (problem : ExpandProblem) (place : Place) (H : Type 0) (frame : Frame)
+      (filling : RootFilling) (used : List FileKey) →
+      (H → OpenedFrom (Seen P (R root)) P opened) → (H → FrameFrom P (R root) frame) →
+      (H → FillingFrom filling) →
+      Gives U H used (value_put opened problem place opens frame filling used) FillingFrom
+  value_puts (layer.Object pairs) problem place H frame filling used seen from all =
+      all_given_gives pairs H frame filling used (λ h. each_seen pairs (seen h)) from all
+  value_puts (layer.Array items) problem place H frame filling used seen from all = tt
+  value_puts layer.Null problem place H frame filling used seen from all = tt
+  value_puts (layer.Bool truth) problem place H frame filling used seen from all = tt
+  value_puts (layer.Number number) problem place H frame filling used seen from all = tt
+  value_puts (layer.Version segments) problem place H frame filling used seen from all = tt
+  value_puts (layer.Str text) problem place H frame filling used seen from all = tt
+
+  text_puts :
+      (text : List ℕ) (problem : ExpandProblem) (place : Place) (H : Type 0) (frame : Frame)
+      (filling : RootFilling) (used : List FileKey) → R root place →
+      (H → FrameFrom P (R root) frame) → (H → FillingFrom filling) →
+      Gives U H used (text_put text problem place opens frame filling used) FillingFrom
+  text_puts text problem place H frame filling used here from all =
+      first_then U (SeenOne P (R root)) FillingFrom H used
+      (scalar_value text frame place filling.progress.count) _
+      (λ h. scalar_value_from P (R root) frame (from h) place here text filling.progress.count)
+      (λ one. value_puts (out-Value one.node.value) problem place
+      (H × SeenOne P (R root) one) frame (counting one.count filling) used
+      (λ h. value_parts (Seen P (R root)) P one.node.value
+      (node_parts (Seen P (R root)) P one.node h.1).1)
+      (λ h. from h.0) (λ h. all h.0))
+
+  -- ---- by induction over the part
+
+  abbrev Held : Frame → RootFilling → Type 0
+  Held frame filling = FrameFrom P (R root) frame × FillingFrom filling
+
+  abbrev RootingFrom : Rooting → Type 0
+  RootingFrom put =
+      (frame : Frame) (filling : RootFilling) (used : List FileKey) →
+      Gives U (Held frame filling) used (put opens frame filling used) FillingFrom
+
+  rooted :
+      (put : Rooting) → RootingFrom put → (H : Type 0) (frame : Frame) (filling : RootFilling)
+      (used : List FileKey) → (H → FrameFrom P (R root) frame) → (H → FillingFrom filling) →
+      Gives U H used (put opens frame filling used) FillingFrom
+  rooted put puts H frame filling used from all =
+      given U FillingFrom (Held frame filling) H used (put opens frame filling used)
+      (λ h. (from h, all h)) (puts frame filling used)
+
+  abbrev BodyClaim : NodeBody → Type 0
+  BodyClaim one =
+      BodyIn (R root) (out-NodeBody one) → (problem : ExpandProblem) (place : Place) →
+      R root place → RootingFrom ((body_seen one).put problem place)
+
+  abbrev NodeClaim : Node → Type 0
+  NodeClaim one =
+      NodeIn (R root) one → (problem : ExpandProblem) → RootingFrom ((node_seen one).put problem)
+
+  abbrev PairClaim : NodePair → Type 0
+  PairClaim one = PairIn (R root) one → RootingFrom (pair_seen one).put
+
+  pairs_puts :
+      (pairs : List NodePair) → Each PairClaim pairs → Each (PairIn (R root)) pairs → (H : Type 0)
+      (frame : Frame) (filling : RootFilling) (used : List FileKey) →
+      (H → FrameFrom P (R root) frame) → (H → FillingFrom filling) →
+      Gives U H used (pairs_put (map pair_seen pairs) opens frame filling used) FillingFrom
+  pairs_puts [] claims within H frame filling used from all =
+      done_gives U FillingFrom H used filling all
+  pairs_puts (pair ∷ pairs) claims within H frame filling used from all =
+      used_then U FillingFrom FillingFrom H used ((pair_seen pair).put opens frame filling used)
+      (pairs_put (map pair_seen pairs) opens frame)
+      (rooted (pair_seen pair).put (claims.0 within.0) H frame filling used from all)
+      (λ after later. pairs_puts pairs claims.1 within.1 (H × FillingFrom after) frame after later
+      (λ h. from h.0) (λ h. h.1))
+
+  opened_body : (layer : Body) → out-NodeBody (roll-NodeBody layer) ≡ layer
+  opened_body layer = search (rules, the_lemmas)
+
+  abbrev PutFrom : (ExpandProblem → Place → Rooting) → Type 0
+  PutFrom put =
+      (problem : ExpandProblem) (place : Place) → R root place → RootingFrom (put problem place)
+
+  layer_claim :
+      (layer : Body) → BodyParts NodeClaim PairClaim layer → BodyIn (R root) layer →
+      PutFrom (body_seen (roll-NodeBody layer)).put
+  layer_claim (Scalar text) claims within =
+      let seen : text_put text ≡ (body_seen (roll-NodeBody (Scalar text))).put =
+      search (rules, the_lemmas) in
+      subst PutFrom seen
+      (λ problem place here frame filling used.
+      text_puts text problem place (Held frame filling) frame filling used here (λ h. h.0)
+      (λ h. h.1))
+  layer_claim (Seq items) claims within =
+      let seen : list_put ≡ (body_seen (roll-NodeBody (Seq items))).put =
+      search (rules, the_lemmas) in
+      subst PutFrom seen
+      (λ problem place here frame filling used.
+      plain_then U FillingFrom (Held frame filling) used (entered place filling.progress.count) _
+      (λ count. tt))
+  layer_claim (Map pairs) claims within =
+      let seen : mapping_put (map pair_seen pairs) ≡ (body_seen (roll-NodeBody (Map pairs))).put =
+      search (rules, the_lemmas) in
+      subst PutFrom seen
+      (λ problem place here frame filling used.
+      plain_then U FillingFrom (Held frame filling) used (entered place filling.progress.count) _
+      (λ count. pairs_puts pairs claims within (Held frame filling) frame (counting count filling)
+      used (λ h. h.0) (λ h. h.1)))
+
+  of_layer :
+      (layer : Body) → BodyParts NodeClaim PairClaim layer → BodyClaim (roll-NodeBody layer)
+  of_layer layer claims within =
+      layer_claim layer claims (subst (BodyIn (R root)) (opened_body layer) within)
+
+  of_node :
+      (place : Place) (one : NodeBody) → BodyClaim one →
+      NodeClaim (record { place = place; body = one })
+  of_node place one claim within problem =
+      let node : Node = record { place = place; body = one } in
+      let seen : node_put place (body_seen one) ≡ (node_seen node).put =
+      search (rules, the_lemmas) in
+      let parts = node_in (R root) node within in
+      subst (λ (put : ExpandProblem → Rooting). RootingFrom (put problem)) seen
+      (λ frame filling used. used_then U FillingFrom FillingFrom (Held frame filling) used
+      ((body_seen one).put problem place opens frame (chained Closed filling) used) _
+      (rooted ((body_seen one).put problem place) (claim parts.1 problem place parts.0)
+      (Held frame filling) frame (chained Closed filling) used (λ h. h.0) (λ h. h.1))
+      (λ after later. done_gives U FillingFrom (Held frame filling × FillingFrom after) later
+      (chained Closed after) (λ h. h.1)))
+
+  module _ (item : Node) (within : NodeIn (R root) item) (claim : NodeClaim item) where
+    turns_puts :
+        (name : List ℕ) (items : List MarkedNode) (H : Type 0) (frame : Frame)
+        (filling : RootFilling) (used : List FileKey) →
+        (H → Each (SeenFrom P (R root)) items) → (H → FrameFrom P (R root) frame) →
+        (H → FillingFrom filling) →
+        Gives U H used (turns_put name (node_seen item) items opens frame filling used)
+        FillingFrom
+    turns_puts name [] H frame filling used each from all =
+        done_gives U FillingFrom H used filling all
+    turns_puts name (one ∷ items) H frame filling used each from all =
+        used_then U FillingFrom FillingFrom H used
+        ((node_seen item).put WrongKind opens (turn_frame frame name one) filling used)
+        (turns_put name (node_seen item) items opens frame)
+        (rooted ((node_seen item).put WrongKind) (claim within WrongKind) H
+        (turn_frame frame name one) filling used
+        (λ h. turn_from P (R root) frame (from h) name one (each h).0) all)
+        (λ after later. turns_puts name items (H × FillingFrom after) frame after later
+        (λ h. (each h.0).1) (λ h. from h.0) (λ h. h.1))
+
+    asked_puts :
+        (asked : Action) (H : Type 0) (frame : Frame) (filling : RootFilling)
+        (used : List FileKey) → (H → ActionFrom P (R root) asked) →
+        (H → FrameFrom P (R root) frame) → (H → FillingFrom filling) →
+        Gives U H used (asked_put asked (node_seen item) opens frame filling used) FillingFrom
+    asked_puts (Put key origin) H frame filling used own from all =
+        subst (λ (node : Node).
+        Gives U H used (named_put key origin node opens frame filling used) FillingFrom)
+        (sym (node_itself item))
+        (named_gives key origin item H frame filling used within own from all)
+    asked_puts (Run chain) H frame filling used own from all =
+        used_then U FillingFrom FillingFrom H used
+        ((node_seen item).put WrongKind opens frame filling used) _
+        (rooted ((node_seen item).put WrongKind) (claim within WrongKind) H frame filling used from
+        all)
+        (λ after later. done_gives U FillingFrom (H × FillingFrom after) later
+        (chained chain after) (λ h. h.1))
+    asked_puts (Pass chain) H frame filling used own from all =
+        done_gives U FillingFrom H used (chained chain filling) all
+    asked_puts (Repeat loop count) H frame filling used own from all =
+        turns_puts loop.name loop.items H frame (chained Closed (counting count filling)) used own
+        from all
+    asked_puts Insert H frame filling used own from all =
+        rooted ((node_seen item).put InsertNoMapping) (claim within InsertNoMapping) H frame filling
+        used from all
+
+  of_pair :
+      (key : List ℕ) (key_place : Place) (item : Node) → NodeClaim item →
+      PairClaim (record { key = key; key_place = key_place; item = item })
+  of_pair key key_place item claim within =
+      let pair : NodePair = record { key = key; key_place = key_place; item = item } in
+      let seen : pair_put key key_place (node_seen item) ≡ (pair_seen pair).put =
+      search (rules, the_lemmas) in
+      let parts = pair_in (R root) pair within in
+      subst RootingFrom seen
+      (λ frame filling used. first_then U (ActionFrom P (R root)) FillingFrom (Held frame filling)
+      used (key_asks key frame key_place filling.progress.chain filling.progress.count) _
+      (λ h. key_asks_from P (R root) frame h.0 key_place parts.0 key filling.progress.chain
+      filling.progress.count)
+      (λ asked. asked_puts item parts.1 claim asked
+      (Held frame filling × ActionFrom P (R root) asked) frame filling used (λ h. h.1)
+      (λ h. h.0.0) (λ h. h.0.1)))
+
+  node_puts : (node : Node) → NodeClaim node
+  node_puts = written_induction BodyClaim NodeClaim PairClaim of_layer of_node of_pair
+
+  pair_puts : (pair : NodePair) → PairClaim pair
+  pair_puts pair within =
+      of_pair pair.key pair.key_place pair.item (node_puts pair.item) within
 
   variables_give :
       (node : MarkedNode) (pair : NodePair) (frame : Frame) (filling : RootFilling) →
@@ -254,14 +546,14 @@ module _ (P : Origin → Type 0) (T : FileKey → Origin → Type 0) (R : FileKe
   pair_gives_root key.Resources early pair H frame filling used within from known all =
       done_gives U FillingFrom H used (passed_over filling) all
   pair_gives_root key.Extends early pair H frame filling used within from known all =
-      extends_gives pair H frame filling used within from all
+      rooted (pair_seen pair).put (pair_puts pair within) H frame filling used from all
   pair_gives_root key.Variables (Some node) pair H frame filling used within from known all =
       alone_gives U FillingFrom H used (variables_pair node pair frame filling)
       (λ h. variables_give node pair frame filling within (from h) (known h) (all h))
   pair_gives_root key.Variables None pair H frame filling used within from known all =
-      ordinary_gives pair H frame filling used within from all
+      rooted (pair_seen pair).put (pair_puts pair within) H frame filling used from all
   pair_gives_root key.Other early pair H frame filling used within from known all =
-      ordinary_gives pair H frame filling used within from all
+      rooted (pair_seen pair).put (pair_puts pair within) H frame filling used from all
 
   to_pair : (of : RootKey) (early : Option MarkedNode) → Has (HeldFrom P (R root)) early →
       Has (HeldFrom P (R root)) (given_to of early)

@@ -29,7 +29,7 @@ use Rattle.pl_origins.proofs.Frames.{ParameterFrom}
 use Rattle.pl_origins.proofs.Kept.{any_ok, NoFiles, plainly}
 use Rattle.pl_origins.proofs.Nodes.{NodeIn, PairIn, BodyIn, node_in, under_in}
 use Rattle.pl_origins.proofs.Steps.{Used, ok_then, any_then}
-use Rattle.pl_expand.specs.declared.filling.RootFilling.{RootFilling}
+use Rattle.pl_expand.specs.declared.rooting.RootFilling.{RootFilling}
 use Rattle.pl_expand.specs.declared.root.RootNode.{RootNode}
 use Rattle.pl_expand.specs.declared.root.RootTree.{RootTree}
 use Rattle.pl_root.specs.Resources.{earliest}
@@ -60,7 +60,7 @@ unless_kept Q None x holds = holds
 unless_kept Q (Some complaint) x holds = tt
 
 module _ (P : Origin → Type 0) (T : FileKey → Origin → Type 0) (R : FileKey → Place → Type 0)
-    (K : FileKey → Type 0) (border : ExtendsBorder P T R K)
+    (K : Place → FileKey → Type 0) (border : ExtendsBorder P T R K)
     (inside : (file : FileKey) → Borders (T file) R K) (outside : Borders P R K) (files : Set)
     (opening : (home : Home) → OpensFrom R K NoFiles (opens_of files home)) (root : FileKey)
     (A : RunArgument → Place → Type 0) (own : RootBorder P (R root) A) where

@@ -15,7 +15,6 @@ use Rattle.pl_frame.specs.declared.frame.Variable.{Variable}
 abbrev pub root_frame : FileKey → List Parameter → List Variable → Frame
 root_frame root parameters variables = record {
   file = root;
-  level = 0;
   parameters = parameters;
   variables = variables;
   loops = [];

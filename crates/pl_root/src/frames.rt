@@ -49,7 +49,6 @@ fn make_contexts(
 fn framed(file: Shared<FileKey>, contexts: Contexts, bare: Bare) -> Frame
     ensures { result ≡ record {
       file = file;
-      level = 0;
       parameters = contexts.parameters;
       variables = contexts.variables;
       loops = bare.loops;
@@ -63,7 +62,6 @@ fn framed(file: Shared<FileKey>, contexts: Contexts, bare: Bare) -> Frame
     let Bare { loops, crossings } = bare;
     Frame {
         file,
-        level: 0,
         parameters,
         variables,
         loops,

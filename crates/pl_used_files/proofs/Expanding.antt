@@ -1,5 +1,5 @@
 -- What a file's node gives in a frame, where calls are followed over two sets of files.
-use Rattle.std.proofs.Common.{◌≡◌, ℕ, Bool, true, false, List, [], ◌∷◌, map, subst, rules}
+use Rattle.std.proofs.Common.{◌≡◌, ℕ, Bool, true, false, None, List, [], ◌∷◌, map, subst, rules}
 use Rattle.std.specs.List.{AllByRecursion as Each}
 use Rattle.pl_base.specs.declared.place.FileKey.{FileKey}
 use Rattle.pl_base.specs.declared.place.Place.{Place}
@@ -11,9 +11,6 @@ use Rattle.pl_base.specs.declared.value.MarkedNode.{MarkedNode}
 use Rattle.pl_frame.specs.declared.frame.Frame.{Frame}
 use Rattle.pl_frame.specs.Names.{within}
 use Rattle.pl_frame.specs.Origins.{literal_at}
-use Rattle.pl_template.specs.Forms.{form_of}
-use Rattle.pl_template.specs.declared.forms.ScalarForm.{ScalarForm}
-use Rattle.pl_template.specs.declared.forms.ScalarForm.TheVariants.{Plain, Whole, Joined, Unclosed}
 use Rattle.pl_directives.specs.declared.action.Action.{Action}
 use Rattle.pl_directives.specs.declared.action.Action.TheVariants as action
 use Rattle.pl_directives.specs.declared.fault.ExpandProblem.{ExpandProblem}
@@ -22,6 +19,7 @@ use Rattle.pl_directives.specs.declared.manner.Kind.{Kind}
 use Rattle.pl_directives.specs.declared.manner.Kind.TheVariants as kind
 use Rattle.pl_directives.specs.declared.manner.Manner.{Manner}
 use Rattle.pl_directives.specs.declared.manner.Manner.TheVariants.{Empty, Stays, Splices, Mixed}
+use Rattle.pl_directives.specs.declared.manner.Manner.TheVariants.{Unclosed}
 use Rattle.pl_directives.specs.declared.progress.Chain.TheVariants.{Closed}
 use Rattle.pl_directives.specs.declared.progress.Progress.{Progress}
 use Rattle.pl_directives.specs.declared.region.Region.{Region}
@@ -31,7 +29,8 @@ use Rattle.pl_directives.specs.Contents.{put_pair, finished, absorbed}
 use Rattle.pl_directives.specs.Counting.{entered}
 use Rattle.pl_directives.specs.Manners.{manner_of}
 use Rattle.pl_directives.specs.Regions.{under, inside, of_item, is_path}
-use Rattle.pl_directives.specs.Scalars.{counted_value_at, plain_scalar, joined_scalar}
+use Rattle.pl_directives.specs.Scalars.{scalar_value}
+use Rattle.pl_directives.specs.Strays.{told, key_stray, unless_stray, given_value}
 use Rattle.pl_calls.specs.Parts.{Body}
 use Rattle.pl_expanding.specs.Expanding.{Filling, Shape, Part, Entry, scalar, sequence, mapping}
 use Rattle.pl_expanding.specs.Expanding.{collected, value_by, body_by, body, turns, path_by}
@@ -39,7 +38,8 @@ use Rattle.pl_expanding.specs.Expanding.{done as done_for, value_under, pair_beh
 use Rattle.pl_expanding.specs.Expanding.{mapping_behind, item_by, item_behind, items_behind}
 use Rattle.pl_expanding.specs.Expanding.{facet_of, part_of, shape_of, entry_of, expanded}
 use Rattle.pl_expanding.specs.Following.{Follow, scope_of}
-use Rattle.pl_expanding.specs.Scalars.{scalar_by, scalar_at}
+use Rattle.pl_expanding.specs.Scalars.{scalar_at}
+use Rattle.pl_expanding.specs.Settling.{node_settling}
 use Rattle.pl_origins.proofs.Induction.{BodyParts, written_induction}
 use Rattle.pl_used_files.proofs.Agreeing.{Agree, done, both_alone, same_then, both_then}
 use Rattle.pl_used_files.proofs.Settling.{FollowAgree, add_item_agree, splice_agree, spread_agree}
@@ -67,28 +67,14 @@ module _ (U : List FileKey → Type 0) where
   module _ (one other : Follow) (follows : FollowAgree U one other) where
     -- ---- scalars
 
-    scalar_by_agree :
-        (form : ScalarForm) (text : List ℕ) (frame : Frame) (region : Region) (place : Place)
-        (count : ℕ) (used : List FileKey) →
-        Agree U used (scalar_by form text (scope_of one frame region) place count used)
-        (scalar_by form text (scope_of other frame region) place count used)
-    scalar_by_agree Plain text frame region place count used =
-        done U used (plain_scalar text frame place count)
-    scalar_by_agree (Whole inside) text frame region place count used =
-        same_then U used (counted_value_at frame place inside count) _ _
-        (λ x. settling_agree U x.node one other frame region x.count used follows)
-    scalar_by_agree (Joined pieces) text frame region place count used =
-        both_alone U used (joined_scalar pieces frame place count)
-    scalar_by_agree Unclosed text frame region place count used = tt
-
     scalar_agree :
         (text : List ℕ) (frame : Frame) (region : Region) (place : Place) (count : ℕ)
         (used : List FileKey) →
         Agree U used (scalar_at text (scope_of one frame region) place count used)
         (scalar_at text (scope_of other frame region) place count used)
     scalar_agree text frame region place count used =
-        same_then U used (entered place count) _ _
-        (λ count. scalar_by_agree (form_of text) text frame region place count used)
+        same_then U used (scalar_value text frame place count) _ _
+        (λ x. settling_agree U x.node one other frame region x.count used follows)
 
     -- ---- a node as a value
 
@@ -124,11 +110,14 @@ module _ (U : List FileKey → Type 0) where
         Agree U used (body_by shape place problem (scope_of one frame region) progress used)
         (body_by shape place problem (scope_of other frame region) progress used)
     body_by_agree (scalar text) fills place problem frame region progress used =
-        both_then U used (scalar_at text (scope_of one frame region) place progress.count used)
-        (scalar_at text (scope_of other frame region) place progress.count used) _ _
-        (scalar_agree text frame region place progress.count used)
+        same_then U used
+        (given_value text frame place progress.count region (told progress.content)) _ _
+        (λ given. both_then U used
+        (node_settling given.node (scope_of one frame region) given.count used)
+        (node_settling given.node (scope_of other frame region) given.count used) _ _
+        (settling_agree U given.node one other frame region given.count used follows)
         (λ x later. both_alone U later
-        (absorbed x.node problem place (with_count x.count progress)))
+        (absorbed x.node problem place (with_count x.count progress))))
     body_by_agree (sequence fill) fills place problem frame region progress used =
         same_then U used (entered place progress.count) _ _
         (λ count. same_then U used (as_items problem place (with_count count progress)) _ _
@@ -181,13 +170,14 @@ module _ (U : List FileKey → Type 0) where
     value_under_agree false key part fills frame region count used =
         value_agree part.shape fills part.place frame (under key region) count used
 
-    done_agree :
+    pub done_agree :
         (asked : Action) (part : Part) → PartAgree part → (frame : Frame) (region : Region)
         (progress : Progress) (used : List FileKey) →
         Agree U used (done_for asked part (scope_of one frame region) progress used)
         (done_for asked part (scope_of other frame region) progress used)
     done_agree (action.Put key origin) part fills frame region progress used =
-        both_then U used
+        same_then U used (unless_stray (key_stray region progress.content key origin.source)) _ _
+        (λ none. both_then U used
         (value_under (is_path region progress.content key) key part (scope_of one frame region)
         progress.count used)
         (value_under (is_path region progress.content key) key part (scope_of other frame region)
@@ -195,7 +185,7 @@ module _ (U : List FileKey → Type 0) where
         (value_under_agree (is_path region progress.content key) key part fills frame region
         progress.count used)
         (λ x later. both_alone U later
-        (put_pair (record { key = key; key_origin = origin; item = x.node }) x.count progress))
+        (put_pair (record { key = key; key_origin = origin; item = x.node }) x.count progress)))
     done_agree (action.Run chain) part fills frame region progress used =
         both_then U used (body part WrongKind (scope_of one frame region) progress used)
         (body part WrongKind (scope_of other frame region) progress used) _ _
@@ -262,6 +252,7 @@ module _ (U : List FileKey → Type 0) where
         (λ inner later. splice_agree U one other follows frame region (literal_at frame place)
         inner.content (with_chain inner.chain (with_count inner.count progress)) later)
     mapping_agree (Mixed at) fill fills place frame region count progress used = tt
+    mapping_agree (Unclosed at) fill fills place frame region count progress used = tt
 
     item_by_agree :
         (shape : Shape) → ShapeAgree shape → (place : Place) (frame : Frame) (region : Region)
@@ -269,11 +260,13 @@ module _ (U : List FileKey → Type 0) where
         Agree U used (item_by shape place (scope_of one frame region) progress used)
         (item_by shape place (scope_of other frame region) progress used)
     item_by_agree (scalar text) fills place frame region progress used =
-        both_then U used (scalar_at text (scope_of one frame region) place progress.count used)
-        (scalar_at text (scope_of other frame region) place progress.count used) _ _
-        (scalar_agree text frame region place progress.count used)
+        same_then U used (given_value text frame place progress.count (of_item region) None) _ _
+        (λ given. both_then U used
+        (node_settling given.node (scope_of one frame region) given.count used)
+        (node_settling given.node (scope_of other frame region) given.count used) _ _
+        (settling_agree U given.node one other frame region given.count used follows)
         (λ x later. spread_agree U one other follows frame region x.node
-        (with_chain Closed (with_count x.count progress)) later)
+        (with_chain Closed (with_count x.count progress)) later))
     item_by_agree (sequence fill) fills place frame region progress used =
         both_then U used
         (collected kind.Items fill place (scope_of one frame (inside region)) progress.count used)

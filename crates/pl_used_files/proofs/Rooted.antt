@@ -1,26 +1,42 @@
 -- A root file over two sets of files that agree on the used ones.
-use Rattle.std.proofs.Common.{◌≡◌, ℕ, Option, Some, None, Result, Ok, Err, List, [], ◌∷◌, refl, ap}
-use Rattle.std.proofs.Common.{sym, subst, ◌∙◌}
+use Rattle.std.proofs.Common.{◌≡◌, ℕ, Bool, true, false, Option, Some, None, Result, Ok, Err}
+use Rattle.std.proofs.Common.{List, [], ◌∷◌, map, refl, ap, sym, subst, ◌∙◌, rules}
 use Rattle.std.specs.Prelude.{IfOk, Contains, codes, filter, not}
 use Rattle.std.specs.FinMap as finite
+use Rattle.std.specs.List.{AllByRecursion as Each}
 use Rattle.pl_base.specs.declared.expanded.Argument.{Argument as RunArgument}
 use Rattle.pl_base.specs.declared.place.FileKey.{FileKey}
 use Rattle.pl_base.specs.declared.place.Place.{Place}
 use Rattle.pl_base.specs.declared.node.Node.{Node}
+use Rattle.pl_base.specs.declared.node.NodeBody.{NodeBody, roll-NodeBody, the_lemmas}
 use Rattle.pl_base.specs.declared.node.NodePair.{NodePair}
 use Rattle.pl_base.specs.declared.node.NodeBody.TheOpen.{Scalar, Seq, Map}
+use Rattle.pl_base.specs.declared.origin.Origin.{Origin}
+use Rattle.pl_base.specs.declared.value.Value.{Value, out-Value}
+use Rattle.pl_base.specs.declared.value.Value.TheOpen.{Value-F}
+use Rattle.pl_base.specs.declared.value.Value.TheOpen as layer
 use Rattle.pl_base.specs.declared.value.MarkedNode.{MarkedNode}
+use Rattle.pl_base.specs.declared.value.MarkedPair.{MarkedPair}
 use Rattle.pl_frame.specs.declared.frame.Frame.{Frame}
 use Rattle.pl_frame.specs.declared.frame.Parameter.{Parameter}
+use Rattle.pl_frame.specs.Names.{within as turn_frame}
 use Rattle.pl_frame.specs.Origins.{literal_at}
+use Rattle.pl_literal.specs.Items.{is}
 use Rattle.pl_paths.specs.Paths.{cut_path}
+use Rattle.pl_directives.specs.declared.action.Action.{Action}
+use Rattle.pl_directives.specs.declared.action.Action.TheVariants.{Put, Run, Pass, Repeat, Insert}
 use Rattle.pl_directives.specs.declared.fault.ExpandFault.{ExpandFault}
+use Rattle.pl_directives.specs.declared.fault.ExpandProblem.{ExpandProblem}
+use Rattle.pl_directives.specs.declared.fault.ExpandProblem.TheVariants.{WrongKind, InsertNoMapping}
 use Rattle.pl_directives.specs.declared.manner.Kind.TheVariants as content
 use Rattle.pl_directives.specs.declared.progress.Chain.TheVariants.{Closed}
 use Rattle.pl_directives.specs.declared.region.Form.TheVariants.{Variables as InVariables}
 use Rattle.pl_directives.specs.declared.region.Region.TheVariants.{Free, Calls}
-use Rattle.pl_directives.specs.Contents.{begun, with_chain, with_count}
+use Rattle.pl_directives.specs.Actions.{key_asks}
+use Rattle.pl_directives.specs.Contents.{begun}
 use Rattle.pl_directives.specs.Counting.{entered}
+use Rattle.pl_directives.specs.Regions.{under as inside_key}
+use Rattle.pl_directives.specs.Scalars.{scalar_value}
 use Rattle.pl_reading.specs.Steps.{◌>>=◌}
 use Rattle.pl_calls.specs.Meant.{◌>>>◌}
 use Rattle.pl_calls.specs.Parts.{Body, body_of, under}
@@ -29,23 +45,32 @@ use Rattle.pl_calls.specs.Reaching.{found_at, opened_at}
 use Rattle.pl_calls.specs.declared.files.Parsed.{Parsed}
 use Rattle.pl_calls.specs.declared.reaching.Home.{Home}
 use Rattle.pl_calls.specs.declared.reaching.Opened.{Opened as OpenedFile}
-use Rattle.pl_expanding.specs.Expanding.{expanded, entry_of, pair_behind}
+use Rattle.pl_expanding.specs.Expanding.{expanded, part_of, done as done_for}
 use Rattle.pl_expanding.specs.Following.{scope_of}
 use Rattle.pl_expanding.specs.Levels.{followed}
+use Rattle.pl_expanding.specs.Settling.{node_settling}
+use Rattle.pl_origins.proofs.Induction.{BodyParts, written_induction}
 use Rattle.pl_origins.proofs.Steps.{Used, Gives}
 use Rattle.pl_expand.specs.declared.filling.Early.{Early}
-use Rattle.pl_expand.specs.declared.filling.RootFilling.{RootFilling}
+use Rattle.pl_expand.specs.declared.rooting.RootFilling.{RootFilling}
 use Rattle.pl_expand.specs.declared.root.RootTree.{RootTree}
 use Rattle.pl_root.specs.declared.root_key.RootKey.{RootKey}
 use Rattle.pl_root.specs.declared.root_key.RootKey.TheVariants as key
-use Rattle.pl_expand.specs.Extending.{extended}
+use Rattle.pl_expand.specs.Extending.{extended, value_extended}
+use Rattle.pl_expand.specs.Rooting.{Rooting, filled_with, chained, counting, misplaced}
+use Rattle.pl_expand.specs.Rooting.{unless_misplaced, extended_behind, key_put, named_put}
+use Rattle.pl_expand.specs.Rooting.{item_put, given_by, given_put, all_given_put, value_put}
+use Rattle.pl_expand.specs.Rooting.{text_put, list_put, pairs_put, mapping_put, node_put}
+use Rattle.pl_expand.specs.Rooting.{turns_put, asked_put, pair_put, node_seen, body_seen}
+use Rattle.pl_expand.specs.Rooting.{pair_seen}
+use Rattle.pl_expand.proofs.Itself.{node_itself}
 use Rattle.pl_root.specs.Resources.{earliest}
 use Rattle.pl_expand.specs.Tree.{Set, unless, early_by}
 use Rattle.pl_root.specs.Keys.{root_complaints}
 use Rattle.pl_root.specs.Arguments.{parameters_by}
 use Rattle.pl_root.specs.Frames.{first_frame}
 use Rattle.pl_root.specs.Keys.{root_key}
-use Rattle.pl_expand.specs.Tree.{filled_with, ordinary_pair, extends_pair, passed_over}
+use Rattle.pl_expand.specs.Tree.{passed_over}
 use Rattle.pl_expand.specs.Tree.{variables_pair, root_pair, given_to, early_behind, root_pairs}
 use Rattle.pl_expand.specs.Tree.{root_from, root_mapping, filled_root, pairs_expanded, home_of}
 use Rattle.pl_root.specs.Frames.{second_frame}
@@ -55,8 +80,10 @@ use Rattle.pl_expand.specs.Tree.{tree_of}
 use Rattle.pl_used_files.specs.Alone.{AgreeOn, UsedFilesDecide}
 use Rattle.pl_used_files.proofs.Agreeing.{Agree, done, both_alone, same_then, both_then}
 use Rattle.pl_used_files.proofs.Called.{OpensAgree, followed_agree, extended_agree}
+use Rattle.pl_used_files.proofs.Called.{value_extends_agree}
 use Rattle.pl_used_files.proofs.Ends.{first_in, AreUsed, then_gives, all_used}
-use Rattle.pl_used_files.proofs.Expanding.{entry_agrees, expanded_agree, pair_agree}
+use Rattle.pl_used_files.proofs.Expanding.{part_agrees, expanded_agree, done_agree}
+use Rattle.pl_used_files.proofs.Settling.{settling_agree}
 
 -- ---- what paths lead to
 
@@ -97,35 +124,212 @@ module _ (files others : Set) (final : List FileKey) (agree : AgreeOn final file
   opens_agree home at path used =
       same_then U used (target at (cut_path path) home) _ _ (λ key. opened_agree at key used)
 
+-- ---- what stands at the root
+
+module _ (U : List FileKey → Type 0) (one other : Opens) (opens : OpensAgree U one other)
+    (frame : Frame) where
+  -- a pair whose key is known
+
+  key_agrees :
+      (extends : Bool) (key : List ℕ) (origin : Origin) (node : Node) (filling : RootFilling)
+      (used : List FileKey) →
+      Agree U used (key_put extends key origin node one frame filling used)
+      (key_put extends key origin node other frame filling used)
+  key_agrees true key origin node filling used =
+      both_then U used (extended one origin node frame filling.progress.count used)
+      (extended other origin node frame filling.progress.count used) _ _
+      (extended_agree U one other opens origin frame node filling.progress.count used)
+      (λ extension later. done U later (extended_behind filling extension))
+  key_agrees false key origin node filling used =
+      both_then U used
+      (done_for (Put key origin) (part_of node) (scope_of (followed 100 one) frame Free)
+      filling.progress used)
+      (done_for (Put key origin) (part_of node) (scope_of (followed 100 other) frame Free)
+      filling.progress used)
+      _ _
+      (done_agree U (followed 100 one) (followed 100 other) (followed_agree U one other opens 100)
+      (Put key origin) (part_of node) (part_agrees U node) frame Free filling.progress used)
+      (λ after later. done U later (filled_with filling.extension after))
+
+  named_agrees :
+      (key : List ℕ) (origin : Origin) (node : Node) (filling : RootFilling)
+      (used : List FileKey) →
+      Agree U used (named_put key origin node one frame filling used)
+      (named_put key origin node other frame filling used)
+  named_agrees key origin node filling used =
+      same_then U used (unless_misplaced (misplaced filling key) origin.source) _ _
+      (λ none. key_agrees (is key (codes "extends")) key origin node filling used)
+
+  -- pairs that an expression gave
+
+  given_agrees :
+      (extends : Bool) (pair : MarkedPair) (filling : RootFilling) (used : List FileKey) →
+      Agree U used (given_by extends pair one frame filling used)
+      (given_by extends pair other frame filling used)
+  given_agrees true pair filling used =
+      both_then U used
+      (value_extended one pair.key_origin pair.item.origin.source pair.item frame
+      filling.progress.count used)
+      (value_extended other pair.key_origin pair.item.origin.source pair.item frame
+      filling.progress.count used) _ _
+      (value_extends_agree U one other opens pair.key_origin pair.item.origin.source pair.item
+      frame filling.progress.count used)
+      (λ extension later. done U later (extended_behind filling extension))
+  given_agrees false pair filling used =
+      both_then U used
+      (node_settling pair.item (scope_of (followed 100 one) frame (inside_key pair.key Free))
+      filling.progress.count used)
+      (node_settling pair.item (scope_of (followed 100 other) frame (inside_key pair.key Free))
+      filling.progress.count used) _ _
+      (settling_agree U pair.item (followed 100 one) (followed 100 other) frame
+      (inside_key pair.key Free) filling.progress.count used (followed_agree U one other opens 100))
+      (λ x later. both_alone U later (item_put pair filling x))
+
+  all_given_agree :
+      (pairs : List MarkedPair) (filling : RootFilling) (used : List FileKey) →
+      Agree U used (all_given_put pairs one frame filling used)
+      (all_given_put pairs other frame filling used)
+  all_given_agree [] filling used = done U used filling
+  all_given_agree (pair ∷ pairs) filling used =
+      both_then U used (given_put pair one frame filling used)
+      (given_put pair other frame filling used)
+      (all_given_put pairs one frame) (all_given_put pairs other frame)
+      (same_then U used (unless_misplaced (misplaced filling pair.key) pair.key_origin.source) _ _
+      (λ none. given_agrees (is pair.key (codes "extends")) pair filling used))
+      (λ after later. all_given_agree pairs after later)
+
+  value_agrees :
+      (opened : Value-F Value MarkedNode MarkedPair) (problem : ExpandProblem) (place : Place)
+      (filling : RootFilling) (used : List FileKey) →
+      Agree U used (value_put opened problem place one frame filling used)
+      (value_put opened problem place other frame filling used)
+  value_agrees (layer.Object pairs) problem place filling used = all_given_agree pairs filling used
+  value_agrees (layer.Array items) problem place filling used = tt
+  value_agrees layer.Null problem place filling used = tt
+  value_agrees (layer.Bool truth) problem place filling used = tt
+  value_agrees (layer.Number number) problem place filling used = tt
+  value_agrees (layer.Version segments) problem place filling used = tt
+  value_agrees (layer.Str text) problem place filling used = tt
+
+-- ---- a part of the root file, by induction
+
+module _ (U : List FileKey → Type 0) (one other : Opens) (opens : OpensAgree U one other) where
+  abbrev RootingAgree : Rooting → Type 0
+  RootingAgree put =
+      (frame : Frame) (filling : RootFilling) (used : List FileKey) →
+      Agree U used (put one frame filling used) (put other frame filling used)
+
+  abbrev PutAgree : (ExpandProblem → Place → Rooting) → Type 0
+  PutAgree put = (problem : ExpandProblem) (place : Place) → RootingAgree (put problem place)
+
+  abbrev BodyClaim : NodeBody → Type 0
+  BodyClaim x = PutAgree (body_seen x).put
+
+  abbrev NodeClaim : Node → Type 0
+  NodeClaim x = (problem : ExpandProblem) → RootingAgree ((node_seen x).put problem)
+
+  abbrev PairClaim : NodePair → Type 0
+  PairClaim x = RootingAgree (pair_seen x).put
+
+  pairs_puts :
+      (pairs : List NodePair) → Each PairClaim pairs →
+      RootingAgree (pairs_put (map pair_seen pairs))
+  pairs_puts [] claims frame filling used = done U used filling
+  pairs_puts (pair ∷ pairs) claims frame filling used =
+      both_then U used ((pair_seen pair).put one frame filling used)
+      ((pair_seen pair).put other frame filling used) (pairs_put (map pair_seen pairs) one frame)
+      (pairs_put (map pair_seen pairs) other frame) (claims.0 frame filling used)
+      (λ after later. pairs_puts pairs claims.1 frame after later)
+
+  of_layer :
+      (layer : Body) → BodyParts NodeClaim PairClaim layer → BodyClaim (roll-NodeBody layer)
+  of_layer (Scalar text) claims =
+      let seen : text_put text ≡ (body_seen (roll-NodeBody (Scalar text))).put =
+      search (rules, the_lemmas) in
+      subst PutAgree seen
+      (λ problem place frame filling used.
+      same_then U used (scalar_value text frame place filling.progress.count) _ _
+      (λ x. value_agrees U one other opens frame (out-Value x.node.value) problem place
+      (counting x.count filling) used))
+  of_layer (Seq items) claims =
+      let seen : list_put ≡ (body_seen (roll-NodeBody (Seq items))).put =
+      search (rules, the_lemmas) in
+      subst PutAgree seen
+      (λ problem place frame filling used.
+      same_then U used (entered place filling.progress.count) _ _ (λ count. tt))
+  of_layer (Map pairs) claims =
+      let seen : mapping_put (map pair_seen pairs) ≡ (body_seen (roll-NodeBody (Map pairs))).put =
+      search (rules, the_lemmas) in
+      subst PutAgree seen
+      (λ problem place frame filling used.
+      same_then U used (entered place filling.progress.count) _ _
+      (λ count. pairs_puts pairs claims frame (counting count filling) used))
+
+  of_node :
+      (place : Place) (body : NodeBody) → BodyClaim body →
+      NodeClaim (record { place = place; body = body })
+  of_node place body claim problem =
+      let node : Node = record { place = place; body = body } in
+      let seen : node_put place (body_seen body) ≡ (node_seen node).put =
+      search (rules, the_lemmas) in
+      subst (λ (put : ExpandProblem → Rooting). RootingAgree (put problem)) seen
+      (λ frame filling used. both_then U used
+      ((body_seen body).put problem place one frame (chained Closed filling) used)
+      ((body_seen body).put problem place other frame (chained Closed filling) used) _ _
+      (claim problem place frame (chained Closed filling) used)
+      (λ after later. done U later (chained Closed after)))
+
+  module _ (item : Node) (claim : NodeClaim item) where
+    turns_agree_root :
+        (name : List ℕ) (items : List MarkedNode) →
+        RootingAgree (turns_put name (node_seen item) items)
+    turns_agree_root name [] frame filling used = done U used filling
+    turns_agree_root name (first ∷ items) frame filling used =
+        both_then U used
+        ((node_seen item).put WrongKind one (turn_frame frame name first) filling used)
+        ((node_seen item).put WrongKind other (turn_frame frame name first) filling used)
+        (turns_put name (node_seen item) items one frame)
+        (turns_put name (node_seen item) items other frame)
+        (claim WrongKind (turn_frame frame name first) filling used)
+        (λ after later. turns_agree_root name items frame after later)
+
+    asked_agree : (asked : Action) → RootingAgree (asked_put asked (node_seen item))
+    asked_agree (Put key origin) frame filling used =
+        subst (λ (node : Node). Agree U used (named_put key origin node one frame filling used)
+        (named_put key origin node other frame filling used))
+        (sym (node_itself item))
+        (named_agrees U one other opens frame key origin item filling used)
+    asked_agree (Run chain) frame filling used =
+        both_then U used ((node_seen item).put WrongKind one frame filling used)
+        ((node_seen item).put WrongKind other frame filling used) _ _
+        (claim WrongKind frame filling used) (λ after later. done U later (chained chain after))
+    asked_agree (Pass chain) frame filling used = done U used (chained chain filling)
+    asked_agree (Repeat loop count) frame filling used =
+        turns_agree_root loop.name loop.items frame (chained Closed (counting count filling)) used
+    asked_agree Insert frame filling used = claim InsertNoMapping frame filling used
+
+  of_pair :
+      (key : List ℕ) (key_place : Place) (item : Node) → NodeClaim item →
+      PairClaim (record { key = key; key_place = key_place; item = item })
+  of_pair key key_place item claim =
+      let pair : NodePair = record { key = key; key_place = key_place; item = item } in
+      let seen : pair_put key key_place (node_seen item) ≡ (pair_seen pair).put =
+      search (rules, the_lemmas) in
+      subst RootingAgree seen
+      (λ frame filling used. same_then U used
+      (key_asks key frame key_place filling.progress.chain filling.progress.count) _ _
+      (λ asked. asked_agree item claim asked frame filling used))
+
+  node_puts : (node : Node) → NodeClaim node
+  node_puts = written_induction BodyClaim NodeClaim PairClaim of_layer of_node of_pair
+
+  pub pair_puts : (pair : NodePair) → PairClaim pair
+  pair_puts pair = of_pair pair.key pair.key_place pair.item (node_puts pair.item)
+
 -- ---- the root's pairs
 
 module _ (U : List FileKey → Type 0) (one other : Opens) (opens : OpensAgree U one other)
     (frame : Frame) where
-  ordinary_agree :
-      (pair : NodePair) (filling : RootFilling) (used : List FileKey) →
-      Agree U used (ordinary_pair pair one frame filling used)
-      (ordinary_pair pair other frame filling used)
-  ordinary_agree pair filling used =
-      both_then U used
-      (pair_behind (entry_of pair) (scope_of (followed 100 one) frame Free) filling.progress used)
-      (pair_behind (entry_of pair) (scope_of (followed 100 other) frame Free) filling.progress used)
-      _ _
-      (pair_agree U (followed 100 one) (followed 100 other) (followed_agree U one other opens 100)
-      (entry_of pair) (entry_agrees U pair) frame Free filling.progress used)
-      (λ after later. done U later (filled_with filling.extension after))
-
-  extends_agree :
-      (pair : NodePair) (filling : RootFilling) (used : List FileKey) →
-      Agree U used (extends_pair pair one frame filling used)
-      (extends_pair pair other frame filling used)
-  extends_agree pair filling used =
-      both_then U used (extended one pair.item frame filling.progress.count used)
-      (extended other pair.item frame filling.progress.count used) _ _
-      (extended_agree U one other opens pair.item frame filling.progress.count used)
-      (λ extension later. done U later
-      (filled_with (Some extension)
-      (with_chain Closed (with_count extension.count filling.progress))))
-
   pair_agree_root :
       (of : RootKey) (early : Option MarkedNode) (pair : NodePair) (filling : RootFilling)
       (used : List FileKey) →
@@ -133,11 +337,14 @@ module _ (U : List FileKey → Type 0) (one other : Opens) (opens : OpensAgree U
       (root_pair of early pair other frame filling used)
   pair_agree_root key.Parameters early pair filling used = done U used (passed_over filling)
   pair_agree_root key.Resources early pair filling used = done U used (passed_over filling)
-  pair_agree_root key.Extends early pair filling used = extends_agree pair filling used
+  pair_agree_root key.Extends early pair filling used =
+      pair_puts U one other opens pair frame filling used
   pair_agree_root key.Variables (Some node) pair filling used =
       both_alone U used (variables_pair node pair frame filling)
-  pair_agree_root key.Variables None pair filling used = ordinary_agree pair filling used
-  pair_agree_root key.Other early pair filling used = ordinary_agree pair filling used
+  pair_agree_root key.Variables None pair filling used =
+      pair_puts U one other opens pair frame filling used
+  pair_agree_root key.Other early pair filling used =
+      pair_puts U one other opens pair frame filling used
 
   pairs_agree_root :
       (early : Option MarkedNode) (pairs : List NodePair) (filling : RootFilling)

@@ -14,8 +14,11 @@ depth calls levels rank = 16 * (4294967296 * calls + levels) + rank
 abbrev pub decreases-settling::settle_value : goal.decreases-settling::settle_value
 decreases-settling::settle_value g l = depth l.scope.at.calls l.scope.at.levels 3
 
+abbrev pub decreases-settling::settle_node : goal.decreases-settling::settle_node
+decreases-settling::settle_node g l = depth l.scope.at.calls l.scope.at.levels 4
+
 abbrev pub decreases-settling::settle : goal.decreases-settling::settle
-decreases-settling::settle g l = depth l.scope.at.calls l.scope.at.levels 4
+decreases-settling::settle g l = depth l.scope.at.calls l.scope.at.levels 5
 
 abbrev pub decreases-settling::settle_item : goal.decreases-settling::settle_item
 decreases-settling::settle_item g l = depth l.scope.at.calls l.scope.at.levels 5
@@ -28,9 +31,6 @@ decreases-settling::settle_items g l = depth l.scope.at.calls l.scope.at.levels 
 
 abbrev pub decreases-settling::settle_pairs : goal.decreases-settling::settle_pairs
 decreases-settling::settle_pairs g l = depth l.scope.at.calls l.scope.at.levels 6
-
-abbrev pub decreases-scalars::whole_scalar : goal.decreases-scalars::whole_scalar
-decreases-scalars::whole_scalar g l = depth l.scope.at.calls l.scope.at.levels 5
 
 abbrev pub decreases-scalars::expand_scalar : goal.decreases-scalars::expand_scalar
 decreases-scalars::expand_scalar g l = depth l.scope.at.calls l.scope.at.levels 6
@@ -62,14 +62,17 @@ decreases-expanding::expand_under g l = depth l.scope.at.calls l.scope.at.levels
 abbrev pub decreases-expanding::fill_turns : goal.decreases-expanding::fill_turns
 decreases-expanding::fill_turns g l = depth l.scope.at.calls l.scope.at.levels 8
 
+abbrev pub decreases-expanding::fill_key : goal.decreases-expanding::fill_key
+decreases-expanding::fill_key g l = depth l.scope.at.calls l.scope.at.levels 9
+
 abbrev pub decreases-expanding::fill_asked : goal.decreases-expanding::fill_asked
-decreases-expanding::fill_asked g l = depth l.scope.at.calls l.scope.at.levels 9
+decreases-expanding::fill_asked g l = depth l.scope.at.calls l.scope.at.levels 10
 
 abbrev pub decreases-expanding::fill_pair : goal.decreases-expanding::fill_pair
-decreases-expanding::fill_pair g l = depth l.scope.at.calls l.scope.at.levels 10
+decreases-expanding::fill_pair g l = depth l.scope.at.calls l.scope.at.levels 11
 
 abbrev pub decreases-expanding::fill_pairs : goal.decreases-expanding::fill_pairs
-decreases-expanding::fill_pairs g l = depth l.scope.at.calls l.scope.at.levels 11
+decreases-expanding::fill_pairs g l = depth l.scope.at.calls l.scope.at.levels 12
 
 abbrev pub decreases-expanding::fill_mapping : goal.decreases-expanding::fill_mapping
 decreases-expanding::fill_mapping g l = depth l.scope.at.calls l.scope.at.levels 7

@@ -94,7 +94,6 @@ fn outer(alloc: Global) -> Result<Frame, Memory> {
     let variables = variables_of(alloc, &git_ref, &written(alloc)?)?;
     Ok(Frame {
         file: file(alloc)?,
-        level: 1,
         parameters: Shared::new(alloc, parameters)?,
         variables: Shared::new(alloc, variables)?,
         loops: SharedList::new(alloc)?,
