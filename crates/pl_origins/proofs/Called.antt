@@ -241,8 +241,8 @@ module _ (P : Origin → Type 0) where
       (λ items are. are)
 
 -- ---- What P must keep across the border of a call into a file. R holds of the places of that
--- file, and K of it and of the place of the call's item. A call has that place, and the borders that
--- its path crossed.
+-- file, and K of it and of where the call's item stands. A call has that place, and the borders
+-- that its path crossed.
 
 pub record Borders (P : Origin → Type 0) (R : FileKey → Place → Type 0)
     (K : Place → FileKey → Type 0) : Type 0 where
