@@ -61,8 +61,8 @@ body_in form place pairs =
     held place (under (form_key form) pairs) >>= λ body.
     unless_at WrongKind (stray (may_stand form) pairs) body
 
--- ---- The value of that key is a list, for variables also a mapping, or an expression that may give
--- one. What is written as another kind is refused before anything in it is expanded.
+-- ---- The value of that key is a list, for variables also a mapping, or an expression that may
+-- give one. What is written as another kind is refused before anything in it is expanded.
 
 -- an expression without an end is refused as a scalar
 abbrev pub may_give : ScalarForm → Bool

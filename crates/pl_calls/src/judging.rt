@@ -134,8 +134,8 @@ fn fits(alloc: Global, form: Form, body: &Node) -> Result<bool, Memory>
     }
 }
 
-/// X9 at the value of a template's form that is written as no list, nor as one expression; a mapping
-/// may stand for variables.
+/// X9 at the value of a template's form that is written as no list, nor as one expression; a
+/// mapping may stand for variables.
 pub fn judge_body(alloc: Global, form: Form, body: &Node) -> Result<(), ExpandFault>
     ensures { Gives result (body_fits form body.now) }
 {

@@ -72,8 +72,8 @@ abbrev pub call_form : Region → MarkedNode → Option Form
 call_form region node =
     if is_template (out-Value node.value) then form_at region else None
 
--- ---- The path of a call is the value of the first key of an item that may be one. That of `extends`
--- may stand anywhere in its mapping.
+-- ---- The path of a call is the value of the first key of an item that may be one. That of
+-- `extends` may stand anywhere in its mapping.
 
 abbrev pub is_begun : Content → Bool
 is_begun (Pairs []) = true

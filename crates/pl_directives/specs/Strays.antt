@@ -1,5 +1,5 @@
--- Keys that may not stand where they are put (Microsoft Learn, Azure Pipelines, "Templates"): beside
--- the path of a call its arguments stand alone.
+-- Keys that may not stand where they are put (Microsoft Learn, Azure Pipelines, "Templates"):
+-- beside the path of a call its arguments stand alone.
 use Rattle.std.specs.Prelude.{ℕ, Bool, true, false, not, ◌&&◌, ◌||◌, List, [], ◌∷◌, find, codes}
 use Rattle.std.specs.Prelude.{Option, Some, None, unwrap_or, Result, Ok, if◌then◌else◌}
 use Rattle.std.specs.Option.{option_map}
@@ -61,8 +61,8 @@ abbrev pub unless_stray : Option Place → Result (Unit {0}) ExpandFault
 unless_stray None = Ok tt
 unless_stray (Some place) = refused WrongKind place
 
--- The value of a scalar that is put into a mapping in a region, of which may be told whether it is a
--- call: no key of it may stray.
+-- The value of a scalar that is put into a mapping in a region, of which may be told whether it is
+-- a call: no key of it may stray.
 abbrev pub given_value :
     List ℕ → Frame → Place → ℕ → Region → Option Bool → Result Counted ExpandFault
 given_value text frame place count region called =

@@ -20,4 +20,7 @@ pub enum Manner {
     Splices(Kind),
     /// Its keys are directives with values of both kinds. The first of the other kind stands there.
     Mixed(Place),
+    /// An expression in a key of it has no end, so that isn't told. The first such key stands
+    /// there.
+    Unclosed(Place),
 }

@@ -213,8 +213,8 @@ fn joined_scalar(
     Ok(Counted { node, count })
 }
 
-/// The value of a scalar where it stands: its text where no expression stands in it, that of the one
-/// expression that it is, else the joined text. X5 where an expression has no end.
+/// The value of a scalar where it stands: its text where no expression stands in it, that of the
+/// one expression that it is, else the joined text. X5 where an expression has no end.
 pub fn scalar_value(
     alloc: Global,
     text: &Text,

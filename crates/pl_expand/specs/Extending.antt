@@ -56,8 +56,8 @@ use Rattle.pl_expanding.specs.Levels.{followed, variable_item}
 use Rattle.pl_expanding.specs.declared.followed.SettledPairs.{SettledPairs}
 use Rattle.pl_expand.specs.declared.extending.Extension.{Extension}
 
--- ---- What `extends` asks for: where its mapping stands, the path's text, the origin that shows where
--- that comes from, and the arguments.
+-- ---- What `extends` asks for: where its mapping stands, the path's text, the origin that shows
+-- where that comes from, and the arguments.
 
 pub record Asked : Type 0 where
   pub at : Place

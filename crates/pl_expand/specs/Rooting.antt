@@ -1,6 +1,6 @@
--- The pairs of the root file's mapping after directives (Microsoft Learn, Azure Pipelines, "Template
--- expressions"): the pairs that stand in the tree, and what the template gives that the key `extends`
--- leads to, wherever that key came from. What is met first is followed first.
+-- The pairs of the root file's mapping after directives (Microsoft Learn, Azure Pipelines,
+-- "Template expressions"): the pairs that stand in the tree, and what the template gives that the
+-- key `extends` leads to, wherever that key came from. What is met first is followed first.
 use Rattle.std.specs.Prelude.{ℕ, Bool, true, false, List, [], ◌∷◌, map, codes}
 use Rattle.std.specs.Prelude.{Option, Some, None, is_some, Result, Ok, if◌then◌else◌}
 use Rattle.pl_base.specs.declared.node.Node.{Node, fold-Node}
@@ -64,8 +64,8 @@ chained chain filling = filled_with filling.extension (with_chain chain filling.
 abbrev pub counting : ℕ → RootFilling → RootFilling
 counting count filling = filled_with filling.extension (with_count count filling.progress)
 
--- ---- The root's own jobs and a template that it extends don't stand beside each other: the key that
--- is met second is refused before its value is expanded. It extends one template.
+-- ---- The root's own jobs and a template that it extends don't stand beside each other: the key
+-- that is met second is refused before its value is expanded. It extends one template.
 
 abbrev pub has_form : Content → Bool
 has_form (Pairs pairs) = is_some (form_place pairs)

@@ -257,18 +257,18 @@ pub fn expand_counted<F: Files>(
 /// The first fault that is met is the answer, each with its place: X1 where the root file isn't
 /// there, X16 where it or an argument isn't in the profile of YAML that is read; X5 and X9 where
 /// `resources` hold an expression or aren't of their form; X9 where `extends` stands beside the
-/// root's own jobs, both as they are written; X14 where a parameter is declared or given wrongly; then in the order in which
-/// nodes stand X4 where more than 100,000 are counted, X5 where a directive is out of its form or
-/// an expression has no end, X6 where `elseif` or `else` follows no `if`, X7 where `each` goes over
-/// an atom, X8 where `insert` takes no mapping, X9 where something of another kind stands than can
-/// stand there, X12 where a text is no expression, X13 where an expression has no value, X15 where
-/// a key stands twice, or `extends` is met twice; X9 at the second of `extends` and a key of the
-/// root's own jobs. A call adds, in this order: X3 where it is more than 100 levels deep, X11
-/// where no repository has its path's alias, X1 where its path leads out of the repository or no
-/// file is there, X2 where it is the 101st file, X16 where that isn't in the profile, X10 where
-/// that extends a template itself, X9 where it isn't of the form that is called, X14 where its
-/// declarations are wrong or the arguments don't fit. Memory may come at any time, also where nodes
-/// stand more than `DEEPEST` levels deep in one another.
+/// root's own jobs, both as they are written; X14 where a parameter is declared or given wrongly;
+/// then in the order in which nodes stand X4 where more than 100,000 are counted, X5 where a
+/// directive is out of its form or an expression has no end, X6 where `elseif` or `else` follows no
+/// `if`, X7 where `each` goes over an atom, X8 where `insert` takes no mapping, X9 where something
+/// of another kind stands than can stand there, X12 where a text is no expression, X13 where an
+/// expression has no value, X15 where a key stands twice, or `extends` is met twice; X9 at the
+/// second of `extends` and a key of the root's own jobs. A call adds, in this order: X3 where it is
+/// more than 100 levels deep, X11 where no repository has its path's alias, X1 where its path leads
+/// out of the repository or no file is there, X2 where it is the 101st file, X16 where that isn't
+/// in the profile, X10 where that extends a template itself, X9 where it isn't of the form that is
+/// called, X14 where its declarations are wrong or the arguments don't fit. Memory may come at any
+/// time, also where nodes stand more than `DEEPEST` levels deep in one another.
 pub fn expand<F: Files>(
     alloc: Global,
     files: &mut F,

@@ -498,8 +498,8 @@ fn extend_given<F: Files>(
     reach_file(alloc, at, &text, shown, given, frame, count, files, reach)
 }
 
-/// What the template gives that a value of the key `extends` leads to. X9 at a place where the value
-/// is no mapping, at the mapping where it has no path, and at another key of it.
+/// What the template gives that a value of the key `extends` leads to. X9 at a place where the
+/// value is no mapping, at the mapping where it has no path, and at another key of it.
 #[tactic(auto, using(pl_calls::proofs::Alone::gives_alone))]
 pub fn extend_value<F: Files>(
     alloc: Global,
@@ -613,8 +613,8 @@ fn extend_text<F: Files>(
 }
 
 /// What the template gives that the root extends, by the value of the key `extends`, which comes
-/// from `key`. X9 where that is neither a mapping nor one expression that gives one, where it has no
-/// path, and at another key of it.
+/// from `key`. X9 where that is neither a mapping nor one expression that gives one, where it has
+/// no path, and at another key of it.
 #[tactic(auto, using(pl_calls::proofs::Alone::gives_alone))]
 pub fn extend<F: Files>(
     alloc: Global,

@@ -1,4 +1,6 @@
-//! Pipelines, expanded: directives, expressions, parameters, variables, resources and templates.
+//! Pipelines, expanded: the root file with its run arguments, its variables first, then its pairs
+//! and what it extends. The recursion into nodes and called templates stands below it, in
+//! `pl_expanding`.
 #![tactic(auto)]
 
 mod expansion;

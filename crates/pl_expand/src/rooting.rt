@@ -379,8 +379,8 @@ fn put_text<F: Files>(
     )
 }
 
-/// Where a part of the root file is expanded: its frame, and how many nodes may still stand in it in
-/// one another.
+/// Where a part of the root file is expanded: its frame, and how many nodes may still stand in it
+/// in one another.
 #[derive(Clone, Copy)]
 pub struct Spot<'f> {
     pub frame: &'f Frame,

@@ -13,16 +13,18 @@ use Rattle.pl_base.specs.declared.value.MarkedNode.{MarkedNode}
 use Rattle.pl_frame.specs.Names.{within}
 use Rattle.pl_frame.specs.Origins.{literal_at}
 use Rattle.pl_frame.specs.declared.frame.Frame.{Frame}
-use Rattle.pl_template.specs.Keys.{key_form_of}
+use Rattle.pl_template.specs.Forms.{form_of}
 use Rattle.pl_directives.specs.declared.action.Action.{Action}
 use Rattle.pl_directives.specs.declared.action.Action.TheVariants.{Put, Run, Pass, Repeat, Insert}
 use Rattle.pl_directives.specs.declared.fault.ExpandFault.{ExpandFault}
 use Rattle.pl_directives.specs.declared.fault.ExpandProblem.{ExpandProblem}
 use Rattle.pl_directives.specs.declared.fault.ExpandProblem.TheVariants.{WrongKind, InsertNoMapping}
+use Rattle.pl_directives.specs.declared.fault.ExpandProblem.TheVariants.{BadDirective}
 use Rattle.pl_directives.specs.declared.manner.Kind.{Kind}
 use Rattle.pl_directives.specs.declared.manner.Kind.TheVariants as kind
 use Rattle.pl_directives.specs.declared.manner.Manner.{Manner}
 use Rattle.pl_directives.specs.declared.manner.Manner.TheVariants.{Empty, Stays, Splices, Mixed}
+use Rattle.pl_directives.specs.declared.manner.Manner.TheVariants.{Unclosed}
 use Rattle.pl_directives.specs.declared.progress.Chain.TheVariants.{Closed}
 use Rattle.pl_directives.specs.declared.progress.Counted.{Counted}
 use Rattle.pl_directives.specs.declared.progress.Progress.{Progress}
@@ -169,6 +171,7 @@ mapping_behind (Splices kind) fill place scope progress used =
     splice scope (literal_at scope.frame place) inner.content
     (with_chain inner.chain (with_count inner.count progress)) used
 mapping_behind (Mixed other) fill place scope progress used = refused WrongKind other
+mapping_behind (Unclosed key) fill place scope progress used = refused BadDirective key
 
 abbrev pub mapping_item_by : Manner → Filling → Place → Filling
 mapping_item_by manner fill place scope progress used =
@@ -204,7 +207,8 @@ kind_of (mapping manner fill) = kind.Pairs
 
 abbrev pub facet_of : Entry → Facet
 facet_of entry = record {
-  form = key_form_of entry.key;
+  key = form_of entry.key;
+  key_place = entry.key_place;
   kind = kind_of entry.part.shape;
   place = entry.part.place;
 }

@@ -426,5 +426,9 @@ fn fill_mapping<F: Files>(
             let first = complain(alloc, ExpandProblem::WrongKind, &other)?;
             Err(ExpandFault::Refused(first))
         }
+        Manner::Unclosed(key) => {
+            let first = complain(alloc, ExpandProblem::BadDirective, &key)?;
+            Err(ExpandFault::Refused(first))
+        }
     }
 }

@@ -3,11 +3,13 @@ ghost use Rattle.std.specs.List.{list_all, list_any};
 ghost use Rattle.std.specs.Option.{option_copied};
 ghost use Rattle.pl_expanding.specs.Expanding.{entry_of, facet_of, kind_of, part_of};
 ghost use Rattle.pl_directives.specs.Manners.{is_directive, is_insert, is_other, first_kind};
-ghost use Rattle.pl_directives.specs.Manners.{first_other, filled_manner, manner_of};
+ghost use Rattle.pl_directives.specs.Manners.{first_other, is_unclosed, first_unclosed};
+ghost use Rattle.pl_directives.specs.Manners.{closed_manner, filled_manner, manner_of};
+ghost use Rattle.pl_template.specs.Keys.{form_of_key};
 
 use pl_base::{ExactCopy, List, Memory, Node, NodeBody, NodePair, Place};
 use pl_directives::{Kind, Manner};
-use pl_template::{KeyForm, key_form};
+use pl_template::{KeyForm, ScalarForm, key_form, scalar_form};
 use std::alloc::Global;
 
 /// How a mapping stands in its sequence, by the forms of its keys and the kinds of its values.
@@ -21,9 +23,21 @@ pub fn manner_of(alloc: Global, pairs: &List<NodePair>) -> Result<Manner, Memory
     filled_manner(alloc, pairs)
 }
 
-/// The same of a mapping that has a key.
+/// The same of a mapping that has a key. Where an expression in a key has no end, that is told
+/// before all else.
 fn filled_manner(alloc: Global, pairs: &List<NodePair>) -> Result<Manner, Memory>
     ensures { IfOk result (λ manner. manner ≡ filled_manner (map facet_of (map entry_of
+        pairs.now))) }
+{
+    match first_unclosed(alloc, pairs)? {
+        Some(place) => Ok(Manner::Unclosed(place)),
+        None => closed_manner(alloc, pairs),
+    }
+}
+
+/// The same of a mapping of keys that have their ends.
+fn closed_manner(alloc: Global, pairs: &List<NodePair>) -> Result<Manner, Memory>
+    ensures { IfOk result (λ manner. manner ≡ closed_manner (map facet_of (map entry_of
         pairs.now))) }
 {
     if !are_directives(alloc, pairs)? {
@@ -37,6 +51,29 @@ fn filled_manner(alloc: Global, pairs: &List<NodePair>) -> Result<Manner, Memory
         return Ok(Manner::Splices(Kind::Pairs));
     }
     Ok(Manner::Splices(kind))
+}
+
+/// Whether an expression in a text has no end.
+fn is_unclosed(form: &ScalarForm) -> bool
+    ensures { result ≡ is_unclosed form.now }
+{
+    match form {
+        ScalarForm::Unclosed => true,
+        ScalarForm::Plain | ScalarForm::Whole(_) | ScalarForm::Joined(_) => false,
+    }
+}
+
+/// The first key in which an expression has no end.
+fn first_unclosed(alloc: Global, pairs: &List<NodePair>) -> Result<Option<Place>, Memory>
+    ensures { IfOk result (λ first. first ≡ first_unclosed (map facet_of (map entry_of
+        pairs.now))) }
+{
+    for pair in pairs.as_slice() {
+        if is_unclosed(&scalar_form(alloc, &pair.key)?) {
+            return Ok(Some(pair.key_place.copy(alloc)?));
+        }
+    }
+    Ok(None)
 }
 
 /// Whether a key is a directive, also one out of its form.
@@ -60,8 +97,8 @@ fn is_insert(form: &KeyForm) -> bool
 
 /// Whether all keys are directives.
 fn are_directives(alloc: Global, pairs: &List<NodePair>) -> Result<bool, Memory>
-    ensures { IfOk result (λ are. are ≡ list_all (λ one. is_directive one.form) (map facet_of (map
-        entry_of pairs.now))) }
+    ensures { IfOk result (λ are. are ≡ list_all (λ one. is_directive (form_of_key one.key)) (map
+        facet_of (map entry_of pairs.now))) }
 {
     for pair in pairs.as_slice() {
         if !is_directive(&key_form(alloc, &pair.key)?) {
@@ -73,8 +110,8 @@ fn are_directives(alloc: Global, pairs: &List<NodePair>) -> Result<bool, Memory>
 
 /// Whether one of the keys is `insert`.
 fn has_insert(alloc: Global, pairs: &List<NodePair>) -> Result<bool, Memory>
-    ensures { IfOk result (λ has. has ≡ list_any (λ one. is_insert one.form) (map facet_of (map
-        entry_of pairs.now))) }
+    ensures { IfOk result (λ has. has ≡ list_any (λ one. is_insert (form_of_key one.key)) (map
+        facet_of (map entry_of pairs.now))) }
 {
     for pair in pairs.as_slice() {
         if is_insert(&key_form(alloc, &pair.key)?) {

@@ -1,5 +1,6 @@
-//! The expansion of a node in a frame, with the templates that it calls, and with where each node
-//! comes from.
+//! The recursion of an expansion: a node of any file in a frame, with the templates that it calls,
+//! and with where each node comes from. What is read of the root file alone stands above it, in
+//! `pl_expand`.
 #![tactic(auto)]
 
 mod expanding;

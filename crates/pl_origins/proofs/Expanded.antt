@@ -25,6 +25,7 @@ use Rattle.pl_directives.specs.declared.manner.Kind.{Kind}
 use Rattle.pl_directives.specs.declared.manner.Kind.TheVariants as kind
 use Rattle.pl_directives.specs.declared.manner.Manner.{Manner}
 use Rattle.pl_directives.specs.declared.manner.Manner.TheVariants.{Empty, Stays, Splices, Mixed}
+use Rattle.pl_directives.specs.declared.manner.Manner.TheVariants.{Unclosed}
 use Rattle.pl_directives.specs.declared.progress.Chain.TheVariants.{Closed}
 use Rattle.pl_directives.specs.declared.progress.Progress.{Progress}
 use Rattle.pl_directives.specs.declared.region.Region.{Region}
@@ -381,6 +382,8 @@ module _ (P : Origin → Type 0) (R : Place → Type 0) (U : List FileKey → Ty
         (with_chain inner.chain (with_count inner.count progress)) later stands
         (λ h. literal_seen P R frame (from h.0) place stands) (λ h. h.1) (λ h. all h.0))
     mapping_gives (Mixed other) fill fills H place frame region count progress used stands from
+        all = tt
+    mapping_gives (Unclosed key) fill fills H place frame region count progress used stands from
         all = tt
 
     item_by_gives :

@@ -1,6 +1,6 @@
 -- The repositories of the root file's resources (Microsoft Learn, Azure Pipelines, "YAML schema
 -- reference", resources.repositories), read as they are written.
-use Rattle.std.specs.Prelude.{ℕ, Bool, false, ◌&&◌, ◌||◌, ◌==◌, nat_lt, List, [], ◌∷◌, ◌++◌}
+use Rattle.std.specs.Prelude.{ℕ, Bool, false, List, [], ◌∷◌, ◌++◌}
 use Rattle.std.specs.Prelude.{map, fold, codes, option_to_list, Option, Some, None, unwrap_or}
 use Rattle.std.specs.Prelude.{if◌then◌else◌}
 use Rattle.std.specs.Option.{option_map, option_and_then, option_or}
@@ -12,6 +12,7 @@ use Rattle.pl_base.specs.declared.node.NodeBody.TheOpen.{NodeBody-F, Node-F, Nod
 use Rattle.pl_base.specs.declared.node.NodeBody.TheOpen.{Scalar, Seq, Map}
 use Rattle.pl_base.specs.declared.node.NodePair.{NodePair, fold-NodePair}
 use Rattle.pl_literal.specs.Items.{is}
+use Rattle.pl_params.specs.Declaring.{is_before}
 use Rattle.pl_template.specs.Cutting.{holds_opening}
 use Rattle.pl_directives.specs.declared.fault.Complaint.{Complaint}
 use Rattle.pl_directives.specs.declared.fault.ExpandProblem.TheVariants.{BadDirective, WrongKind}
@@ -143,10 +144,6 @@ abbrev pub repositories_in : Node → List Repository
 repositories_in resources = map repository_at (unwrap_or (listed resources) [])
 
 -- ---- of several complaints the one at the earliest place; at one place the first
-
-abbrev pub is_before : Place → Place → Bool
-is_before left right =
-    nat_lt left.line right.line || ((left.line == right.line) && nat_lt left.col right.col)
 
 abbrev pub earlier : Option Complaint → Complaint → Option Complaint
 earlier None next = Some next

@@ -1,6 +1,7 @@
 ghost use Rattle.std.specs.Prelude.{◌≡◌, ◌++◌, IfOk};
 ghost use Rattle.std.specs.Option.{option_copied};
-ghost use Rattle.pl_root.specs.Resources.{is_before, earlier, earliest, resources_complaints};
+ghost use Rattle.pl_params.specs.Declaring.{is_before};
+ghost use Rattle.pl_root.specs.Resources.{earlier, earliest, resources_complaints};
 ghost use Rattle.pl_root.specs.Keys.{later, beside, root_complaints};
 
 use crate::resources::{judge_mapping, opening};

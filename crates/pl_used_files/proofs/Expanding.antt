@@ -19,6 +19,7 @@ use Rattle.pl_directives.specs.declared.manner.Kind.{Kind}
 use Rattle.pl_directives.specs.declared.manner.Kind.TheVariants as kind
 use Rattle.pl_directives.specs.declared.manner.Manner.{Manner}
 use Rattle.pl_directives.specs.declared.manner.Manner.TheVariants.{Empty, Stays, Splices, Mixed}
+use Rattle.pl_directives.specs.declared.manner.Manner.TheVariants.{Unclosed}
 use Rattle.pl_directives.specs.declared.progress.Chain.TheVariants.{Closed}
 use Rattle.pl_directives.specs.declared.progress.Progress.{Progress}
 use Rattle.pl_directives.specs.declared.region.Region.{Region}
@@ -251,6 +252,7 @@ module _ (U : List FileKey → Type 0) where
         (λ inner later. splice_agree U one other follows frame region (literal_at frame place)
         inner.content (with_chain inner.chain (with_count inner.count progress)) later)
     mapping_agree (Mixed at) fill fills place frame region count progress used = tt
+    mapping_agree (Unclosed at) fill fills place frame region count progress used = tt
 
     item_by_agree :
         (shape : Shape) → ShapeAgree shape → (place : Place) (frame : Frame) (region : Region)
