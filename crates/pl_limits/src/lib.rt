@@ -9,4 +9,4 @@ mod numbers;
 pub use checks::{are_checks, is_check};
 pub use endings::is_ending;
 pub use lists::{are_capabilities, are_outputs, is_file_text, may_be_granted};
-pub use numbers::{LAST_NUMBER, are_minutes, is_counted, is_run};
+pub use numbers::{is_counted, is_run};

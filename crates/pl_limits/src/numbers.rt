@@ -2,7 +2,7 @@ ghost use Rattle.std.specs.Prelude.{◌≡◌};
 ghost use Rattle.pl_limits.specs.Limits.{are_minutes, is_counted, is_run};
 
 /// The greatest number of a run, of a version and of a change.
-pub const LAST_NUMBER: u64 = 999_999_999_999_999_999;
+const LAST_NUMBER: u64 = 999_999_999_999_999_999;
 
 /// Whether a number has at most 18 digits.
 pub fn is_counted(number: u64) -> bool
@@ -19,7 +19,7 @@ pub fn is_run(number: u64) -> bool
 }
 
 /// Whether so many minutes are at least one and at most a year.
-pub fn are_minutes(minutes: u32) -> bool
+pub(crate) fn are_minutes(minutes: u32) -> bool
     ensures { result ≡ are_minutes minutes }
 {
     1 <= minutes && minutes <= 525_600

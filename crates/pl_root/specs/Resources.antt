@@ -1,6 +1,6 @@
 -- The repositories of the root file's resources (Microsoft Learn, Azure Pipelines, "YAML schema
 -- reference", resources.repositories), read as they are written.
-use Rattle.std.specs.Prelude.{ℕ, Bool, false, List, [], ◌∷◌, ◌++◌}
+use Rattle.std.specs.Prelude.{ℕ, Bool, false, ◌||◌, List, [], ◌∷◌, ◌++◌}
 use Rattle.std.specs.Prelude.{map, fold, codes, option_to_list, Option, Some, None, unwrap_or}
 use Rattle.std.specs.Prelude.{if◌then◌else◌}
 use Rattle.std.specs.Option.{option_map, option_and_then, option_or}
