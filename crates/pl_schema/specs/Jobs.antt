@@ -55,22 +55,27 @@ job_legs job read = record job { legs = read.legs; max_parallel = read.max_paral
 abbrev pub job_variables : JobSpec → Variables → JobSpec
 job_variables job read = record job { variables = read.variables; groups = read.groups }
 
-abbrev pub job_row : (List ℕ → Bool) → Row JobSpec
-job_row taken =
-    reads (codes "job") (name_in taken) (λ job name. record job { name = name })
-    ∷ reads (codes "dependsOn") depends_in (λ job names. record job { depends = Some names })
+-- the rows that jobs and deployments have alike
+abbrev pub shared_row : Row JobSpec
+shared_row =
+    reads (codes "dependsOn") depends_in (λ job names. record job { depends = Some names })
     ∷ reads (codes "condition") condition_in (λ job e. record job { condition = Some e })
-    ∷ reads (codes "strategy") legs_in job_legs
     ∷ reads (codes "continueOnError") truth_in (λ job truth. record job { go_on = truth })
     ∷ reads (codes "pool") pool_in (λ job pool. record job { pool = Some pool })
     ∷ reads (codes "timeoutInMinutes") minutes_in (λ job n. record job { timeout = Some n })
     ∷ reads (codes "variables") variables_in job_variables
-    ∷ reads (codes "steps") steps_in (λ job steps. record job { steps = steps })
     ∷ passed (codes "displayName")
     ∷ passed (codes "workspace")
     ∷ passed (codes "cancelTimeoutInMinutes")
     ∷ passed (codes "templateContext")
     ∷ []
+
+abbrev pub job_row : (List ℕ → Bool) → Row JobSpec
+job_row taken =
+    reads (codes "job") (name_in taken) (λ job name. record job { name = name })
+    ∷ reads (codes "strategy") legs_in job_legs
+    ∷ reads (codes "steps") steps_in (λ job steps. record job { steps = steps })
+    ∷ shared_row
 
 -- a mapping with one key alone, which must be there
 abbrev pub held_row : List ℕ → (MarkedNode → Result (List StepSpec) Fault) → Row (List StepSpec)
@@ -94,19 +99,9 @@ strategy_in node = holding (codes "runOnce") run_once_in node
 abbrev pub deployment_row : (List ℕ → Bool) → Row JobSpec
 deployment_row taken =
     reads (codes "deployment") (name_in taken) (λ job name. record job { name = name })
-    ∷ reads (codes "dependsOn") depends_in (λ job names. record job { depends = Some names })
-    ∷ reads (codes "condition") condition_in (λ job e. record job { condition = Some e })
-    ∷ reads (codes "continueOnError") truth_in (λ job truth. record job { go_on = truth })
-    ∷ reads (codes "pool") pool_in (λ job pool. record job { pool = Some pool })
-    ∷ reads (codes "timeoutInMinutes") minutes_in (λ job n. record job { timeout = Some n })
-    ∷ reads (codes "variables") variables_in job_variables
     ∷ reads (codes "environment") environment_in (λ job e. record job { environment = Some e })
     ∷ reads (codes "strategy") strategy_in (λ job steps. record job { steps = steps })
-    ∷ passed (codes "displayName")
-    ∷ passed (codes "workspace")
-    ∷ passed (codes "cancelTimeoutInMinutes")
-    ∷ passed (codes "templateContext")
-    ∷ []
+    ∷ shared_row
 
 -- a job must have its steps, a deployment its environment and its strategy
 unfoldable pub job_of : (List ℕ → Bool) → MarkedNode → List MarkedPair → Result JobSpec Fault

@@ -132,6 +132,17 @@ fn job_pair(
             job.max_parallel = read.max_parallel;
         }
         "steps" => job.steps = steps_in(alloc, node)?,
+        _ => return shared_pair(alloc, job, pair),
+    }
+    Ok(())
+}
+
+/// What a pair makes of a job or a deployment, by the keys that both have.
+fn shared_pair(alloc: Global, job: &mut JobSpec, pair: &MarkedPair) -> Result<(), SchemaFault>
+    ensures { Makes result job.new (read_pair spec.shared_row job.old pair.now) }
+{
+    let node = &pair.item;
+    match pair.key.as_str() {
         "dependsOn" => job.depends = Some(depends_in(alloc, node)?),
         "condition" => job.condition = Some(condition_in(alloc, node)?),
         "continueOnError" => job.go_on = truth_in(alloc, node)?,
@@ -214,18 +225,7 @@ fn deployment_pair(
         "deployment" => job.name = name_in(alloc, names, node)?,
         "environment" => job.environment = Some(environment_in(alloc, node)?),
         "strategy" => job.steps = strategy_in(alloc, node)?,
-        "dependsOn" => job.depends = Some(depends_in(alloc, node)?),
-        "condition" => job.condition = Some(condition_in(alloc, node)?),
-        "continueOnError" => job.go_on = truth_in(alloc, node)?,
-        "pool" => job.pool = Some(pool_in(alloc, node)?),
-        "timeoutInMinutes" => job.timeout = Some(limited_in(alloc, 0, LONGEST, node)?),
-        "variables" => {
-            let read = variables_in(alloc, node)?;
-            job.variables = read.variables;
-            job.groups = read.groups;
-        }
-        "displayName" | "workspace" | "cancelTimeoutInMinutes" | "templateContext" => {}
-        _ => return Err(at_key(alloc, SchemaCode::UnknownKey, pair)),
+        _ => return shared_pair(alloc, job, pair),
     }
     Ok(())
 }

@@ -17,7 +17,7 @@ use Rattle.pl_schema_parts.specs.Gives.{Fault}
 use Rattle.pl_schema.specs.Jobs.{deploy_in, deployment_of, deployment_row, held_row, holding}
 use Rattle.pl_schema.specs.Jobs.{is_whole_deployment, job_by, job_from, job_in, job_of, job_row}
 use Rattle.pl_schema.specs.Jobs.{job_names, jobs_in, minutes_in, new_job, run_once_in, strategy_in}
-use Rattle.pl_schema.specs.Jobs.{job_legs, job_variables}
+use Rattle.pl_schema.specs.Jobs.{job_legs, job_variables, shared_row}
 use Rattle.pl_schema_parts.specs.Legs.{legs_in}
 use Rattle.pl_schema_parts.specs.Names.{is_taken, name_in}
 use Rattle.pl_schema_parts.specs.Pools.{environment_in, pool_in}
@@ -96,42 +96,36 @@ module _ (P : Origin → Type 0) where
 
   -- ---- jobs
 
-  job_rows : (names : List ℕ → Bool) → Each (KeepsAt JobFrom (PairFrom P Any)) (job_row names)
-  job_rows names =
-      plain JobFrom (PairFrom P Any) (codes "job") (name_in names) _ (λ job x all. all)
-      also plain JobFrom (PairFrom P Any) (codes "dependsOn") depends_in _ (λ job x all. all)
+  shared_rows : Each (KeepsAt JobFrom (PairFrom P Any)) shared_row
+  shared_rows =
+      plain JobFrom (PairFrom P Any) (codes "dependsOn") depends_in _ (λ job x all. all)
       also plain JobFrom (PairFrom P Any) (codes "condition") condition_in _ (λ job x all. all)
-      also plain JobFrom (PairFrom P Any) (codes "strategy") legs_in job_legs (λ job x all. all)
       also plain JobFrom (PairFrom P Any) (codes "continueOnError") truth_in _ (λ job x all. all)
       also plain JobFrom (PairFrom P Any) (codes "pool") pool_in _ (λ job x all. all)
       also plain JobFrom (PairFrom P Any) (codes "timeoutInMinutes") minutes_in _ (λ job x all. all)
       also plain JobFrom (PairFrom P Any) (codes "variables") variables_in job_variables (λ job x all. all)
-      also taken P JobFrom (PairFrom P Any) (Each StepFrom) (codes "steps") steps_in _ (own (codes "steps"))
-      steps_give (λ job steps before all. all)
       also passed_keeps JobFrom (PairFrom P Any) (codes "displayName")
       also passed_keeps JobFrom (PairFrom P Any) (codes "workspace")
       also passed_keeps JobFrom (PairFrom P Any) (codes "cancelTimeoutInMinutes")
       also passed_keeps JobFrom (PairFrom P Any) (codes "templateContext")
       also tt
 
+  job_rows : (names : List ℕ → Bool) → Each (KeepsAt JobFrom (PairFrom P Any)) (job_row names)
+  job_rows names =
+      plain JobFrom (PairFrom P Any) (codes "job") (name_in names) _ (λ job x all. all)
+      also plain JobFrom (PairFrom P Any) (codes "strategy") legs_in job_legs (λ job x all. all)
+      also taken P JobFrom (PairFrom P Any) (Each StepFrom) (codes "steps") steps_in _ (own (codes "steps"))
+      steps_give (λ job steps before all. all)
+      also shared_rows
+
   deployment_rows : (names : List ℕ → Bool) →
       Each (KeepsAt JobFrom (PairFrom P Any)) (deployment_row names)
   deployment_rows names =
       plain JobFrom (PairFrom P Any) (codes "deployment") (name_in names) _ (λ job x all. all)
-      also plain JobFrom (PairFrom P Any) (codes "dependsOn") depends_in _ (λ job x all. all)
-      also plain JobFrom (PairFrom P Any) (codes "condition") condition_in _ (λ job x all. all)
-      also plain JobFrom (PairFrom P Any) (codes "continueOnError") truth_in _ (λ job x all. all)
-      also plain JobFrom (PairFrom P Any) (codes "pool") pool_in _ (λ job x all. all)
-      also plain JobFrom (PairFrom P Any) (codes "timeoutInMinutes") minutes_in _ (λ job x all. all)
-      also plain JobFrom (PairFrom P Any) (codes "variables") variables_in job_variables (λ job x all. all)
       also plain JobFrom (PairFrom P Any) (codes "environment") environment_in _ (λ job x all. all)
       also taken P JobFrom (PairFrom P Any) (Each StepFrom) (codes "strategy") strategy_in _
       (own (codes "strategy")) strategy_gives (λ job steps before all. all)
-      also passed_keeps JobFrom (PairFrom P Any) (codes "displayName")
-      also passed_keeps JobFrom (PairFrom P Any) (codes "workspace")
-      also passed_keeps JobFrom (PairFrom P Any) (codes "cancelTimeoutInMinutes")
-      also passed_keeps JobFrom (PairFrom P Any) (codes "templateContext")
-      also tt
+      also shared_rows
 
   by_kind :
       (kind : Option ItemKind) (names : List ℕ → Bool) (node : MarkedNode)
