@@ -1,5 +1,5 @@
 -- A plan's stages, jobs and legs stand as they are written.
-use Rattle.std.proofs.Common.{◌≡◌, ℕ, zero, suc, ◌+◌, Some, None, Ok, Err, List, [], ◌∷◌, ◌++◌}
+use Rattle.std.proofs.Common.{◌≡◌, ℕ, zero, suc, ◌+◌, Some, Ok, Err, List, [], ◌∷◌, ◌++◌}
 use Rattle.std.proofs.Common.{Bool, true, false, Option, refl, sym, ap, map, ◌∙◌, append_assoc}
 use Rattle.std.proofs.Common.{append-nil, subst}
 use Rattle.std.specs.Prelude.{Result, codes, decimal, flat_map, unwrap_or, if◌then◌else◌}
@@ -28,7 +28,6 @@ use Rattle.pl_uses.specs.Pools.{pool_of}
 use Rattle.pl_plan.specs.declared.legs.Leg.{Leg}
 use Rattle.pl_plan.specs.declared.plan.Plan.{Plan}
 use Rattle.pl_plan.specs.declared.plan.PlanJob.{PlanJob}
-use Rattle.pl_plan.specs.declared.plan.PlanStage.{PlanStage}
 use Rattle.pl_plan.specs.declared.plan.PlanStep.{PlanStep}
 use Rattle.pl_plan.specs.Laws.{heading_of, heading_written, matrix_names, names_written}
 use Rattle.pl_plan.specs.Laws.{slice_names}

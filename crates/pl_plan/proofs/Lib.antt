@@ -1,5 +1,6 @@
 pub mod Acyclic
 pub mod Ascending
+pub mod KeptLegs
 pub mod LegCounts
 pub mod LegEdges
 pub mod LegNames

@@ -13,7 +13,7 @@ use Rattle.pl_depends.specs.Cycles.{fault_of, stages_before, FirstCycle, Goes, I
 use Rattle.pl_depends.specs.Cycles.{JobCycles}
 use Rattle.pl_depends.specs.Gives.{Fault}
 use Rattle.pl_depends.specs.Graph.{waits_of, job_graph, stage_graph}
-use Rattle.pl_plan.specs.Plans.{judged, IsPlanOf}
+use Rattle.pl_plan.specs.Plans.{IsPlanOf}
 use Rattle.pl_plan.specs.declared.plan.Plan.{Plan}
 
 one_cycle_of : (graph : List Waiting) (f g : Option (List ℕ)) → IsCycleOf graph f →

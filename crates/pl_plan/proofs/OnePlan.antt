@@ -1,5 +1,5 @@
 -- The plan of a pipeline meets its clauses, which leave one plan.
-use Rattle.std.proofs.Common.{◌≡◌, ℕ, ◌+◌, List, [], ◌∷◌, ◌++◌, refl, sym, ap, subst, map, ◌∙◌}
+use Rattle.std.proofs.Common.{◌≡◌, ℕ, ◌+◌, List, [], ◌∷◌, ◌++◌, refl, sym, subst, map, ◌∙◌}
 use Rattle.std.specs.Prelude.{flat_map}
 use Rattle.std.specs.List.{AllZip, enumerate_from}
 use Rattle.pl_schema_parts.specs.declared.pipeline.JobSpec.{JobSpec}

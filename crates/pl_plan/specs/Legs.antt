@@ -1,9 +1,9 @@
 -- The legs into which a job is cut (Microsoft Learn, "YAML schema reference", jobs.job.strategy;
 -- "Jobs", Multi-job configuration and Slicing; "Predefined variables", System.JobPositionInPhase
 -- and System.TotalJobsInPhase).
-use Rattle.std.specs.Prelude.{ℕ, zero, suc, ◌+◌, Bool, false, ◌&&◌, not, nat_le, List, [], ◌∷◌}
-use Rattle.std.specs.Prelude.{◌++◌, length, codes, decimal, Option, Some, None, Result, Ok, Err}
-use Rattle.std.specs.Prelude.{unwrap_or, if◌then◌else◌}
+use Rattle.std.specs.Prelude.{◌≡◌, ℕ, zero, suc, ◌+◌, Bool, false, ◌&&◌, not, nat_le, List, []}
+use Rattle.std.specs.Prelude.{◌∷◌, ◌++◌, length, map, codes, decimal, Option, Some, None, Result}
+use Rattle.std.specs.Prelude.{Ok, Err, unwrap_or, if◌then◌else◌}
 use Rattle.std.specs.Char.{is_ascii_alphabetic}
 use Rattle.std.specs.List.{list_all, filter_map}
 use Rattle.std.specs.Result.{result_ok}
@@ -21,6 +21,8 @@ use Rattle.pl_schema_parts.specs.declared.pipeline.Variable.{Variable}
 use Rattle.pl_schema_parts.specs.Names.{is_taken}
 use Rattle.pl_schema_parts.specs.Variables.{variable_in}
 use Rattle.pl_depends.specs.declared.fault.PlanCode.TheVariants.{BadLeg}
+use Rattle.pl_plan.specs.declared.legs.KeptLegs.{KeptLegs}
+use Rattle.pl_plan.specs.declared.legs.KeptLegs.TheVariants as kept
 use Rattle.pl_plan.specs.declared.legs.Leg.{Leg}
 use Rattle.pl_schema_parts.specs.Rows.{in_turn}
 use Rattle.pl_depends.specs.Gives.{Fault, each_passes}
@@ -117,3 +119,19 @@ legs_judged job = legs_in job.legs >>= λ legs. Ok tt
 
 abbrev pub all_legs_judged : List StageSpec → Result (Unit {0}) Fault
 all_legs_judged stages = each_passes (λ stage. each_passes legs_judged stage.jobs) stages
+
+-- ---- what is kept of legs between being judged and being planned
+
+abbrev pub all_legs : KeptLegs → List Leg
+all_legs kept.One = only_leg ∷ []
+all_legs (kept.Slices count) = first_slices count count
+all_legs (kept.Matrix legs) = legs
+
+abbrev pub legs_written : StageSpec → List (List Leg)
+legs_written stage = map (λ job. legs_of job.legs) stage.jobs
+
+abbrev pub AreLegsOf : List JobSpec → List KeptLegs → Type 0
+AreLegsOf jobs legs = map all_legs legs ≡ map (λ job. legs_of job.legs) jobs
+
+abbrev pub AreLegsIn : List StageSpec → List (List KeptLegs) → Type 0
+AreLegsIn stages legs = map (map all_legs) legs ≡ map legs_written stages

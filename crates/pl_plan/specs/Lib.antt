@@ -2,6 +2,5 @@ pub mod Labels
 pub mod Laws
 pub mod Legs
 pub mod Limits
-pub mod Making
 pub mod Planned
 pub mod Plans

@@ -1,7 +1,7 @@
 -- What the plan of a pipeline is, clause by clause (Microsoft Learn, "YAML schema reference":
 -- pipeline, stages.stage, jobs.job, jobs.deployment, pool; "Stages" and "Jobs", Specify
 -- dependencies; "Define variables"; "Approvals and checks"). The clauses leave one plan.
-use Rattle.std.specs.Prelude.{◌≡◌, ℕ, List, ◌++◌, All, Contains, map, flat_map, Option, unwrap_or}
+use Rattle.std.specs.Prelude.{◌≡◌, ℕ, List, ◌++◌, All, Contains, map, flat_map, unwrap_or}
 use Rattle.std.specs.List.{AllZip, enumerate_from}
 use Rattle.pl_schema_parts.specs.declared.pipeline.JobSpec.{JobSpec}
 use Rattle.pl_schema_parts.specs.declared.pipeline.Pipeline.{Pipeline}

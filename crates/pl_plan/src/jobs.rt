@@ -1,14 +1,14 @@
-ghost use Rattle.std.specs.Prelude.{◌≡◌, ◌++◌, map, flat_map, IfOk, OnOk, unwrap_or};
+ghost use Rattle.std.specs.Prelude.{◌≡◌, ◌++◌, map, flat_map, IfOk, OnOk};
 ghost use Rattle.pl_depends.specs.Graph.{job_waits};
 ghost use Rattle.pl_depends.specs.Places.{leg_entries, places_under, under};
 ghost use Rattle.pl_plan.specs.Plans as spec;
 ghost use Rattle.pl_plan.specs.Plans.{plan_step};
-ghost use Rattle.pl_plan.specs.Making as making;
+ghost use Rattle.pl_plan.specs.Legs.{AreLegsOf, all_legs, legs_of};
 
-use crate::legs::{Leg, legs_of};
+use crate::legs::{KeptLegs, Leg, only_leg, slices};
 use crate::plan::{PlanJob, PlanStep};
-use crate::steps::{plan_steps, push_copies};
-use pl_base::{ExactCopy, List, Memory, Shared, Text};
+use crate::steps::{both, plan_steps};
+use pl_base::{ExactCopy, List, Memory, Shared};
 use pl_depends::{Places, job_waits, leg_places};
 use pl_schema::{JobSpec, Pipeline, PoolSpec, StageSpec};
 use pl_uses::{demands_of, pool_name, pool_of};
@@ -37,56 +37,6 @@ fn common_of(alloc: Global, places: &Places, job: &JobSpec) -> Result<Common, Me
     Ok(Common { depends, steps })
 }
 
-/// A leg without what is its own.
-fn new_leg(alloc: Global, depends: Shared<List<u32>>, steps: Shared<List<PlanStep>>) -> PlanJob
-    ensures { result ≡ making.new_leg depends steps }
-{
-    PlanJob {
-        name: Text::new(alloc),
-        leg: None,
-        deployment: false,
-        depends,
-        condition: None,
-        variables: List::new(alloc),
-        groups: List::new(alloc),
-        pool: Text::new(alloc),
-        demands: List::new(alloc),
-        max_parallel: MOST_AT_ONCE,
-        timeout: USUAL_MINUTES,
-        go_on: false,
-        steps,
-    }
-}
-
-fn add_job(alloc: Global, made: &mut PlanJob, job: &JobSpec) -> Result<(), Memory>
-    ensures { OnOk result (made.new ≡ making.with_job made.old job.now) }
-{
-    made.name = job.name.copy(alloc)?;
-    made.deployment = job.deployment;
-    made.condition = job.condition.copy(alloc)?;
-    made.groups = job.groups.copy(alloc)?;
-    made.max_parallel = job.max_parallel.unwrap_or(MOST_AT_ONCE);
-    made.timeout = job.timeout.unwrap_or(USUAL_MINUTES);
-    made.go_on = job.go_on;
-    Ok(())
-}
-
-fn add_leg(alloc: Global, made: &mut PlanJob, job: &JobSpec, leg: &Leg) -> Result<(), Memory>
-    ensures { OnOk result (made.new ≡ making.with_leg made.old job.now leg.now) }
-{
-    made.leg = leg.name.copy(alloc)?;
-    made.variables = job.variables.copy(alloc)?;
-    push_copies(alloc, &mut made.variables, leg.variables.as_slice())
-}
-
-fn add_pool(alloc: Global, made: &mut PlanJob, pool: &Option<PoolSpec>) -> Result<(), Memory>
-    ensures { OnOk result (made.new ≡ making.with_pool made.old pool.now) }
-{
-    made.pool = pool_name(alloc, pool)?;
-    made.demands = demands_of(alloc, pool)?;
-    Ok(())
-}
-
 fn plan_leg(
     alloc: Global,
     pool: &Option<PoolSpec>,
@@ -97,12 +47,30 @@ fn plan_leg(
     ensures { IfOk result (λ made. made ≡
         spec.plan_leg pool.now common.now.depends common.now.steps job.now leg.now) }
 {
+    let name = job.name.copy(alloc)?;
+    let own = leg.name.copy(alloc)?;
     let depends = common.depends.copy(alloc)?;
-    let mut made = new_leg(alloc, depends, common.steps.copy(alloc)?);
-    add_job(alloc, &mut made, job)?;
-    add_leg(alloc, &mut made, job, leg)?;
-    add_pool(alloc, &mut made, pool)?;
-    Ok(made)
+    let condition = job.condition.copy(alloc)?;
+    let variables = both(alloc, &job.variables, &leg.variables)?;
+    let groups = job.groups.copy(alloc)?;
+    let demands = demands_of(alloc, pool)?;
+    let pool = pool_name(alloc, pool)?;
+    let steps = common.steps.copy(alloc)?;
+    Ok(PlanJob {
+        name,
+        leg: own,
+        deployment: job.deployment,
+        depends,
+        condition,
+        variables,
+        groups,
+        pool,
+        demands,
+        max_parallel: job.max_parallel.unwrap_or(MOST_AT_ONCE),
+        timeout: job.timeout.unwrap_or(USUAL_MINUTES),
+        go_on: job.go_on,
+        steps,
+    })
 }
 
 fn push_legs(
@@ -122,6 +90,32 @@ fn push_legs(
     Ok(())
 }
 
+/// Puts a job for each leg.
+fn push_kept(
+    alloc: Global,
+    jobs: &mut List<PlanJob>,
+    pool: &Option<PoolSpec>,
+    common: &Common,
+    job: &JobSpec,
+    legs: &KeptLegs,
+) -> Result<(), Memory>
+    ensures { OnOk result (jobs.new ≡ jobs.old ++ map
+        (spec.plan_leg pool.now common.now.depends common.now.steps job.now)
+        (all_legs legs.now)) }
+{
+    match legs {
+        KeptLegs::One => {
+            let only = only_leg(alloc)?;
+            push_legs(alloc, jobs, pool, common, job, only.as_slice())
+        }
+        KeptLegs::Slices(count) => {
+            let slices = slices(alloc, *count)?;
+            push_legs(alloc, jobs, pool, common, job, slices.as_slice())
+        }
+        KeptLegs::Matrix(legs) => push_legs(alloc, jobs, pool, common, job, legs.as_slice()),
+    }
+}
+
 fn push_job(
     alloc: Global,
     jobs: &mut List<PlanJob>,
@@ -129,14 +123,15 @@ fn push_job(
     stage: &StageSpec,
     places: &Places,
     job: &JobSpec,
+    legs: &KeptLegs,
 ) -> Result<(), Memory>
+    requires { all_legs legs.now ≡ legs_of job.now.legs }
     ensures { OnOk result (jobs.new ≡
         jobs.old ++ spec.plan_job pipeline.now stage.now (under places.now) job.now) }
 {
-    let legs = legs_of(alloc, &job.legs)?;
     let common = common_of(alloc, places, job)?;
     let pool = pool_of(pipeline, stage, job);
-    push_legs(alloc, jobs, pool, &common, job, legs.as_slice())
+    push_kept(alloc, jobs, pool, &common, job, legs)
 }
 
 fn push_jobs(
@@ -145,26 +140,30 @@ fn push_jobs(
     pipeline: &Pipeline,
     stage: &StageSpec,
     places: &Places,
+    legs: &[KeptLegs],
 ) -> Result<(), Memory>
+    requires { AreLegsOf stage.now.jobs legs.now }
     ensures { OnOk result (jobs.new ≡ jobs.old ++
         flat_map (spec.plan_job pipeline.now stage.now (under places.now)) stage.now.jobs) }
 {
-    for job in stage.jobs.as_slice() {
-        push_job(alloc, jobs, pipeline, stage, places, job)?;
+    for (at, job) in stage.jobs.as_slice().iter().enumerate() {
+        push_job(alloc, jobs, pipeline, stage, places, job, &legs[at])?;
     }
     Ok(())
 }
 
-/// The jobs of a stage, each leg being one.
+/// The jobs of a stage, each leg being one, of these legs.
 pub fn plan_jobs(
     alloc: Global,
     pipeline: &Pipeline,
     stage: &StageSpec,
+    legs: &[KeptLegs],
 ) -> Result<List<PlanJob>, Memory>
+    requires { AreLegsOf stage.now.jobs legs.now }
     ensures { IfOk result (λ jobs. jobs ≡ spec.plan_jobs pipeline.now stage.now) }
 {
     let places = leg_places(alloc, stage.jobs.as_slice())?;
     let mut jobs = List::new(alloc);
-    push_jobs(alloc, &mut jobs, pipeline, stage, &places)?;
+    push_jobs(alloc, &mut jobs, pipeline, stage, &places, legs)?;
     Ok(jobs)
 }

@@ -4,10 +4,12 @@ ghost use Rattle.pl_base.specs.declared.value.Value.{out-Value};
 ghost use Rattle.pl_expr.specs.Grammar.{is_name_byte};
 ghost use Rattle.pl_schema_parts.specs.Names.{is_taken};
 ghost use Rattle.pl_depends.specs.declared.fault.PlanCode.TheVariants.{BadLeg};
-ghost use Rattle.pl_schema_parts.specs.Gives.{Gives};
+ghost use Rattle.pl_reading.specs.Answers as answers;
+ghost use Rattle.pl_schema_parts.specs.Gives.{Gives, told};
 ghost use Rattle.pl_schema_parts.specs.Rows.{in_turn};
 ghost use Rattle.pl_depends.specs.Gives.{Faults, each_passes};
 ghost use Rattle.pl_plan.specs.Legs as spec;
+ghost use Rattle.pl_plan.specs.Legs.{AreLegsIn, AreLegsOf};
 ghost use Rattle.pl_depends.specs.Places.{knows};
 
 use pl_base::{ExactCopy, List, MarkedNode, MarkedPair, Memory, Text, Value};
@@ -26,7 +28,17 @@ pub struct Leg {
     pub variables: List<Variable>,
 }
 
-fn only_leg(alloc: Global) -> Result<List<Leg>, Memory>
+/// The legs of a job as they are kept between being judged and being planned: those of a matrix,
+/// and how many slices there are, so that they take no more than what is written.
+#[derive(Drop)]
+pub enum KeptLegs {
+    One,
+    Slices(u32),
+    Matrix(List<Leg>),
+}
+
+/// The leg of a job that isn't cut.
+pub fn only_leg(alloc: Global) -> Result<List<Leg>, Memory>
     ensures { IfOk result (λ legs. legs ≡ spec.only_leg ∷ []) }
 {
     let mut legs = List::new(alloc);
@@ -37,7 +49,7 @@ fn only_leg(alloc: Global) -> Result<List<Leg>, Memory>
     Ok(legs)
 }
 
-fn told(alloc: Global, name: &str, number: u32) -> Result<Variable, Memory>
+fn told_number(alloc: Global, name: &str, number: u32) -> Result<Variable, Memory>
     ensures { IfOk result (λ variable. variable ≡ spec.told name.now number) }
 {
     let name = Text::from_str(alloc, name)?;
@@ -53,8 +65,8 @@ fn slice(alloc: Global, count: u32, number: u32) -> Result<Leg, Memory>
     ensures { IfOk result (λ leg. leg ≡ spec.slice count number) }
 {
     let mut variables = List::new(alloc);
-    variables.push(told(alloc, "System.JobPositionInPhase", number)?)?;
-    variables.push(told(alloc, "System.TotalJobsInPhase", count)?)?;
+    variables.push(told_number(alloc, "System.JobPositionInPhase", number)?)?;
+    variables.push(told_number(alloc, "System.TotalJobsInPhase", count)?)?;
     let name = Text::from_string(format!(in alloc; "job_{number}")?);
     Ok(Leg {
         name: Some(name),
@@ -62,7 +74,8 @@ fn slice(alloc: Global, count: u32, number: u32) -> Result<Leg, Memory>
     })
 }
 
-fn slices(alloc: Global, count: u32) -> Result<List<Leg>, Memory>
+/// The slices of a job that is cut into so many.
+pub fn slices(alloc: Global, count: u32) -> Result<List<Leg>, Memory>
     ensures { IfOk result (λ legs. legs ≡ spec.first_slices count count) }
 {
     let mut legs = List::new(alloc);
@@ -180,51 +193,49 @@ fn matrix_of(alloc: Global, node: &MarkedNode) -> Result<List<Leg>, PlanFault>
     }
 }
 
-/// The legs of a job.
+/// The legs of a job as they are kept.
 #[tactic(auto, unfolding(crate::specs::Legs::legs_in))]
-fn legs_in(alloc: Global, legs: &LegSpec) -> Result<List<Leg>, PlanFault>
-    ensures { Gives result (spec.legs_in legs.now) }
+fn legs_in(alloc: Global, legs: &LegSpec) -> Result<KeptLegs, PlanFault>
+    ensures { answers.Gives told spec.all_legs result (spec.legs_in legs.now) }
 {
     match legs {
-        LegSpec::One => Ok(only_leg(alloc)?),
-        LegSpec::Parallel(count) => Ok(slices(alloc, *count)?),
-        LegSpec::Matrix(node) => matrix_of(alloc, node),
+        LegSpec::One => Ok(KeptLegs::One),
+        LegSpec::Parallel(count) => Ok(KeptLegs::Slices(*count)),
+        LegSpec::Matrix(node) => Ok(KeptLegs::Matrix(matrix_of(alloc, node)?)),
     }
 }
 
-/// The legs of a job, once they were judged: bad ones are none.
-pub fn legs_of(alloc: Global, legs: &LegSpec) -> Result<List<Leg>, Memory>
-    ensures { IfOk result (λ found. found ≡ spec.legs_of legs.now) }
+fn legs_of_job(alloc: Global, job: &JobSpec) -> Result<KeptLegs, PlanFault>
+    ensures judged { answers.Gives told (λ kept. tt) result (spec.legs_judged job.now) }
+    ensures kept { IfOk result (λ kept. spec.all_legs kept ≡ spec.legs_of job.now.legs) }
 {
-    match legs_in(alloc, legs) {
-        Ok(legs) => Ok(legs),
-        Err(PlanFault::Refused(_, _)) => Ok(List::new(alloc)),
-        Err(PlanFault::Memory) => Err(Memory),
-    }
+    legs_in(alloc, &job.legs)
 }
 
-fn judge_job(alloc: Global, job: &JobSpec) -> Result<(), PlanFault>
-    ensures { Gives result (spec.legs_judged job.now) }
+fn legs_of_jobs(alloc: Global, jobs: &[JobSpec]) -> Result<List<KeptLegs>, PlanFault>
+    ensures judged { answers.Gives told (λ kept. tt) result
+        (each_passes spec.legs_judged jobs.now) }
+    ensures kept { IfOk result (AreLegsOf jobs.now) }
 {
-    legs_in(alloc, &job.legs)?;
-    Ok(())
-}
-
-fn judge_jobs(alloc: Global, jobs: &[JobSpec]) -> Result<(), PlanFault>
-    ensures { Gives result (each_passes spec.legs_judged jobs.now) }
-{
+    let mut kept = List::new(alloc);
     for job in jobs {
-        judge_job(alloc, job)?;
+        kept.push(legs_of_job(alloc, job)?)?;
     }
-    Ok(())
+    Ok(kept)
 }
 
-/// Refuses the first leg that isn't one, or the first matrix without a leg.
-pub fn all_legs_judged(alloc: Global, stages: &[StageSpec]) -> Result<(), PlanFault>
-    ensures { Gives result (spec.all_legs_judged stages.now) }
+/// The legs of all jobs, stage by stage. Refuses the first leg that isn't one, or the first matrix
+/// without a leg.
+pub fn legs_of_stages(
+    alloc: Global,
+    stages: &[StageSpec],
+) -> Result<List<List<KeptLegs>>, PlanFault>
+    ensures judged { answers.Gives told (λ kept. tt) result (spec.all_legs_judged stages.now) }
+    ensures kept { IfOk result (AreLegsIn stages.now) }
 {
+    let mut kept = List::new(alloc);
     for stage in stages {
-        judge_jobs(alloc, stage.jobs.as_slice())?;
+        kept.push(legs_of_jobs(alloc, stage.jobs.as_slice())?)?;
     }
-    Ok(())
+    Ok(kept)
 }

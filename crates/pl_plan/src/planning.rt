@@ -1,35 +1,40 @@
 ghost use Rattle.std.specs.Prelude.{◌≡◌, IfOk};
-ghost use Rattle.pl_schema_parts.specs.Gives.{Gives};
+ghost use Rattle.pl_reading.specs.Answers as answers;
+ghost use Rattle.pl_schema_parts.specs.Gives.{told};
 ghost use Rattle.pl_depends.specs.Gives.{Means};
 ghost use Rattle.pl_plan.specs.Laws.{IsAsWritten, IsSound};
+ghost use Rattle.pl_plan.specs.Legs.{AreLegsIn};
 ghost use Rattle.pl_plan.specs.Planned.{IsPlanned};
 ghost use Rattle.pl_plan.specs.Plans as spec;
 ghost use Rattle.pl_plan.specs.Plans.{IsPlanOf};
 
-use crate::legs::all_legs_judged;
+use crate::legs::{KeptLegs, legs_of_stages};
 use crate::limits::limits_kept;
 use crate::plan::Plan;
 use crate::stages::plan_stages;
-use pl_base::{ExactCopy, Memory};
+use pl_base::{ExactCopy, List, Memory};
 use pl_depends::{PlanFault, judge_cycles, names_known};
 use pl_schema::{Pipeline, StageSpec};
 use std::alloc::Global;
 
-/// Refuses what is judged before the cycles.
+/// The legs of all jobs. Refuses what is judged before the cycles.
 #[tactic(auto, unfolding(crate::specs::Plans::judged))]
-fn judge(alloc: Global, stages: &[StageSpec]) -> Result<(), PlanFault>
-    ensures { Gives result (spec.judged stages.now) }
+fn judge(alloc: Global, stages: &[StageSpec]) -> Result<List<List<KeptLegs>>, PlanFault>
+    ensures judged { answers.Gives told (λ kept. tt) result (spec.judged stages.now) }
+    ensures kept { IfOk result (AreLegsIn stages.now) }
 {
-    all_legs_judged(alloc, stages)?;
+    let legs = legs_of_stages(alloc, stages)?;
     limits_kept(alloc, stages)?;
-    names_known(alloc, stages)
+    names_known(alloc, stages)?;
+    Ok(legs)
 }
 
 #[tactic(auto, unfolding(crate::specs::Plans::plan_from))]
-fn plan_from(alloc: Global, pipeline: &Pipeline) -> Result<Plan, Memory>
+fn plan_from(alloc: Global, pipeline: &Pipeline, legs: &[List<KeptLegs>]) -> Result<Plan, Memory>
+    requires { AreLegsIn pipeline.now.stages legs.now }
     ensures { IfOk result (λ plan. plan ≡ spec.plan_from pipeline.now) }
 {
-    let stages = plan_stages(alloc, pipeline)?;
+    let stages = plan_stages(alloc, pipeline, legs)?;
     let root = pipeline.root.copy(alloc)?;
     let extends = pipeline.extends.copy(alloc)?;
     let linked = pipeline.linked.copy(alloc)?;
@@ -79,7 +84,7 @@ pub fn plan_of(alloc: Global, pipeline: &Pipeline) -> Result<Plan, PlanFault>
     ensures written { IfOk result (λ plan. IsAsWritten pipeline.now plan) }
     ensures planned { IfOk result (λ plan. IsPlanned pipeline.now plan) }
 {
-    judge(alloc, pipeline.stages.as_slice())?;
+    let legs = judge(alloc, pipeline.stages.as_slice())?;
     judge_cycles(alloc, pipeline.stages.as_slice())?;
-    Ok(plan_from(alloc, pipeline)?)
+    Ok(plan_from(alloc, pipeline, legs.as_slice())?)
 }

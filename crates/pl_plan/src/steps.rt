@@ -26,15 +26,20 @@ pub fn plan_steps(alloc: Global, steps: &[StepSpec]) -> Result<List<PlanStep>, M
 }
 
 /// Puts the same items once more behind those that are there.
-pub fn push_copies<T: ExactCopy>(
-    alloc: Global,
-    list: &mut List<T>,
-    items: &[T],
-) -> Result<(), Memory>
+fn push_copies<T: ExactCopy>(alloc: Global, list: &mut List<T>, items: &[T]) -> Result<(), Memory>
     ensures { OnOk result (list.new ≡ list.old ++ items.now) }
 {
     for item in items {
         list.push(item.copy(alloc)?)?;
     }
     Ok(())
+}
+
+/// The items of one list and then those of another one, once more.
+pub fn both<T: ExactCopy>(alloc: Global, first: &List<T>, then: &List<T>) -> Result<List<T>, Memory>
+    ensures { IfOk result (λ all. all ≡ first.now ++ then.now) }
+{
+    let mut all = first.copy(alloc)?;
+    push_copies(alloc, &mut all, then.as_slice())?;
+    Ok(all)
 }
