@@ -9,7 +9,7 @@ use Rattle.pl_origins.specs.Through.{IsThrough}
 use Rattle.pl_plan.specs.Plans.{IsPlanOf}
 use Rattle.pl_plan.specs.declared.plan.Compiled.{Compiled}
 use Rattle.pl_provenance.specs.Closure.{ArePairsFromClosure, IsFromClosure}
-use Rattle.pl_provenance.specs.Known.{IsKnown}
+use Rattle.pl_provenance.specs.Known.{home_in, IsKnown}
 use Rattle.pl_provenance.specs.Roots.{IsPairThrough, jobs_of}
 use Rattle.pl_provenance.specs.Written.{ArePairsWhereTold, IsWhereTold}
 use Rattle.pl_schema.specs.Pipelines.{pipeline_of}
@@ -51,13 +51,17 @@ module _ (texts : Texts) (whole : Expanded) (pipeline : Pipeline) (compiled : Co
   }
 
   pub are_known :
-      (arguments : List Argument) → compiled.sources.files ≡ texts_of texts whole.used →
-      Each (IsKnown (read_all texts) whole.used arguments) (origins_of whole.tree) →
-      AreKnown texts arguments compiled
-  are_known arguments sources known = record {
-    used = whole.used;
+      (root : FileKey) (arguments : List Argument) → Expands texts root arguments whole →
+      compiled.sources.files ≡ texts_of texts whole.used →
+      Each (IsKnown (read_all texts) (home_in root whole) whole.used arguments)
+      (origins_of whole.tree) →
+      AreKnown texts root arguments compiled
+  are_known root arguments expands sources known = record {
+    whole = whole;
+    expands = expands;
     sources = sources;
-    known = steps_hold (IsKnown (read_all texts) whole.used arguments) whole pipeline compiled.plan
-        reads plans
-        (jobs_hold (IsKnown (read_all texts) whole.used arguments) whole.tree known);
+    known = steps_hold (IsKnown (read_all texts) (home_in root whole) whole.used arguments) whole
+        pipeline compiled.plan reads plans
+        (jobs_hold (IsKnown (read_all texts) (home_in root whole) whole.used arguments)
+        whole.tree known);
   }

@@ -7,7 +7,7 @@ use Rattle.pl_base.specs.declared.place.FileKey.{FileKey}
 use Rattle.pl_origins.specs.Through.{IsThrough}
 use Rattle.pl_plan.specs.declared.plan.Compiled.{Compiled}
 use Rattle.pl_provenance.specs.Closure.{IsFromClosure}
-use Rattle.pl_provenance.specs.Known.{IsKnown}
+use Rattle.pl_provenance.specs.Known.{home_in, IsKnown}
 use Rattle.pl_provenance.specs.Written.{IsWhereTold}
 use Rattle.pl_step_origins.specs.Steps.{AreStepsFrom}
 use Rattle.pl_compile.specs.Compiling.{Expands, texts_of}
@@ -36,9 +36,12 @@ abbrev pub ComeFromClosure :
 ComeFromClosure texts root arguments file compiled =
     compiled.plan.extends ≡ Some file → AreFromClosure texts root arguments file compiled
 
--- Each origin in a step tells places of used files or of run arguments; the used files are those
--- among the plan's sources.
-pub record AreKnown (texts : Texts) (arguments : List Argument) (compiled : Compiled) : Type 0 where
-  pub used : List FileKey
-  pub sources : compiled.sources.files ≡ texts_of texts used
-  pub known : AreStepsFrom (IsKnown (read_all texts) used arguments) compiled.plan
+-- Each origin in a step tells places of used files or of run arguments, and what no argument and no
+-- expression gave stands where its borders lead; the used files are those among the plan's sources.
+pub record AreKnown (texts : Texts) (root : FileKey) (arguments : List Argument)
+    (compiled : Compiled) : Type 0 where
+  pub whole : Expanded
+  pub expands : Expands texts root arguments whole
+  pub sources : compiled.sources.files ≡ texts_of texts whole.used
+  pub known :
+      AreStepsFrom (IsKnown (read_all texts) (home_in root whole) whole.used arguments) compiled.plan

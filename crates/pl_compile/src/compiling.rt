@@ -153,8 +153,10 @@ fn sources_of(
 /// the border `extends` just once, and into that template (clause `steps`); and what of these no
 /// argument and no expression gave is written in the file of the last border that its origin tells
 /// (clause `written`), which is the template or one that it calls, itself or by files that it calls
-/// (clause `closure`). Each origin in a step tells places of used files or of run arguments (clause
-/// `known`; Microsoft Learn, Azure Pipelines, "Security through templates").
+/// (clause `closure`). Each origin in a step tells places of used files or of run arguments, its
+/// borders lead into files among the sources, and what no argument and no expression gave stands
+/// where its borders lead from the root file (clause `known`; Microsoft Learn, Azure Pipelines,
+/// "Security through templates").
 pub fn compile(
     alloc: Global,
     files: &FileSet,
@@ -166,7 +168,7 @@ pub fn compile(
     ensures written { (file : Key) → IfOk result (AreWritten files.now file) }
     ensures closure { (file : Key) →
         IfOk result (ComeFromClosure files.now root.now arguments.now file) }
-    ensures known { IfOk result (AreKnown files.now arguments.now) }
+    ensures known { IfOk result (AreKnown files.now root.now arguments.now) }
 {
     let whole = expanded(alloc, files, root, arguments)?;
     match tree_planned(alloc, &whole) {

@@ -6,7 +6,7 @@ ghost use Rattle.pl_directives.specs.Gives.{Gives};
 ghost use Rattle.pl_directives.specs.declared.fault.ExpandFault.{ExpandFault as Fault};
 ghost use Rattle.pl_eval_laws.specs.Trees.{origins_of};
 ghost use Rattle.pl_provenance.specs.Closure.{ArePairsFromClosure};
-ghost use Rattle.pl_provenance.specs.Known.{IsKnown};
+ghost use Rattle.pl_provenance.specs.Known.{IsKnown, home_in};
 ghost use Rattle.pl_provenance.specs.Roots.{IsPairThrough, jobs_of};
 ghost use Rattle.pl_provenance.specs.Written.{ArePairsWhereTold};
 ghost use Rattle.pl_compile.specs.Reading.{read_all, tree_of};
@@ -49,8 +49,9 @@ fn told(alloc: Global, expanded: Result<Expanded, ExpandFault>) -> Result<Expand
 /// and what of these no argument and no expression gave is written in the file of the last border
 /// that its origin tells (clause `written`), which is the template or a file that it calls, itself or
 /// by files that it calls (clause `closure`). Each origin in the whole tree tells places of used
-/// files or of run arguments (clause `known`; Microsoft Learn, Azure Pipelines, "Security through
-/// templates").
+/// files or of run arguments, its borders lead into used files that are there, and what no argument
+/// and no expression gave stands where its borders lead from the root file (clause `known`;
+/// Microsoft Learn, Azure Pipelines, "Security through templates").
 pub fn expanded(
     alloc: Global,
     files: &FileSet,
@@ -65,7 +66,8 @@ pub fn expanded(
     ensures closure { (file : Key) → IfOk result (λ whole. whole.extends ≡ Some file →
         ArePairsFromClosure (read_all files.now) whole.tree file) }
     ensures known { IfOk result (λ whole.
-        AllByRecursion (IsKnown (read_all files.now) whole.used arguments.now)
+        AllByRecursion
+        (IsKnown (read_all files.now) (home_in root.now whole) whole.used arguments.now)
         (origins_of whole.tree)) }
 {
     let mut read = TextFiles::new(alloc, files);

@@ -6,9 +6,11 @@ mod codes;
 mod compiling;
 mod expanding;
 mod fault;
+mod laws;
 mod refusing;
 mod text_files;
 
 pub use compiling::compile;
 pub use expanding::expanded;
 pub use fault::CompileFault;
+pub use laws::places_name_their_file;

@@ -1,5 +1,5 @@
 -- What calls of templates give.
-use Rattle.std.proofs.Common.{ℕ, zero, suc, ◌-◌, Option, Some, None, Result, List, []}
+use Rattle.std.proofs.Common.{ℕ, zero, suc, Option, Some, None, Result, List, []}
 use Rattle.std.proofs.Common.{◌∷◌, ◌++◌, map, refl, Bool, true, false, cond}
 use Rattle.std.specs.Prelude.{IfOk, codes}
 use Rattle.std.specs.List.{AllByRecursion as Each}
@@ -240,22 +240,25 @@ module _ (P : Origin → Type 0) where
       (value_parts P P one.node.value (node_parts P P one.node all.0).1))
       (λ items are. are)
 
--- ---- What P must keep across the border of a call into a file of which K holds. R holds of the
--- places of that file. A call has its item's place, and the borders that its path crossed.
+-- ---- What P must keep across the border of a call into a file, of whose item's place and of which K
+-- holds. R holds of the places of that file. A call has its item's place, and the borders that its path crossed.
 
-pub record Borders (P : Origin → Type 0) (R : FileKey → Place → Type 0) (K : FileKey → Type 0)
-    : Type 0 where
+pub record Borders (P : Origin → Type 0) (R : FileKey → Place → Type 0)
+    (K : Place → FileKey → Type 0) : Type 0 where
   pub literal :
-      (key : FileKey) (call : Origin) (place : Place) → K key → P call → R key place →
+      (key : FileKey) (call : Origin) (place : Place) → K call.source key → P call →
+      R key place →
       P (record { source = place; crossings = call.crossings ++ Include key call.source ∷ [] })
   pub made :
-      (key : FileKey) (call : Origin) (place : Place) → K key → P call → R key place →
+      (key : FileKey) (call : Origin) (place : Place) → K call.source key → P call →
+      R key place →
       P (record {
         source = place;
         crossings = (call.crossings ++ Include key call.source ∷ []) ++ Made ∷ [];
       })
   pub argument :
-      (key : FileKey) (call given : Origin) (name : List ℕ) (place : Place) → K key → P call →
+      (key : FileKey) (call given : Origin) (name : List ℕ) (place : Place) →
+      K call.source key → P call →
       P given → R key place →
       Seen P (R key) (across (Argument name place) (across (Include key call.source) given))
 
@@ -263,21 +266,21 @@ pub record Borders (P : Origin → Type 0) (R : FileKey → Place → Type 0) (K
 abbrev pub FileIn : (FileKey → Place → Type 0) → OpenedFile → Type 0
 FileIn R opened = IfOk (file_node opened.file) (NodeIn (R opened.key))
 
-pub record OpensFrom (R : FileKey → Place → Type 0) (K : FileKey → Type 0)
+pub record OpensFrom (R : FileKey → Place → Type 0) (K : Place → FileKey → Type 0)
     (U : List FileKey → Type 0) (opens : Opens) : Type 0 where
   pub file :
       (at : Place) (path : List ℕ) (used : List FileKey) →
       IfOk (opens at path used) (λ both. FileIn R both.0)
   pub used :
       (at : Place) (path : List ℕ) (used : List FileKey) →
-      Gives U (Unit {0}) used (opens at path used) (λ opened. K opened.key)
+      Gives U (Unit {0}) used (opens at path used) (λ opened. K at opened.key)
 
-module _ (P : Origin → Type 0) (R : FileKey → Place → Type 0) (K : FileKey → Type 0)
+module _ (P : Origin → Type 0) (R : FileKey → Place → Type 0) (K : Place → FileKey → Type 0)
     (U : List FileKey → Type 0) (borders : Borders P R K) (opens : Opens)
     (opening : OpensFrom R K U opens) where
   frame_for_from :
       (key : FileKey) (pairs : List NodePair) (call : Called) (frame : Frame) →
-      Each (PairIn (R key)) pairs → K key → CallFrom P call →
+      Each (PairIn (R key)) pairs → K call.at key → CallFrom P call →
       IfOk (frame_for key pairs call frame) (FrameFrom P (R key))
   frame_for_from key pairs call frame within known from =
       let at : Origin = record { source = call.at; crossings = call.crossings } in
@@ -303,37 +306,37 @@ module _ (P : Origin → Type 0) (R : FileKey → Place → Type 0) (K : FileKey
       first_then U (CallFrom P) S H used (call_of item) _ (call_of_from P item)
       (λ call. static_then U (FollowFrom P U) S (H × CallFrom P call) used (deeper next call.at) _
       (deeper_from next call.at follows)
-      (λ follow goes. used_static_then U (FileIn R) (λ (opened : OpenedFile). K opened.key) S
+      (λ follow goes. used_static_then U (FileIn R) (λ (opened : OpenedFile). K call.at opened.key) S
       (H × CallFrom P call) used (opens call.at call.path used) _
       (opening.file call.at call.path used)
-      (given U (λ (opened : OpenedFile). K opened.key) (Unit {0}) (H × CallFrom P call) used
+      (given U (λ (opened : OpenedFile). K call.at opened.key) (Unit {0}) (H × CallFrom P call) used
       (opens call.at call.path used) (λ h. tt) (opening.used call.at call.path used))
       (λ opened later file. static_then U (NodeIn (R opened.key)) S
-      ((H × CallFrom P call) × K opened.key) later (file_node opened.file) _ file
+      ((H × CallFrom P call) × K call.at opened.key) later (file_node opened.file) _ file
       (λ node within. static_then U (Each (PairIn (R opened.key))) S
-      ((H × CallFrom P call) × K opened.key) later (template_in node) _
+      ((H × CallFrom P call) × K call.at opened.key) later (template_in node) _
       (template_inside (R opened.key) node within)
       (λ pairs inside. static_then U (NodeIn (R opened.key)) S
-      ((H × CallFrom P call) × K opened.key) later (body_in form node.place pairs) _
+      ((H × CallFrom P call) × K call.at opened.key) later (body_in form node.place pairs) _
       (body_inside (R opened.key) form node.place pairs inside)
       (λ body stands. first_then U (FrameFrom P (R opened.key)) S
-      ((H × CallFrom P call) × K opened.key) later
+      ((H × CallFrom P call) × K call.at opened.key) later
       (frame_for opened.key pairs call frame) _
       (λ h. frame_for_from opened.key pairs call frame inside h.1 h.0.1)
       (λ inner. plain_then U S
-      (((H × CallFrom P call) × K opened.key) × FrameFrom P (R opened.key) inner) later
+      (((H × CallFrom P call) × K call.at opened.key) × FrameFrom P (R opened.key) inner) later
       (entered node.place count) _
       (λ count. plain_then U S
-      (((H × CallFrom P call) × K opened.key) × FrameFrom P (R opened.key) inner) later
+      (((H × CallFrom P call) × K call.at opened.key) × FrameFrom P (R opened.key) inner) later
       (body_fits form body) _
       (λ none. used_then U (OneFrom P (R opened.key)) S
-      (((H × CallFrom P call) × K opened.key) × FrameFrom P (R opened.key) inner) later
+      (((H × CallFrom P call) × K call.at opened.key) × FrameFrom P (R opened.key) inner) later
       (expanded body (scope_of follow inner (InCalls form)) count later) _
       (expanded_gives P (R opened.key) U body stands
-      (((H × CallFrom P call) × K opened.key) × FrameFrom P (R opened.key) inner) follow inner
+      (((H × CallFrom P call) × K call.at opened.key) × FrameFrom P (R opened.key) inner) follow inner
       (InCalls form) count later goes (λ h. h.1))
       (λ one last. alone_gives U S
-      ((((H × CallFrom P call) × K opened.key) × FrameFrom P (R opened.key) inner)
+      ((((H × CallFrom P call) × K call.at opened.key) × FrameFrom P (R opened.key) inner)
       × OneFrom P (R opened.key) one) last (items_from form body.place one)
       (λ h. items_from_inside P (R opened.key) form body.place one h.1)))))))))))
 

@@ -43,8 +43,8 @@ any_ok Q all (Err fault) = tt
 abbrev pub NoPlace : FileKey → Place → Type 0
 NoPlace key place = Unit {0}
 
-abbrev pub NoFile : FileKey → Type 0
-NoFile key = Unit {0}
+abbrev pub NoFile : Place → FileKey → Type 0
+NoFile at key = Unit {0}
 
 abbrev pub NoFiles : List FileKey → Type 0
 NoFiles used = Unit {0}
@@ -64,7 +64,7 @@ opens_anything opens = record {
       (opens at path used);
   used =
       λ at path used. any_ok (λ both. (NoFiles both.1 → NoFiles used)
-      × (NoFiles both.1 → Unit {0} → NoFile both.0.key)) (λ both. (λ ends. tt, λ ends h. tt))
+      × (NoFiles both.1 → Unit {0} → NoFile at both.0.key)) (λ both. (λ ends. tt, λ ends h. tt))
       (opens at path used);
 }
 

@@ -121,7 +121,8 @@ module _ (P Q L M : Origin → Type 0) (move : Origin → Origin)
       search (rules, the_lemmas) in
       let below : Each (PairFrom P L) pairs = rw opened_is at (value_parts P L _ from) in
       subst (ValueFrom Q M) is
-      (object_from Q M _ (moved_each (PairFrom P L) (PairFrom Q M) (pair_moved move) pairs parts below))
+      (object_from Q M _
+      (moved_each (PairFrom P L) (PairFrom Q M) (pair_moved move) pairs parts below))
 
   whole_moves :
       (origin : Origin) (one : Value) → ValueMoves one →

@@ -7,9 +7,11 @@ use Rattle.pl_base.specs.declared.node.Node.{Node}
 use Rattle.pl_base.specs.declared.node.NodeBody.{NodeBody, out-NodeBody, roll-NodeBody, the_lemmas}
 use Rattle.pl_base.specs.declared.node.NodePair.{NodePair}
 use Rattle.pl_base.specs.declared.node.NodeBody.TheOpen.{Scalar, Seq, Map}
+use Rattle.pl_base.specs.declared.node.NodeBody.TheVariants as written
 use Rattle.pl_literal.specs.Items.{is}
 use Rattle.pl_calls.specs.Parts.{Body, body_of, under}
-use Rattle.pl_eval_laws.proofs.Lists.{Has, has_map, each_found, each_front, each_back, each_of}
+use Rattle.pl_eval_laws.proofs.Lists.{Has, has_map, each_append, each_found, each_front, each_back}
+use Rattle.pl_eval_laws.proofs.Lists.{each_of}
 use Rattle.pl_origins.specs.Places.{Places, together, places_of, places_below, places_in}
 
 abbrev layer_places : Body → Places
@@ -92,3 +94,60 @@ module _ (R : Place → Type 0) where
   pub anywhere : ((place : Place) → R place) → (node : Node) → NodeIn R node
   unfolding NodeIn
   anywhere all node = each_of R all (places_of node)
+
+  -- ---- and the other way: of the parts, so of the node
+
+  together_in :
+      {X : Type 0} (f : X → Places) (xs : List X) → Each (λ x. Each R (f x)) xs →
+      Each R (together (map f xs))
+  together_in f [] all = tt
+  together_in f (x ∷ xs) all =
+      each_append R (f x) (together (map f xs)) all.0 (together_in f xs all.1)
+
+  layer_made : (layer : Body) → BodyIn R layer → Each R (layer_places layer)
+  unfolding NodeIn PairIn
+  layer_made (Scalar text) all = tt
+  layer_made (Seq items) all = together_in places_of items all
+  layer_made (Map pairs) all = together_in places_in pairs all
+
+  node_made :
+      (place : Place) (layer : Body) → R place → BodyIn R layer →
+      NodeIn R (record { place = place; body = roll-NodeBody layer })
+  unfolding NodeIn
+  node_made place layer here within =
+      let below : Each R (places_below (roll-NodeBody layer)) =
+      subst (Each R) (sym (body_places layer)) (layer_made layer within) in
+      let all : Each R (place ∷ places_below (roll-NodeBody layer)) = (here, below) in
+      subst (Each R) (sym (node_places place (roll-NodeBody layer))) all
+
+  pub scalar_made :
+      (place : Place) (text : List ℕ) → R place →
+      NodeIn R (record { place = place; body = written.Scalar text })
+  scalar_made place text here =
+      let rolled : roll-NodeBody (Scalar text) ≡ written.Scalar text = search (rules, the_lemmas) in
+      subst (λ (body : NodeBody). NodeIn R (record { place = place; body = body })) rolled
+      (node_made place (Scalar text) here tt)
+
+  pub seq_made :
+      (place : Place) (items : List Node) → R place → Each (NodeIn R) items →
+      NodeIn R (record { place = place; body = written.Seq items })
+  seq_made place items here within =
+      let rolled : roll-NodeBody (Seq items) ≡ written.Seq items = search (rules, the_lemmas) in
+      subst (λ (body : NodeBody). NodeIn R (record { place = place; body = body })) rolled
+      (node_made place (Seq items) here within)
+
+  pub map_made :
+      (place : Place) (pairs : List NodePair) → R place → Each (PairIn R) pairs →
+      NodeIn R (record { place = place; body = written.Map pairs })
+  map_made place pairs here within =
+      let rolled : roll-NodeBody (Map pairs) ≡ written.Map pairs = search (rules, the_lemmas) in
+      subst (λ (body : NodeBody). NodeIn R (record { place = place; body = body })) rolled
+      (node_made place (Map pairs) here within)
+
+  pub pair_made :
+      (key : List ℕ) (key_place : Place) (item : Node) → R key_place → NodeIn R item →
+      PairIn R (record { key = key; key_place = key_place; item = item })
+  unfolding NodeIn PairIn
+  pair_made key key_place item here within =
+      let all : Each R (key_place ∷ places_of item) = (here, within) in
+      subst (Each R) (sym (pair_places key key_place item)) all

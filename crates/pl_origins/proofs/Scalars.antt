@@ -18,7 +18,6 @@ use Rattle.pl_template.specs.declared.forms.ScalarForm.{ScalarForm}
 use Rattle.pl_template.specs.declared.forms.ScalarForm.TheVariants.{Plain, Whole, Joined, Unclosed}
 use Rattle.pl_template.specs.declared.forms.KeyForm.{KeyForm}
 use Rattle.pl_template.specs.declared.forms.KeyForm.TheVariants as form
-use Rattle.pl_template.specs.declared.forms.Piece.{Piece}
 use Rattle.pl_template.specs.Keys.{key_form_of}
 use Rattle.pl_directives.specs.declared.action.Action.{Action}
 use Rattle.pl_directives.specs.declared.action.Action.TheVariants as action
@@ -42,8 +41,8 @@ use Rattle.pl_origins.proofs.Frames.{Seen, SeenFrom, FrameFrom, literal_seen, ma
 use Rattle.pl_origins.proofs.Frames.{made_object, value_from}
 use Rattle.pl_origins.proofs.Steps.{ok_then, any_then}
 
--- What stands in a frame's place: calls that it holds gave what isn't seen in the frame, but its own
--- origin is, and the one of its first value.
+-- What stands in a frame's place: calls that it holds gave what isn't seen in the frame, but its
+-- own origin is, and the one of its first value.
 abbrev pub HeldFrom : (Origin → Type 0) → (Place → Type 0) → MarkedNode → Type 0
 HeldFrom P R node =
     NodeFrom P P node × (Seen P R node.origin × Has (Seen P R) (head_of node.value))
@@ -100,7 +99,8 @@ module _ (P : Origin → Type 0) (R : Place → Type 0) (frame : Frame) (from : 
       text_seen P R (literal_at frame place) text (literal_seen P R frame from place stands)
   scalar_from (Whole inside) text count = counted_value_from inside count
   scalar_from (Joined pieces) text count =
-      any_then (SeenOne P R) (pieces_behind frame place pieces (record { text = []; count = count }))
+      any_then (SeenOne P R)
+      (pieces_behind frame place pieces (record { text = []; count = count }))
       _ (λ joined. text_seen P R (made_at frame place) joined.text
       (made_seen P R frame from place stands))
   scalar_from Unclosed text count = tt
@@ -179,7 +179,8 @@ module _ (P : Origin → Type 0) (R : Place → Type 0) (frame : Frame) (from : 
       IfOk (items_for opened frame place name count) (ActionFrom P R)
   items_from (layer.Array items) name count all = all
   items_from (layer.Object pairs) name count all =
-      each_map (PairFrom (Seen P R) P) (SeenFrom P R) (pair_object frame place) turn_of_pair pairs all
+      each_map (PairFrom (Seen P R) P) (SeenFrom P R) (pair_object frame place) turn_of_pair pairs
+      all
   items_from layer.Null name count all = tt
   items_from (layer.Bool truth) name count all = tt
   items_from (layer.Number number) name count all = tt

@@ -158,17 +158,17 @@ module _ (files : Set) where
   pub led_crossing : ExtendsBorder Before Led (IsIn files) NoFile
   led_crossing = record {
     literal =
-        λ key path place known own here. (
+        λ key at path place known own here. (
           extends_one path.crossings key own,
           λ written. subst (λ crossings. IsLedTo files key crossings place)
               (sym (first_behind path.crossings key own)) here,
         );
     made =
-        λ key path place known own here.
+        λ key at path place known own here.
         given_led key (path.crossings ++ Extends key ∷ []) Made (λ none. none) refl
         (extends_one path.crossings key own) place;
     argument =
-        λ key one name place known own here.
+        λ key from one name place known own here.
         let led = given_led key (one.crossings ++ Extends key ∷ []) (Argument name place)
         (λ none. none) refl (extends_one one.crossings key own) in
         (led one.source, λ at stands. led at);

@@ -61,28 +61,31 @@ use Rattle.pl_origins.proofs.Steps.{used_then, used_static_then, alone_gives, do
 use Rattle.pl_expand.specs.declared.extending.Extension.{Extension}
 use Rattle.pl_expand.specs.Extending.{path_in, mapping_from, value_from, argument_behind}
 use Rattle.pl_expand.specs.Extending.{arguments_behind, may_extend, extended_pairs, body_pair}
-use Rattle.pl_expand.specs.Extending.{body_pairs, pairs_there, extension_of, body_filled, opened_filled}
-use Rattle.pl_expand.specs.Extending.{Asked, asking, shown_by, shown, reached_filled}
+use Rattle.pl_expand.specs.Extending.{body_pairs, pairs_there, extension_of, body_filled}
+use Rattle.pl_expand.specs.Extending.{opened_filled, Asked, asking, shown_by, shown, reached_filled}
 use Rattle.pl_expand.specs.Extending.{mapping_extended, item_under, argument_given}
 use Rattle.pl_expand.specs.Extending.{arguments_given, path_given, pairs_asked, extended_from}
 use Rattle.pl_expand.specs.Extending.{value_extended, are_plain, pairs_extended, text_extended}
 use Rattle.pl_expand.specs.Extending.{extended_by, extended}
 
--- What must be so across the border of `extends` into a file of which K holds: P holds of the
--- origins of the root's frame, and T of those of the template's.
+-- What must be so across the border of `extends` into a file, of which and of whose path's place K
+-- holds: P holds of the origins of the root's frame, and T of those of the template's.
 pub record ExtendsBorder (P : Origin → Type 0) (T : FileKey → Origin → Type 0)
-    (R : FileKey → Place → Type 0) (K : FileKey → Type 0) : Type 0 where
+    (R : FileKey → Place → Type 0) (K : Place → FileKey → Type 0) : Type 0 where
   pub literal :
-      (key : FileKey) (path : Origin) (place : Place) → K key → P path → R key place →
+      (key : FileKey) (at : Place) (path : Origin) (place : Place) → K at key → P path →
+      R key place →
       T key (record { source = place; crossings = path.crossings ++ Extends key ∷ [] })
   pub made :
-      (key : FileKey) (path : Origin) (place : Place) → K key → P path → R key place →
+      (key : FileKey) (at : Place) (path : Origin) (place : Place) → K at key → P path →
+      R key place →
       T key (record {
         source = place;
         crossings = (path.crossings ++ Extends key ∷ []) ++ Made ∷ [];
       })
   pub argument :
-      (key : FileKey) (one : Origin) (name : List ℕ) (place : Place) → K key → P one →
+      (key : FileKey) (at : Place) (one : Origin) (name : List ℕ) (place : Place) → K at key →
+      P one →
       R key place → Seen (T key) (R key) (across (Argument name place) (across (Extends key) one))
 
 abbrev pub PairsFrom : (Origin → Type 0) → SettledPairs → Type 0
@@ -296,7 +299,7 @@ module _ (P : Origin → Type 0) where
 -- ---- the extension
 
 module _ (P : Origin → Type 0) (T : FileKey → Origin → Type 0) (R : FileKey → Place → Type 0)
-    (K : FileKey → Type 0) (U : List FileKey → Type 0) (border : ExtendsBorder P T R K)
+    (K : Place → FileKey → Type 0) (U : List FileKey → Type 0) (border : ExtendsBorder P T R K)
     (inside : (file : FileKey) → Borders (T file) R K) (outside : Borders P R K) (opens : Opens)
     (opening : OpensFrom R K U opens) where
   pub levels_follow : (levels : ℕ) → FollowFrom P U (followed levels opens)
@@ -325,9 +328,9 @@ module _ (P : Origin → Type 0) (T : FileKey → Origin → Type 0) (R : FileKe
 
   opened_gives :
       (opened : OpenedFile) (asked : Asked) (H : Type 0) (frame : Frame) (count : ℕ)
-      (used : List FileKey) → FileIn R opened → (H → K opened.key) → (H → AskedFrom P asked) →
-      Gives U H used (opened_filled opened asked.shown asked.arguments (followed 99 opens) frame count
-      used)
+      (used : List FileKey) → FileIn R opened → (H → K asked.at opened.key) → (H → AskedFrom P asked) →
+      Gives U H used
+      (opened_filled opened asked.shown asked.arguments (followed 99 opens) frame count used)
       (ExtensionFrom T)
   opened_gives opened asked H frame count used file known all =
       let S = ExtensionFrom T in
@@ -339,9 +342,9 @@ module _ (P : Origin → Type 0) (T : FileKey → Origin → Type 0) (R : FileKe
       (framed_by (template_of key pairs) frame.variables asked.arguments (Extends key)
       asked.shown.crossings) _
       (λ h. framed_from P (T key) (R key) (Extends key) asked.shown.crossings
-      (λ place here. border.literal key asked.shown place (known h) (all h).0 here)
-      (λ place here. border.made key asked.shown place (known h) (all h).0 here)
-      (λ origin is name place here. border.argument key origin name place (known h) is here)
+      (λ place here. border.literal key asked.at asked.shown place (known h) (all h).0 here)
+      (λ place here. border.made key asked.at asked.shown place (known h) (all h).0 here)
+      (λ origin is name place here. border.argument key asked.at origin name place (known h) is here)
       key pairs frame.variables asked.arguments stands (all h).1)
       (λ inner. body_gives key node.place pairs 99 (H × FrameFrom (T key) (R key) inner) inner
       count used stands (λ h. h.1))))
@@ -352,11 +355,11 @@ module _ (P : Origin → Type 0) (T : FileKey → Origin → Type 0) (R : FileKe
       Gives U H used (reached_filled opens asked frame count used) (ExtensionFrom T)
   reached_gives asked H frame count used all =
       let S = ExtensionFrom T in
-      used_static_then U (FileIn R) (λ (opened : OpenedFile). K opened.key) S H used
+      used_static_then U (FileIn R) (λ (opened : OpenedFile). K asked.at opened.key) S H used
       (opens asked.at asked.path used) _ (opening.file asked.at asked.path used)
-      (given U (λ (opened : OpenedFile). K opened.key) (Unit {0}) H used
+      (given U (λ (opened : OpenedFile). K asked.at opened.key) (Unit {0}) H used
       (opens asked.at asked.path used) (λ h. tt) (opening.used asked.at asked.path used))
-      (λ opened later file. opened_gives opened asked (H × K opened.key) frame count later file
+      (λ opened later file. opened_gives opened asked (H × K asked.at opened.key) frame count later file
       (λ h. h.1) (λ h. all h.0))
 
   from_gives :

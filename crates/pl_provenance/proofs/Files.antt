@@ -69,7 +69,7 @@ module _ (files : Set) where
     file = files_stand home;
     used =
         λ at path used. any_ok (λ both. (NoFiles both.1 → NoFiles used)
-        × (NoFiles both.1 → Unit {0} → NoFile both.0.key)) (λ both. (λ ends. tt, λ ends h. tt))
+        × (NoFiles both.1 → Unit {0} → NoFile at both.0.key)) (λ both. (λ ends. tt, λ ends h. tt))
         (opens_of files home at path used);
   }
 

@@ -30,7 +30,7 @@ use Rattle.pl_directives.specs.declared.fault.ExpandProblem.TheVariants.{TooMany
 use Rattle.pl_directives.specs.Complaints.{refused}
 use Rattle.pl_calls.specs.Meant.{◌>>>◌}
 use Rattle.pl_calls.specs.Parts.{Body, body_of, under}
-use Rattle.pl_calls.specs.Reaching.{opens as opens_of, target, same_file, is_called}
+use Rattle.pl_calls.specs.Reaching.{Opens, opens as opens_of, target, same_file, is_called}
 use Rattle.pl_calls.specs.Reaching.{called_then, found_at, opened_at}
 use Rattle.pl_calls.specs.declared.files.Parsed.{Parsed}
 use Rattle.pl_calls.specs.declared.reaching.Home.{Home}
@@ -49,7 +49,7 @@ use Rattle.pl_origins.proofs.Expanded.{expanded_gives}
 use Rattle.pl_origins.proofs.Frames.{Seen, ParameterFrom}
 use Rattle.pl_origins.proofs.Nodes.{NodeIn, PairIn, BodyIn, node_in, under_in}
 use Rattle.pl_origins.proofs.Scalars.{OneFrom}
-use Rattle.pl_origins.proofs.Steps.{Used, Gives, ok_then, plain_then, used_then}
+use Rattle.pl_origins.proofs.Steps.{Used, Gives, ok_then, static_then, used_then}
 use Rattle.pl_origins.proofs.Steps.{done_gives}
 use Rattle.pl_expand.specs.declared.rooting.RootFilling.{RootFilling}
 use Rattle.pl_expand.specs.declared.root.RootNode.{RootNode}
@@ -62,8 +62,9 @@ use Rattle.pl_root.specs.Frames.{first_frame}
 use Rattle.pl_expand.specs.Tree.{root_from, root_object, root_mapping, pairs_expanded, home_of}
 use Rattle.pl_expand.specs.Tree.{bare_home, used_files, mapping_expanded, bare_expanded}
 use Rattle.pl_expand.specs.Tree.{other_expanded, body_expanded_by, root_node, tree_of}
-use Rattle.pl_provenance.specs.Known.{IsUsed, IsGiven, IsUsedFile, IsBorder}
-use Rattle.pl_provenance.specs.Known.{IsKnown, OriginsAreKnown}
+use Rattle.pl_provenance.specs.Known.{IsUsed, IsGiven, IsPlace, IsUsedFile, IsReached, IsBorder}
+use Rattle.pl_provenance.specs.Known.{Leads, IsOfFiles, home_in, IsKnown, OriginsAreKnown}
+use Rattle.pl_provenance.specs.Written.{StandsInFile}
 use Rattle.pl_provenance.proofs.Extended.{ExtendsBorder, ExtensionFrom}
 use Rattle.pl_provenance.proofs.Merged.{object_from_root}
 use Rattle.pl_provenance.proofs.Rooted.{RootBorder, ArgumentIn, parameters_are, root_frame_from}
@@ -144,44 +145,86 @@ module _ (final : List FileKey) where
       by true called = (λ all. all, λ all h. called_used key used called all)
       by false other = more (nat_le 100 (length used))
 
-  module _ (files : Set) where
-    abbrev IsFinal : OpenedFile → Type 0
-    IsFinal opened = IsUsedFile files final opened.key
+  module _ (files : Set) (home : Home) where
+    -- of which is known where the item of a call stands
+    abbrev IsCalledFrom : Place → FileKey → Type 0
+    IsCalledFrom at key = IsUsedFile files final key × IsReached home at key
+
+    abbrev IsFinal : Place → OpenedFile → Type 0
+    IsFinal at opened = IsCalledFrom at opened.key
 
     found_gives :
         (at : Place) (key : FileKey) (found : Option Parsed) (used : List FileKey) →
-        finite.get files key ≡ found →
-        Gives AreUsed (Unit {0}) used (found_at at key found used) IsFinal
-    found_gives at key None used there = tt
-    found_gives at key (Some file) used there =
-        used_then AreUsed (λ none. Contains final key) IsFinal (Unit {0}) used
+        finite.get files key ≡ found → IsReached home at key →
+        Gives AreUsed (Unit {0}) used (found_at at key found used) (IsFinal at)
+    found_gives at key None used there reached = tt
+    found_gives at key (Some file) used there reached =
+        used_then AreUsed (λ none. Contains final key) (IsFinal at) (Unit {0}) used
         (called_then at key used) _ (then_gives at key used)
-        (λ none later. done_gives AreUsed IsFinal (Unit {0} × Contains final key) later
-        (record { key = key; file = file }) (λ h. (h.1, (file, there))))
+        (λ none later. done_gives AreUsed (IsFinal at) (Unit {0} × Contains final key) later
+        (record { key = key; file = file }) (λ h. ((h.1, (file, there)), reached)))
 
     opened_gives :
-        (at : Place) (key : Option FileKey) (used : List FileKey) →
-        Gives AreUsed (Unit {0}) used (opened_at files at key used) IsFinal
-    opened_gives at None used = tt
-    opened_gives at (Some key) used = found_gives at key (finite.get files key) used refl
+        (at : Place) (path : List ℕ) (key : Option FileKey) (used : List FileKey) →
+        target at (cut_path path) home ≡ Ok key →
+        Gives AreUsed (Unit {0}) used (opened_at files at key used) (IsFinal at)
+    opened_gives at path None used leads = tt
+    opened_gives at path (Some key) used leads =
+        found_gives at key (finite.get files key) used refl (path, leads)
 
-    opens_known : (home : Home) →
-        OpensFrom (IsIn files) (IsUsedFile files final) AreUsed (opens_of files home)
-    opens_known home = record {
+    itself :
+        {X : Type 0} (step : Result X ExpandFault) → IfOk step (λ x. step ≡ Ok x)
+    itself (Ok x) = refl
+    itself (Err fault) = tt
+
+    opens_known : OpensFrom (IsIn files) IsCalledFrom AreUsed (opens_of files home)
+    opens_known = record {
       file = files_stand files home;
       used =
-          λ at path used. plain_then AreUsed IsFinal (Unit {0}) used
-          (target at (cut_path path) home) _ (λ key. opened_gives at key used);
+          λ at path used. static_then AreUsed (λ key. target at (cut_path path) home ≡ Ok key)
+          (IsFinal at) (Unit {0}) used (target at (cut_path path) home) _
+          (itself (target at (cut_path path) home))
+          (λ key leads. opened_gives at path key used leads);
     }
+
+-- ---- one border more leads on
+
+module _ (files : Set) where
+  called_on :
+      (file : FileKey) (crossings : List Crossing) (key : FileKey) (at place : Place) →
+      Leads files file crossings at → StandsInFile files key place →
+      Leads files file (crossings ++ Include key at ∷ []) place
+  called_on file [] key at place leads stands = (leads, stands)
+  called_on file (Extends other ∷ crossings) key at place leads stands =
+      called_on other crossings key at place leads stands
+  called_on file (Include other there ∷ crossings) key at place leads stands =
+      (leads.0, called_on other crossings key at place leads.1 stands)
+  called_on file (Argument name there ∷ crossings) key at place leads stands = leads
+  called_on file (Made ∷ crossings) key at place leads stands = leads
+
+  extended_on :
+      (file : FileKey) (crossings : List Crossing) (key : FileKey) (there place : Place) →
+      Leads files file crossings there → StandsInFile files key place →
+      Leads files file (crossings ++ Extends key ∷ []) place
+  extended_on file [] key there place leads stands = stands
+  extended_on file (Extends other ∷ crossings) key there place leads stands =
+      extended_on other crossings key there place leads stands
+  extended_on file (Include other at ∷ crossings) key there place leads stands =
+      (leads.0, extended_on other crossings key there place leads.1 stands)
+  extended_on file (Argument name at ∷ crossings) key there place leads stands = leads
+  extended_on file (Made ∷ crossings) key there place leads stands = leads
 
 -- ---- what is known is kept across borders
 
-module _ (files : Set) (final : List FileKey) (arguments : List RunArgument) where
+module _ (files : Set) (home : Home) (final : List FileKey) (arguments : List RunArgument) where
   abbrev Known : Origin → Type 0
-  Known = IsKnown files final arguments
+  Known = IsKnown files home final arguments
 
   abbrev Border : Crossing → Type 0
-  Border = IsBorder files final arguments
+  Border = IsBorder files home final arguments
+
+  abbrev Led : List Crossing → Place → Type 0
+  Led crossings place = Each IsOfFiles crossings → Leads files home.root crossings place
 
   in_file : (key : FileKey) (place : Place) → Contains final key → IsIn files key place →
       IsUsed files final place
@@ -191,71 +234,100 @@ module _ (files : Set) (final : List FileKey) (arguments : List RunArgument) whe
       Border crossing → Each Border (crossings ++ crossing ∷ [])
   behind crossings crossing all one = each_append Border crossings (crossing ∷ []) all (one, tt)
 
-  -- what is seen in a frame keeps its borders wherever it stands in the frame's file
-  seen :
-      (key : FileKey) (origin : Origin) → Contains final key → Known origin →
-      Seen Known (IsIn files key) origin
-  seen key origin known own =
-      (own, λ at stands. (inl (in_file key at known stands), own.1))
+  -- what stands before a border between files has such borders alone
+  before : (crossings : List Crossing) (crossing : Crossing) →
+      Each IsOfFiles (crossings ++ crossing ∷ []) → Each IsOfFiles crossings
+  before crossings crossing all = each_front IsOfFiles crossings (crossing ∷ []) all
 
-  known_inside : Borders Known (IsIn files) (IsUsedFile files final)
+  -- behind an argument or an expression nothing is led
+  given_led : (crossings : List Crossing) (crossing : Crossing) (place : Place) →
+      (IsOfFiles crossing → ⊥) → Led (crossings ++ crossing ∷ []) place
+  given_led crossings crossing place none all =
+      absurd (none (each_back IsOfFiles crossings (crossing ∷ []) all).0)
+
+  -- what an argument gave keeps its borders wherever it stands in the frame's file
+  given_seen :
+      (key : FileKey) (source : Place) (crossings : List Crossing) (name : List ℕ)
+      (place : Place) → Contains final key → IsIn files key place →
+      IsPlace files final arguments source → Each Border crossings →
+      Seen Known (IsIn files key)
+      (record { source = source; crossings = crossings ++ Argument name place ∷ [] })
+  given_seen key source crossings name place known here own all =
+      let borders = behind crossings (Argument name place) all (in_file key place known here) in (
+        (own, borders, given_led crossings (Argument name place) source (λ none. none)),
+        λ at stands. (
+          inl (in_file key at known stands),
+          borders,
+          given_led crossings (Argument name place) at (λ none. none),
+        ),
+      )
+
+  abbrev Called : Place → FileKey → Type 0
+  Called = IsCalledFrom final files home
+
+  known_inside : Borders Known (IsIn files) Called
   known_inside = record {
     literal =
         λ key call place known own here. (
-          inl (in_file key place known.0 here),
-          behind call.crossings (Include key call.source) own.1 (known, own.0),
+          inl (in_file key place known.0.0 here),
+          behind call.crossings (Include key call.source) own.1 (known.0, own.0, known.1),
+          λ all. called_on files home.root call.crossings key call.source place
+              (own.2 (before call.crossings (Include key call.source) all)) here,
         );
     made =
         λ key call place known own here. (
-          inl (in_file key place known.0 here),
+          inl (in_file key place known.0.0 here),
           behind (call.crossings ++ Include key call.source ∷ []) Made
-              (behind call.crossings (Include key call.source) own.1 (known, own.0)) tt,
+              (behind call.crossings (Include key call.source) own.1 (known.0, own.0, known.1)) tt,
+          given_led (call.crossings ++ Include key call.source ∷ []) Made place (λ none. none),
         );
     argument =
-        λ key call given name place known own from_given here. seen key _ known.0 (
-          from_given.0,
-          behind (given.crossings ++ Include key call.source ∷ []) (Argument name place)
-              (behind given.crossings (Include key call.source) from_given.1 (known, own.0))
-              (in_file key place known.0 here),
-        );
+        λ key call given name place known own from_given here.
+        given_seen key given.source (given.crossings ++ Include key call.source ∷ []) name place
+        known.0.0 here from_given.0
+        (behind given.crossings (Include key call.source) from_given.1 (known.0, own.0, known.1));
   }
 
   abbrev AnyFile : FileKey → Origin → Type 0
   AnyFile file = Known
 
-  known_crossing : ExtendsBorder Known AnyFile (IsIn files) (IsUsedFile files final)
+  known_crossing : ExtendsBorder Known AnyFile (IsIn files) Called
   known_crossing = record {
     literal =
-        λ key path place known own here. (
-          inl (in_file key place known.0 here),
-          behind path.crossings (Extends key) own.1 known,
+        λ key from path place known own here. (
+          inl (in_file key place known.0.0 here),
+          behind path.crossings (Extends key) own.1 known.0,
+          λ all. extended_on files home.root path.crossings key path.source place
+              (own.2 (before path.crossings (Extends key) all)) here,
         );
     made =
-        λ key path place known own here. (
-          inl (in_file key place known.0 here),
+        λ key from path place known own here. (
+          inl (in_file key place known.0.0 here),
           behind (path.crossings ++ Extends key ∷ []) Made
-              (behind path.crossings (Extends key) own.1 known) tt,
+              (behind path.crossings (Extends key) own.1 known.0) tt,
+          given_led (path.crossings ++ Extends key ∷ []) Made place (λ none. none),
         );
     argument =
-        λ key one name place known own here. seen key _ known.0 (
-          own.0,
-          behind (one.crossings ++ Extends key ∷ []) (Argument name place)
-              (behind one.crossings (Extends key) own.1 known) (in_file key place known.0 here),
-        );
+        λ key from one name place known own here.
+        given_seen key one.source (one.crossings ++ Extends key ∷ []) name place known.0.0 here
+        own.0 (behind one.crossings (Extends key) own.1 known.0);
   }
 
   abbrev OfArguments : RunArgument → Place → Type 0
   OfArguments argument place = IsGiven arguments place
 
-  begins : (root : FileKey) → Contains final root →
-      RootBorder Known (IsIn files root) OfArguments
-  begins root known = record {
-    literal = λ place here. (inl (in_file root place known here), tt);
-    made = λ place here. (inl (in_file root place known here), (tt, tt));
+  begins : Contains final home.root → RootBorder Known (IsIn files home.root) OfArguments
+  begins known = record {
+    literal = λ place here. (inl (in_file home.root place known here), tt, λ all. here);
+    made =
+        λ place here. (
+          inl (in_file home.root place known here),
+          (tt, tt),
+          given_led [] Made place (λ none. none),
+        );
     argument =
         λ argument source stands parameter place here.
-        seen root (record { source = source; crossings = Argument parameter place ∷ [] }) known
-        (inr stands, (in_file root place known here, tt));
+        given_seen home.root source [] parameter place known here (inr stands) tt;
   }
 
 -- ---- the places of run arguments
@@ -326,8 +398,8 @@ if_all Q (Ok x) all = all
 if_all Q (Err fault) all = tt
 
 module _ (files : Set) (root : FileKey) (arguments : List RunArgument) where
-  abbrev In : List FileKey → Origin → Type 0
-  In ends = IsKnown files (used_files root ends) arguments
+  abbrev In : Home → List FileKey → Origin → Type 0
+  In home ends = IsKnown files home (used_files root ends) arguments
 
   abbrev R : Place → Type 0
   R = IsIn files root
@@ -337,7 +409,8 @@ module _ (files : Set) (root : FileKey) (arguments : List RunArgument) where
 
   abbrev TreeKnown : RootTree → Type 0
   TreeKnown one =
-      NodeFrom (IsKnown files one.expanded.used arguments) Any one.expanded.tree
+      NodeFrom (IsKnown files (home_in root one.expanded) one.expanded.used arguments) Any
+      one.expanded.tree
 
   ends_then :
       {A : Type 0} (Q : List FileKey → A → Type 0) (step : Used A)
@@ -353,14 +426,16 @@ module _ (files : Set) (root : FileKey) (arguments : List RunArgument) where
   root_used ends = first_in root (filter (IsAnother root) ends)
 
   finishes :
-      (ends : List FileKey) (origin : Origin) (filling : RootFilling) → In ends origin →
-      ProgressFrom (In ends) R filling.progress
-      × Has (ExtensionFrom (λ file. In ends)) filling.extension →
-      IfOk (root_from origin filling) (λ one. NodeFrom (In ends) Any one.node)
-  finishes ends origin filling own all =
-      ok_then (NodeFrom (In ends) Any) (λ (one : RootNode). NodeFrom (In ends) Any one.node)
+      (home : Home) (ends : List FileKey) (origin : Origin) (filling : RootFilling) →
+      In home ends origin →
+      ProgressFrom (In home ends) R filling.progress
+      × Has (ExtensionFrom (λ file. In home ends)) filling.extension →
+      IfOk (root_from origin filling) (λ one. NodeFrom (In home ends) Any one.node)
+  finishes home ends origin filling own all =
+      ok_then (NodeFrom (In home ends) Any)
+      (λ (one : RootNode). NodeFrom (In home ends) Any one.node)
       (root_object filling.extension origin filling.progress.content) _
-      (object_from_root (In ends) R filling.extension origin filling.progress.content own all.1
+      (object_from_root (In home ends) R filling.extension origin filling.progress.content own all.1
       all.0)
       (λ node is. is)
 
@@ -370,60 +445,71 @@ module _ (files : Set) (root : FileKey) (arguments : List RunArgument) where
   mapping_known place pairs here within =
       ok_then (Each (PairIn R)) TreeKnown (unless (earliest (root_complaints pairs)) pairs) _
       (unless_kept (Each (PairIn R)) (earliest (root_complaints pairs)) pairs within)
-      (λ pairs within.
-      ok_then (λ parameters. (ends : List FileKey) → Each (ParameterFrom (In ends) R) parameters)
+      (λ pairs within. let home : Home = home_of root pairs in
+      ok_then
+      (λ parameters. (ends : List FileKey) → Each (ParameterFrom (In home ends) R) parameters)
       TreeKnown (parameters_by (under (codes "parameters") pairs) arguments) _
-      (if_all (λ ends. Each (ParameterFrom (In ends) R))
+      (if_all (λ ends. Each (ParameterFrom (In home ends) R))
       (parameters_by (under (codes "parameters") pairs) arguments)
-      (λ ends. parameters_are (In ends) R (OfArguments files (used_files root ends) arguments)
-      (begins files (used_files root ends) arguments root (root_used ends))
+      (λ ends. parameters_are (In home ends) R
+      (OfArguments files home (used_files root ends) arguments)
+      (begins files home (used_files root ends) arguments (root_used ends))
       (under (codes "parameters") pairs) arguments (arguments_known arguments)
       (under_in R (codes "parameters") pairs within)))
-      (λ parameters are. ends_then (λ ends one. NodeFrom (In ends) Any one.node)
+      (λ parameters are. ends_then (λ ends one. NodeFrom (In home ends) Any one.node)
       (pairs_expanded (root_mapping root place pairs parameters)
-      (opens_of files (home_of root pairs))) _
-      (λ ends. pairs_expanded_give (In ends) (λ file. In ends) (IsIn files)
-      (IsUsedFile files (used_files root ends)) (U ends)
-      (known_crossing files (used_files root ends) arguments)
-      (λ file. known_inside files (used_files root ends) arguments)
-      (known_inside files (used_files root ends) arguments)
-      (opens_of files (home_of root pairs))
-      (opens_known (used_files root ends) files (home_of root pairs)) root
-      (OfArguments files (used_files root ends) arguments)
-      (begins files (used_files root ends) arguments root (root_used ends))
-      (λ one. NodeFrom (In ends) Any one.node) (finishes ends) place pairs parameters here within
-      (are ends))
+      (opens_of files home)) _
+      (λ ends. pairs_expanded_give (In home ends) (λ file. In home ends) (IsIn files)
+      (IsCalledFrom (used_files root ends) files home) (U ends)
+      (known_crossing files home (used_files root ends) arguments)
+      (λ file. known_inside files home (used_files root ends) arguments)
+      (known_inside files home (used_files root ends) arguments)
+      (opens_of files home)
+      (opens_known (used_files root ends) files home) root
+      (OfArguments files home (used_files root ends) arguments)
+      (begins files home (used_files root ends) arguments (root_used ends))
+      (λ one. NodeFrom (In home ends) Any one.node) (finishes home ends) place pairs parameters here
+      within (are ends))
       (λ one ends is. is)))
+
+  -- a root that is no mapping has no resources
+  abbrev Bare : List FileKey → Origin → Type 0
+  Bare ends = In (bare_home root) ends
+
+  begins_bare : (ends : List FileKey) →
+      RootBorder (Bare ends) R (OfArguments files (bare_home root) (used_files root ends) arguments)
+  begins_bare ends =
+      begins files (bare_home root) (used_files root ends) arguments (root_used ends)
 
   bare_known :
       (node : Node) (parameters : List Parameter) → NodeIn R node →
-      ((ends : List FileKey) → Each (ParameterFrom (In ends) R) parameters) →
+      ((ends : List FileKey) → Each (ParameterFrom (Bare ends) R) parameters) →
       IfOk (bare_expanded files root node (first_frame root parameters)) TreeKnown
   bare_known node parameters within are =
-      ends_then (λ ends. OneFrom (In ends) R)
-      (expanded node
-      (scope_of (followed 100 (opens_of files (bare_home root))) (first_frame root parameters)
-      Free) 0 []) _
-      (λ ends. expanded_gives (In ends) R (U ends) node within (Unit {0})
-      (followed 100 (opens_of files (bare_home root))) (first_frame root parameters) Free 0 []
-      (followed_gives (In ends) (IsIn files) (IsUsedFile files (used_files root ends)) (U ends)
-      (known_inside files (used_files root ends) arguments) (opens_of files (bare_home root))
+      let opens : Opens = opens_of files (bare_home root) in
+      ends_then (λ ends. OneFrom (Bare ends) R)
+      (expanded node (scope_of (followed 100 opens) (first_frame root parameters) Free) 0 []) _
+      (λ ends. expanded_gives (Bare ends) R (U ends) node within (Unit {0}) (followed 100 opens)
+      (first_frame root parameters) Free 0 []
+      (followed_gives (Bare ends) (IsIn files)
+      (IsCalledFrom (used_files root ends) files (bare_home root)) (U ends)
+      (known_inside files (bare_home root) (used_files root ends) arguments) opens
       (opens_known (used_files root ends) files (bare_home root)) 100)
-      (λ h. root_frame_from (In ends) R (OfArguments files (used_files root ends) arguments)
-      (begins files (used_files root ends) arguments root (root_used ends)) root parameters _
-      (are ends)))
-      (λ one ends is. node_implies (In ends) (In ends) (In ends) Any (λ origin own. own)
+      (λ h. root_frame_from (Bare ends) R
+      (OfArguments files (bare_home root) (used_files root ends) arguments) (begins_bare ends) root
+      parameters _ (are ends)))
+      (λ one ends is. node_implies (Bare ends) (Bare ends) (Bare ends) Any (λ origin own. own)
       (λ origin own. tt) one.node is.0)
 
   other_known : (node : Node) → NodeIn R node →
       IfOk (other_expanded files root node arguments) TreeKnown
   other_known node within =
-      ok_then (λ parameters. (ends : List FileKey) → Each (ParameterFrom (In ends) R) parameters)
+      ok_then (λ parameters. (ends : List FileKey) → Each (ParameterFrom (Bare ends) R) parameters)
       TreeKnown (parameters_by None arguments) _
-      (if_all (λ ends. Each (ParameterFrom (In ends) R)) (parameters_by None arguments)
-      (λ ends. parameters_are (In ends) R (OfArguments files (used_files root ends) arguments)
-      (begins files (used_files root ends) arguments root (root_used ends)) None arguments
-      (arguments_known arguments) tt))
+      (if_all (λ ends. Each (ParameterFrom (Bare ends) R)) (parameters_by None arguments)
+      (λ ends. parameters_are (Bare ends) R
+      (OfArguments files (bare_home root) (used_files root ends) arguments) (begins_bare ends) None
+      arguments (arguments_known arguments) tt))
       (λ parameters are. bare_known node parameters within are)
 
   body_known :
@@ -444,6 +530,7 @@ pub known : OriginsAreKnown
 unfolding NodeFrom
 known files root arguments =
     ok_then (TreeKnown files root arguments)
-    (λ (one : Expanded). Each (IsKnown files one.used arguments) (origins_of one.tree))
+    (λ (one : Expanded).
+    Each (IsKnown files (home_in root one) one.used arguments) (origins_of one.tree))
     (tree_of files root arguments) _ (tree_known files root arguments)
     (λ one is. is.0)

@@ -5,6 +5,7 @@ pub mod Given
 pub mod Joined
 pub mod Known
 pub mod Merged
+pub mod Reader
 pub mod Rooted
 pub mod Through
 pub mod Whole

@@ -1,7 +1,7 @@
 -- All pairs of the tree of a root file and of the template that it extends.
-use Rattle.std.proofs.Common.{ℕ, Bool, true, false, cond, Option, Some, None}
+use Rattle.std.proofs.Common.{Bool, true, false, cond, Option, Some, None}
 use Rattle.std.proofs.Common.{List, [], ◌∷◌}
-use Rattle.std.specs.Prelude.{IfOk, filter, find, codes}
+use Rattle.std.specs.Prelude.{IfOk, filter, codes}
 use Rattle.std.specs.List.{AllByRecursion as Each, filter_map}
 use Rattle.pl_base.specs.declared.origin.Origin.{Origin}
 use Rattle.pl_base.specs.declared.place.Place.{Place}
@@ -15,7 +15,7 @@ use Rattle.pl_directives.specs.declared.progress.Content.{Content}
 use Rattle.pl_directives.specs.declared.progress.Content.TheVariants.{Unknown, Items, Pairs}
 use Rattle.pl_calls.specs.Judging.{unless_at}
 use Rattle.pl_eval_laws.proofs.Leads.{Opened, head_in}
-use Rattle.pl_eval_laws.proofs.Lists.{Has, has_map, each_append, each_filter_map, each_found}
+use Rattle.pl_eval_laws.proofs.Lists.{Has, each_append, each_filter_map}
 use Rattle.pl_eval_laws.proofs.Lists.{each_implies}
 use Rattle.pl_eval_laws.proofs.Trees.{NodeFrom, PairFrom, OpenedFrom, Any, pair_from, array_node}
 use Rattle.pl_eval_laws.proofs.Trees.{object_node, node_parts, pair_parts, value_parts, led_from}

@@ -68,7 +68,7 @@ use Rattle.pl_origins.proofs.Nodes.{NodeIn, PairIn, BodyIn, node_in, pair_in, un
 use Rattle.pl_origins.proofs.Scalars.{HeldFrom, OneFrom, SeenOne, ActionFrom, key_asks_from}
 use Rattle.pl_origins.proofs.Scalars.{scalar_value_from, seen_tree}
 use Rattle.pl_origins.proofs.Steps.{Gives, ok_then, any_then, plain_then, first_then}
-use Rattle.pl_origins.proofs.Steps.{used_then, alone_gives, done_gives}
+use Rattle.pl_origins.proofs.Steps.{used_then, alone_gives, done_gives, given}
 use Rattle.pl_expand.specs.declared.extending.Extension.{Extension}
 use Rattle.pl_expand.specs.declared.filling.Early.{Early}
 use Rattle.pl_expand.specs.declared.rooting.RootFilling.{RootFilling}
@@ -219,7 +219,7 @@ module _ (P : Origin → Type 0) (R : Place → Type 0) (A : RunArgument → Pla
 -- ---- the root's pairs
 
 module _ (P : Origin → Type 0) (T : FileKey → Origin → Type 0) (R : FileKey → Place → Type 0)
-    (K : FileKey → Type 0) (U : List FileKey → Type 0) (border : ExtendsBorder P T R K)
+    (K : Place → FileKey → Type 0) (U : List FileKey → Type 0) (border : ExtendsBorder P T R K)
     (inside : (file : FileKey) → Borders (T file) R K) (outside : Borders P R K) (opens : Opens)
     (opening : OpensFrom R K U opens) (root : FileKey) where
   abbrev pub FillingFrom : RootFilling → Type 0
@@ -287,11 +287,11 @@ module _ (P : Origin → Type 0) (T : FileKey → Origin → Type 0) (R : FileKe
       (extended_behind filling extension) (λ h. ((all h.0).0, h.1)))
   given_gives false pair H frame filling used seen from all =
       let at = filling.progress.count in
-      let given : Counted = record { node = pair.item; count = at } in
+      let one : Counted = record { node = pair.item; count = at } in
       used_then U (OneFrom P (R root)) FillingFrom H used
       (node_settling pair.item (scope_of (followed 100 opens) frame (inside_key pair.key Free)) at
       used) _
-      (settled_gives P (R root) U (followed 100 opens) (follows 100) given H frame
+      (settled_gives P (R root) U (followed 100 opens) (follows 100) one H frame
       (inside_key pair.key Free) used (λ h. (seen h).1))
       (λ one later. alone_gives U FillingFrom (H × OneFrom P (R root) one) later
       (item_put pair filling one)
@@ -357,11 +357,21 @@ module _ (P : Origin → Type 0) (T : FileKey → Origin → Type 0) (R : FileKe
 
   -- ---- by induction over the part
 
+  abbrev Held : Frame → RootFilling → Type 0
+  Held frame filling = FrameFrom P (R root) frame × FillingFrom filling
+
   abbrev RootingFrom : Rooting → Type 0
   RootingFrom put =
-      (H : Type 0) (frame : Frame) (filling : RootFilling) (used : List FileKey) →
-      (H → FrameFrom P (R root) frame) → (H → FillingFrom filling) →
+      (frame : Frame) (filling : RootFilling) (used : List FileKey) →
+      Gives U (Held frame filling) used (put opens frame filling used) FillingFrom
+
+  rooted :
+      (put : Rooting) → RootingFrom put → (H : Type 0) (frame : Frame) (filling : RootFilling)
+      (used : List FileKey) → (H → FrameFrom P (R root) frame) → (H → FillingFrom filling) →
       Gives U H used (put opens frame filling used) FillingFrom
+  rooted put puts H frame filling used from all =
+      given U FillingFrom (Held frame filling) H used (put opens frame filling used)
+      (λ h. (from h, all h)) (puts frame filling used)
 
   abbrev BodyClaim : NodeBody → Type 0
   BodyClaim one =
@@ -376,14 +386,16 @@ module _ (P : Origin → Type 0) (T : FileKey → Origin → Type 0) (R : FileKe
   PairClaim one = PairIn (R root) one → RootingFrom (pair_seen one).put
 
   pairs_puts :
-      (pairs : List NodePair) → Each PairClaim pairs → Each (PairIn (R root)) pairs →
-      RootingFrom (pairs_put (map pair_seen pairs))
+      (pairs : List NodePair) → Each PairClaim pairs → Each (PairIn (R root)) pairs → (H : Type 0)
+      (frame : Frame) (filling : RootFilling) (used : List FileKey) →
+      (H → FrameFrom P (R root) frame) → (H → FillingFrom filling) →
+      Gives U H used (pairs_put (map pair_seen pairs) opens frame filling used) FillingFrom
   pairs_puts [] claims within H frame filling used from all =
       done_gives U FillingFrom H used filling all
   pairs_puts (pair ∷ pairs) claims within H frame filling used from all =
       used_then U FillingFrom FillingFrom H used ((pair_seen pair).put opens frame filling used)
       (pairs_put (map pair_seen pairs) opens frame)
-      (claims.0 within.0 H frame filling used from all)
+      (rooted (pair_seen pair).put (claims.0 within.0) H frame filling used from all)
       (λ after later. pairs_puts pairs claims.1 within.1 (H × FillingFrom after) frame after later
       (λ h. from h.0) (λ h. h.1))
 
@@ -401,21 +413,24 @@ module _ (P : Origin → Type 0) (T : FileKey → Origin → Type 0) (R : FileKe
       let seen : text_put text ≡ (body_seen (roll-NodeBody (Scalar text))).put =
       search (rules, the_lemmas) in
       subst PutFrom seen
-      (λ problem place here H frame filling used from all.
-      text_puts text problem place H frame filling used here from all)
+      (λ problem place here frame filling used.
+      text_puts text problem place (Held frame filling) frame filling used here (λ h. h.0)
+      (λ h. h.1))
   layer_claim (Seq items) claims within =
       let seen : list_put ≡ (body_seen (roll-NodeBody (Seq items))).put =
       search (rules, the_lemmas) in
       subst PutFrom seen
-      (λ problem place here H frame filling used from all.
-      plain_then U FillingFrom H used (entered place filling.progress.count) _ (λ count. tt))
+      (λ problem place here frame filling used.
+      plain_then U FillingFrom (Held frame filling) used (entered place filling.progress.count) _
+      (λ count. tt))
   layer_claim (Map pairs) claims within =
       let seen : mapping_put (map pair_seen pairs) ≡ (body_seen (roll-NodeBody (Map pairs))).put =
       search (rules, the_lemmas) in
       subst PutFrom seen
-      (λ problem place here H frame filling used from all.
-      plain_then U FillingFrom H used (entered place filling.progress.count) _
-      (λ count. pairs_puts pairs claims within H frame (counting count filling) used from all))
+      (λ problem place here frame filling used.
+      plain_then U FillingFrom (Held frame filling) used (entered place filling.progress.count) _
+      (λ count. pairs_puts pairs claims within (Held frame filling) frame (counting count filling)
+      used (λ h. h.0) (λ h. h.1)))
 
   of_layer :
       (layer : Body) → BodyParts NodeClaim PairClaim layer → BodyClaim (roll-NodeBody layer)
@@ -431,10 +446,11 @@ module _ (P : Origin → Type 0) (T : FileKey → Origin → Type 0) (R : FileKe
       search (rules, the_lemmas) in
       let parts = node_in (R root) node within in
       subst (λ (put : ExpandProblem → Rooting). RootingFrom (put problem)) seen
-      (λ H frame filling used from all. used_then U FillingFrom FillingFrom H used
+      (λ frame filling used. used_then U FillingFrom FillingFrom (Held frame filling) used
       ((body_seen one).put problem place opens frame (chained Closed filling) used) _
-      (claim parts.1 problem place parts.0 H frame (chained Closed filling) used from all)
-      (λ after later. done_gives U FillingFrom (H × FillingFrom after) later
+      (rooted ((body_seen one).put problem place) (claim parts.1 problem place parts.0)
+      (Held frame filling) frame (chained Closed filling) used (λ h. h.0) (λ h. h.1))
+      (λ after later. done_gives U FillingFrom (Held frame filling × FillingFrom after) later
       (chained Closed after) (λ h. h.1)))
 
   module _ (item : Node) (within : NodeIn (R root) item) (claim : NodeClaim item) where
@@ -451,7 +467,8 @@ module _ (P : Origin → Type 0) (T : FileKey → Origin → Type 0) (R : FileKe
         used_then U FillingFrom FillingFrom H used
         ((node_seen item).put WrongKind opens (turn_frame frame name one) filling used)
         (turns_put name (node_seen item) items opens frame)
-        (claim within WrongKind H (turn_frame frame name one) filling used
+        (rooted ((node_seen item).put WrongKind) (claim within WrongKind) H
+        (turn_frame frame name one) filling used
         (λ h. turn_from P (R root) frame (from h) name one (each h).0) all)
         (λ after later. turns_puts name items (H × FillingFrom after) frame after later
         (λ h. (each h.0).1) (λ h. from h.0) (λ h. h.1))
@@ -469,7 +486,8 @@ module _ (P : Origin → Type 0) (T : FileKey → Origin → Type 0) (R : FileKe
     asked_puts (Run chain) H frame filling used own from all =
         used_then U FillingFrom FillingFrom H used
         ((node_seen item).put WrongKind opens frame filling used) _
-        (claim within WrongKind H frame filling used from all)
+        (rooted ((node_seen item).put WrongKind) (claim within WrongKind) H frame filling used from
+        all)
         (λ after later. done_gives U FillingFrom (H × FillingFrom after) later
         (chained chain after) (λ h. h.1))
     asked_puts (Pass chain) H frame filling used own from all =
@@ -478,7 +496,8 @@ module _ (P : Origin → Type 0) (T : FileKey → Origin → Type 0) (R : FileKe
         turns_puts loop.name loop.items H frame (chained Closed (counting count filling)) used own
         from all
     asked_puts Insert H frame filling used own from all =
-        claim within InsertNoMapping H frame filling used from all
+        rooted ((node_seen item).put InsertNoMapping) (claim within InsertNoMapping) H frame filling
+        used from all
 
   of_pair :
       (key : List ℕ) (key_place : Place) (item : Node) → NodeClaim item →
@@ -489,12 +508,13 @@ module _ (P : Origin → Type 0) (T : FileKey → Origin → Type 0) (R : FileKe
       search (rules, the_lemmas) in
       let parts = pair_in (R root) pair within in
       subst RootingFrom seen
-      (λ H frame filling used from all. first_then U (ActionFrom P (R root)) FillingFrom H used
-      (key_asks key frame key_place filling.progress.chain filling.progress.count) _
-      (λ h. key_asks_from P (R root) frame (from h) key_place parts.0 key filling.progress.chain
+      (λ frame filling used. first_then U (ActionFrom P (R root)) FillingFrom (Held frame filling)
+      used (key_asks key frame key_place filling.progress.chain filling.progress.count) _
+      (λ h. key_asks_from P (R root) frame h.0 key_place parts.0 key filling.progress.chain
       filling.progress.count)
-      (λ asked. asked_puts item parts.1 claim asked (H × ActionFrom P (R root) asked) frame
-      filling used (λ h. h.1) (λ h. from h.0) (λ h. all h.0)))
+      (λ asked. asked_puts item parts.1 claim asked
+      (Held frame filling × ActionFrom P (R root) asked) frame filling used (λ h. h.1)
+      (λ h. h.0.0) (λ h. h.0.1)))
 
   node_puts : (node : Node) → NodeClaim node
   node_puts = written_induction BodyClaim NodeClaim PairClaim of_layer of_node of_pair
@@ -526,14 +546,14 @@ module _ (P : Origin → Type 0) (T : FileKey → Origin → Type 0) (R : FileKe
   pair_gives_root key.Resources early pair H frame filling used within from known all =
       done_gives U FillingFrom H used (passed_over filling) all
   pair_gives_root key.Extends early pair H frame filling used within from known all =
-      pair_puts pair within H frame filling used from all
+      rooted (pair_seen pair).put (pair_puts pair within) H frame filling used from all
   pair_gives_root key.Variables (Some node) pair H frame filling used within from known all =
       alone_gives U FillingFrom H used (variables_pair node pair frame filling)
       (λ h. variables_give node pair frame filling within (from h) (known h) (all h))
   pair_gives_root key.Variables None pair H frame filling used within from known all =
-      pair_puts pair within H frame filling used from all
+      rooted (pair_seen pair).put (pair_puts pair within) H frame filling used from all
   pair_gives_root key.Other early pair H frame filling used within from known all =
-      pair_puts pair within H frame filling used from all
+      rooted (pair_seen pair).put (pair_puts pair within) H frame filling used from all
 
   to_pair : (of : RootKey) (early : Option MarkedNode) → Has (HeldFrom P (R root)) early →
       Has (HeldFrom P (R root)) (given_to of early)

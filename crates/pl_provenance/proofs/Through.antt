@@ -43,13 +43,13 @@ Behind file = Extending (file ∷ [])
 -- across the border `extends`, whatever K and R say
 pub crosses : (R : FileKey → Place → Type 0) → ExtendsBorder Before Behind R NoFile
 crosses R = record {
-  literal = λ key path place known own here. extends_one path.crossings key own;
+  literal = λ key at path place known own here. extends_one path.crossings key own;
   made =
-      λ key path place known own here.
+      λ key at path place known own here.
       extended_last (path.crossings ++ Extends key ∷ []) Made refl
       ∙ extends_one path.crossings key own;
   argument =
-      λ key one name place known own here.
+      λ key from one name place known own here.
       let is =
       extended_last (one.crossings ++ Extends key ∷ []) (Argument name place) refl
       ∙ extends_one one.crossings key own in

@@ -60,7 +60,7 @@ unless_kept Q None x holds = holds
 unless_kept Q (Some complaint) x holds = tt
 
 module _ (P : Origin → Type 0) (T : FileKey → Origin → Type 0) (R : FileKey → Place → Type 0)
-    (K : FileKey → Type 0) (border : ExtendsBorder P T R K)
+    (K : Place → FileKey → Type 0) (border : ExtendsBorder P T R K)
     (inside : (file : FileKey) → Borders (T file) R K) (outside : Borders P R K) (files : Set)
     (opening : (home : Home) → OpensFrom R K NoFiles (opens_of files home)) (root : FileKey)
     (A : RunArgument → Place → Type 0) (own : RootBorder P (R root) A) where

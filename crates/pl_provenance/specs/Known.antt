@@ -1,10 +1,11 @@
 -- Every origin of an expanded tree tells places that exist: in files that were used, or in the run
--- arguments.
-use Rattle.std.specs.Prelude.{◌≡◌, ◌⊎◌, List, Some, Ok, Contains, IfOk}
+-- arguments. And what no argument and no expression gave stands where its borders lead.
+use Rattle.std.specs.Prelude.{◌≡◌, ◌⊎◌, ℕ, List, [], ◌∷◌, Some, Ok, Contains, IfOk}
 use Rattle.std.specs.FinMap as finite
 use Rattle.std.specs.List.{AllByRecursion}
 use Rattle.pl_base.specs.Places.{place_at}
 use Rattle.pl_base.specs.declared.expanded.Argument.{Argument as RunArgument}
+use Rattle.pl_base.specs.declared.expanded.Expanded.{Expanded}
 use Rattle.pl_base.specs.declared.node.Node.{Node}
 use Rattle.pl_base.specs.declared.origin.Crossing.{Crossing}
 use Rattle.pl_base.specs.declared.origin.Crossing.TheVariants.{Extends, Include, Argument, Made}
@@ -12,6 +13,9 @@ use Rattle.pl_base.specs.declared.origin.Origin.{Origin}
 use Rattle.pl_base.specs.declared.place.FileKey.{FileKey}
 use Rattle.pl_base.specs.declared.place.Place.{Place}
 use Rattle.pl_calls.specs.declared.files.Parsed.{Parsed}
+use Rattle.pl_calls.specs.declared.reaching.Home.{Home}
+use Rattle.pl_calls.specs.Reaching.{target}
+use Rattle.pl_paths.specs.Paths.{cut_path}
 use Rattle.pl_yaml.specs.Spells as yaml
 use Rattle.pl_eval_laws.specs.Trees.{origins_of}
 use Rattle.pl_origins.specs.Places.{places_of}
@@ -49,23 +53,59 @@ abbrev pub IsUsedFile : Set → List FileKey → FileKey → Type 0
 IsUsedFile files used key =
     Contains used key × ((file : Parsed) × (finite.get files key ≡ Some file))
 
--- A border leads into a used file that is there. An item that calls stands in a used file or was given by a run
--- argument, and an expression that takes a parameter stands in a used file.
-abbrev pub IsBorder : Set → List FileKey → List RunArgument → Crossing → Type 0
-IsBorder files used arguments (Extends file) = IsUsedFile files used file
-IsBorder files used arguments (Include file at) =
-    IsUsedFile files used file × IsPlace files used arguments at
-IsBorder files used arguments (Argument name at) = IsUsed files used at
-IsBorder files used arguments Made = Unit {0}
+-- some path leads to a file from an item that stands there, so the file is of the item's repository,
+-- of the run's own, or of one that resources name
+abbrev pub IsReached : Home → Place → FileKey → Type 0
+IsReached home at key = (path : List ℕ) × (target at (cut_path path) home ≡ Ok (Some key))
 
-abbrev pub IsKnown : Set → List FileKey → List RunArgument → Origin → Type 0
-IsKnown files used arguments origin =
+-- A border leads into a used file that is there. An item that calls stands in a used file or was
+-- given by a run argument, and a path leads from it to the called file; an expression that takes a
+-- parameter stands in a used file.
+abbrev pub IsBorder : Set → Home → List FileKey → List RunArgument → Crossing → Type 0
+IsBorder files home used arguments (Extends file) = IsUsedFile files used file
+IsBorder files home used arguments (Include file at) =
+    IsUsedFile files used file × IsPlace files used arguments at × IsReached home at file
+IsBorder files home used arguments (Argument name at) = IsUsed files used at
+IsBorder files home used arguments Made = Unit {0}
+
+-- ---- where borders lead
+
+-- From a file on: `extends` leads into its template, the item of each call stands in the file
+-- before it, and what is told stands in the last file.
+abbrev pub Leads : Set → FileKey → List Crossing → Place → Type 0
+Leads files file [] place = StandsInFile files file place
+Leads files file (Extends key ∷ crossings) place = Leads files key crossings place
+Leads files file (Include key at ∷ crossings) place =
+    StandsInFile files file at × Leads files key crossings place
+Leads files file (other ∷ crossings) place = ⊥
+
+-- a border between files: no argument and no expression
+abbrev pub IsOfFiles : Crossing → Type 0
+IsOfFiles (Extends file) = Unit {0}
+IsOfFiles (Include file at) = Unit {0}
+IsOfFiles other = ⊥
+
+-- what no argument and no expression gave stands where its borders lead from the root file
+abbrev pub IsLedFrom : Set → FileKey → Origin → Type 0
+IsLedFrom files root origin =
+    AllByRecursion IsOfFiles origin.crossings → Leads files root origin.crossings origin.source
+
+-- ---- what an origin tells
+
+-- where paths lead in a tree's files: from that root, with the tree's repositories
+abbrev pub home_in : FileKey → Expanded → Home
+home_in root whole = record { root = root; repositories = whole.repositories }
+
+abbrev pub IsKnown : Set → Home → List FileKey → List RunArgument → Origin → Type 0
+IsKnown files home used arguments origin =
     IsPlace files used arguments origin.source
-    × AllByRecursion (IsBorder files used arguments) origin.crossings
+    × AllByRecursion (IsBorder files home used arguments) origin.crossings
+    × IsLedFrom files home.root origin
 
 -- This is so of each node and each key of every expanded tree.
 abbrev pub OriginsAreKnown : Type 0
 OriginsAreKnown =
     (files : Set) (root : FileKey) (arguments : List RunArgument) →
     IfOk (expansion files root arguments)
-    (λ whole. AllByRecursion (IsKnown files whole.used arguments) (origins_of whole.tree))
+    (λ whole. AllByRecursion (IsKnown files (home_in root whole) whole.used arguments)
+    (origins_of whole.tree))

@@ -1,4 +1,5 @@
 pub mod Closure
 pub mod Known
+pub mod Reader
 pub mod Roots
 pub mod Written

@@ -5,7 +5,7 @@ ghost use Rattle.pl_directives.specs.Gives.{Gives};
 ghost use Rattle.pl_eval_laws.specs.Trees.{origins_of};
 ghost use Rattle.pl_expand.specs.Tree.{expansion};
 ghost use Rattle.pl_provenance.specs.Closure.{ArePairsFromClosure};
-ghost use Rattle.pl_provenance.specs.Known.{IsKnown};
+ghost use Rattle.pl_provenance.specs.Known.{IsKnown, home_in};
 ghost use Rattle.pl_provenance.specs.Roots.{IsPairThrough, jobs_of};
 ghost use Rattle.pl_provenance.specs.Written.{ArePairsWhereTold};
 
@@ -21,8 +21,10 @@ use std::alloc::Global;
 /// node and key under it crossed the border `extends` just once, and into that template; and what
 /// of these no argument and no expression gave is written in the file of the last border that its
 /// origin tells, which is the template or a file that it calls, itself or by files that it calls.
-/// Each origin in the whole tree tells places of used files or of run arguments (Microsoft Learn,
-/// Azure Pipelines, "Security through templates"). The files stay as they are, and a fault is the
+/// Each origin in the whole tree tells places of used files or of run arguments, its borders lead
+/// into used files that are there, and what no argument and no expression gave stands where its
+/// borders lead from the root file (Microsoft Learn, Azure Pipelines, "Security through
+/// templates"). The files stay as they are, and a fault is the
 /// one that `pl_expand::expand` gives.
 pub fn expand<F: Files>(
     alloc: Global,
@@ -39,7 +41,8 @@ pub fn expand<F: Files>(
     ensures closure { (file : Key) → IfOk result (λ whole. whole.extends ≡ Some file →
         ArePairsFromClosure (F.files files.old) whole.tree file) }
     ensures known { IfOk result (λ whole.
-        AllByRecursion (IsKnown (F.files files.old) whole.used arguments.now)
+        AllByRecursion
+        (IsKnown (F.files files.old) (home_in root.now whole) whole.used arguments.now)
         (origins_of whole.tree)) }
 {
     pl_expand::expand(alloc, files, root, arguments)

@@ -1,5 +1,6 @@
 ghost use Rattle.pl_provenance.specs.Closure.{WrittenInClosure};
 ghost use Rattle.pl_provenance.specs.Known.{OriginsAreKnown};
+ghost use Rattle.pl_provenance.specs.Reader.{ReadersNameTheirFile};
 ghost use Rattle.pl_provenance.specs.Roots.{StepsComeThrough};
 ghost use Rattle.pl_provenance.specs.Written.{WrittenWhereTold};
 
@@ -37,10 +38,18 @@ pub fn written_jobs_come_from_the_template_and_its_calls()
 
 /// Each origin in an expanded tree tells places that exist: its source is that of a node or a key
 /// of a used file or of what a run argument spells, each border that it tells leads into a used
-/// file that is there, and each expression that took a parameter stands in a used file. The used files are those
-/// that the expansion tells, the root file among them.
+/// file that is there, and each expression that took a parameter stands in a used file. The used
+/// files are those that the expansion tells, the root file among them. And what no argument and no
+/// expression gave stands where its borders lead: from the root file on, `extends` leads into its
+/// template, the item of each call stands in the file before it, and what is told in the last file.
 ///
 /// It speaks of every node and key of the whole tree, whatever the root file is.
 pub fn origins_tell_used_files()
     ensures { OriginsAreKnown }
+{}
+
+/// Each place of what a file's text spells, of a node or of a key, is one in that file: reading
+/// gives no place of another.
+pub fn readers_name_their_file()
+    ensures { ReadersNameTheirFile }
 {}

@@ -1,5 +1,5 @@
 use crate::{
-    expand, origins_tell_used_files, steps_come_through_the_template,
+    expand, origins_tell_used_files, readers_name_their_file, steps_come_through_the_template,
     what_no_argument_gave_is_written_where_it_is_told,
     written_jobs_come_from_the_template_and_its_calls,
 };
@@ -19,6 +19,7 @@ fn laws_are_called(_rt: HostRuntime) -> Result<(), Fail> {
     what_no_argument_gave_is_written_where_it_is_told();
     written_jobs_come_from_the_template_and_its_calls();
     origins_tell_used_files();
+    readers_name_their_file();
     Ok(())
 }
 

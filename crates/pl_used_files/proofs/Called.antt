@@ -1,5 +1,5 @@
 -- Calls of templates and `extends`, over two sets of files.
-use Rattle.std.proofs.Common.{ℕ, zero, suc, ◌-◌, Bool, true, false, cond, Some, None}
+use Rattle.std.proofs.Common.{ℕ, zero, suc, Bool, true, false, cond, Some, None}
 use Rattle.std.proofs.Common.{Ok, List, [], ◌∷◌}
 use Rattle.std.specs.Prelude.{codes}
 use Rattle.pl_base.specs.declared.origin.Crossing.TheVariants.{Extends}
@@ -41,7 +41,8 @@ use Rattle.pl_expanding.specs.declared.followed.SettledPairs.{SettledPairs}
 use Rattle.pl_expand.specs.Extending.{path_in, mapping_from, value_from, argument_behind}
 use Rattle.pl_expand.specs.Extending.{arguments_behind, extended_pairs, body_pair, body_pairs}
 use Rattle.pl_expand.specs.Extending.{extension_of, opened_filled, reached_filled}
-use Rattle.pl_expand.specs.Extending.{Asked, asking, shown, mapping_extended, pairs_asked, extended_from}
+use Rattle.pl_expand.specs.Extending.{Asked, asking, shown, mapping_extended, pairs_asked}
+use Rattle.pl_expand.specs.Extending.{extended_from}
 use Rattle.pl_expand.specs.Extending.{value_extended, are_plain, pairs_extended, text_extended}
 use Rattle.pl_expand.specs.Extending.{extended_by, extended}
 use Rattle.pl_used_files.proofs.Agreeing.{Agree, done, both_alone, same_then, both_then}
@@ -170,7 +171,8 @@ module _ (U : List FileKey → Type 0) (one other : Opens) (opens : OpensAgree U
 
   opened_agree :
       (opened : OpenedFile) (asked : Asked) (frame : Frame) (count : ℕ) (used : List FileKey) →
-      Agree U used (opened_filled opened asked.shown asked.arguments (followed 99 one) frame count used)
+      Agree U used
+      (opened_filled opened asked.shown asked.arguments (followed 99 one) frame count used)
       (opened_filled opened asked.shown asked.arguments (followed 99 other) frame count used)
   opened_agree opened asked frame count used =
       same_then U used (file_node opened.file) _ _

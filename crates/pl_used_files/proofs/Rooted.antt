@@ -232,7 +232,8 @@ module _ (U : List FileKey → Type 0) (one other : Opens) (opens : OpensAgree U
   PairClaim x = RootingAgree (pair_seen x).put
 
   pairs_puts :
-      (pairs : List NodePair) → Each PairClaim pairs → RootingAgree (pairs_put (map pair_seen pairs))
+      (pairs : List NodePair) → Each PairClaim pairs →
+      RootingAgree (pairs_put (map pair_seen pairs))
   pairs_puts [] claims frame filling used = done U used filling
   pairs_puts (pair ∷ pairs) claims frame filling used =
       both_then U used ((pair_seen pair).put one frame filling used)

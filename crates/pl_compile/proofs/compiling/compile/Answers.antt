@@ -27,7 +27,8 @@ pub returns-in-Ok-clause-known : goal.returns-in-Ok-clause-known
 returns-in-Ok-clause-known c =
     are_known c.args.files.now c.in_ok-whole.whole c.in-Ok.ensures.pipeline
     (record { plan = c.in-Ok.plan; sources = c.in_ok-sources-in-Ok.sources })
-    c.in-Ok.ensures.reads c.in-Ok.ensures.plans c.args.arguments.now
+    c.in-Ok.ensures.reads c.in-Ok.ensures.plans c.args.root.now c.args.arguments.now
+    c.in_ok-whole.ensures.tree
     (ap (λ (sources : Sources). sources.files) c.in_ok-sources-in-Ok.ensures)
     c.in_ok-whole.ensures.known
 

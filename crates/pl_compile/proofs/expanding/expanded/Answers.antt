@@ -3,7 +3,7 @@ use Rattle.std.specs.List.{AllByRecursion}
 use Rattle.std.specs.Prelude.{IfOk}
 use Rattle.pl_eval_laws.specs.Trees.{origins_of}
 use Rattle.pl_provenance.specs.Closure.{ArePairsFromClosure}
-use Rattle.pl_provenance.specs.Known.{IsKnown}
+use Rattle.pl_provenance.specs.Known.{home_in, IsKnown}
 use Rattle.pl_provenance.specs.Roots.{jobs_of}
 use Rattle.pl_provenance.specs.Written.{ArePairsWhereTold}
 use Rattle.pl_compile.specs.Reading.{read_all}
@@ -33,10 +33,13 @@ returns-clause-closure c file =
 pub returns-clause-known : goal.returns-clause-known
 returns-clause-known c =
     handed c.expand-expanded.result c.told.result
-    (λ whole. AllByRecursion (IsKnown (read_all c.args.files.now) whole.used c.args.arguments.now)
+    (λ whole. AllByRecursion
+    (IsKnown (read_all c.args.files.now) (home_in c.args.root.now whole) whole.used
+    c.args.arguments.now)
     (origins_of whole.tree))
     c.told.ensures.same
     (subst (λ texts. IfOk c.expand-expanded.result (λ whole.
-    AllByRecursion (IsKnown (read_all texts) whole.used c.args.arguments.now)
+    AllByRecursion
+    (IsKnown (read_all texts) (home_in c.args.root.now whole) whole.used c.args.arguments.now)
     (origins_of whole.tree)))
     c.new-read.ensures c.expand-expanded.ensures.known)

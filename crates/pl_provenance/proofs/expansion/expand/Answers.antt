@@ -3,7 +3,7 @@ use Rattle.std.specs.List.{AllByRecursion}
 use Rattle.pl_base.specs.declared.expanded.Expanded.{Expanded}
 use Rattle.pl_eval_laws.specs.Trees.{origins_of}
 use Rattle.pl_provenance.specs.Closure.{ArePairsFromClosure}
-use Rattle.pl_provenance.specs.Known.{IsKnown}
+use Rattle.pl_provenance.specs.Known.{home_in, IsKnown}
 use Rattle.pl_provenance.specs.Roots.{IsPairThrough, jobs_of}
 use Rattle.pl_provenance.specs.Written.{ArePairsWhereTold}
 use Rattle.pl_provenance.proofs.Closure.{closure}
@@ -44,7 +44,8 @@ returns-clause-known g c =
     given_so
     (λ (whole : Expanded).
     AllByRecursion
-    (IsKnown (g.F.Files.files c.args.files.now) whole.used c.args.arguments.now)
+    (IsKnown (g.F.Files.files c.args.files.now) (home_in c.args.root.now whole) whole.used
+    c.args.arguments.now)
     (origins_of whole.tree))
     c.expand.result _ c.expand.ensures.tree
     (known (g.F.Files.files c.args.files.now) c.args.root.now c.args.arguments.now)
