@@ -6,8 +6,6 @@ mod head;
 mod laws;
 mod lines;
 mod reading;
-#[cfg(test)]
-mod tests;
 
 pub use bundle::Bundle;
 pub use laws::written_is_read;
