@@ -1,0 +1,6 @@
+mod calls;
+mod copies;
+mod objects;
+mod plans;
+mod rules;
+mod spelling;
