@@ -39,7 +39,7 @@ def filled(make):
     return json.dumps(make(count)).encode()
 
 
-whole = ["pl_wire::next::next_request"]
+whole = ["pl_wire::next::next_message"]
 put = message("PUT /files/app/refs%2Fheads%2Fmain/%2Fci.yml", b"x" * most)
 all_of = instructions(put, whole)
 parts = instructions(put, ["pl_heads::front::read_head", "pl_base::list::*from_slice*"])

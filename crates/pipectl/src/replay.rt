@@ -8,13 +8,31 @@ use crate::served::{Broken, Served, Unread};
 use crate::serving::{answer_on, next_piece, read_on, refuse};
 use pl_base::{Clock, Link};
 use pl_streams::PIECE;
-use pl_wire::Waiting;
+use pl_wire::{Routes, Waiting};
 use std::alloc::Global;
 
 /// Serves a link alone until its end: reads its bytes, acts on each whole message, and writes the
-/// replies in order. The clock is asked once a message. At most 67,108,864 bytes are taken.
+/// replies in order. The clock is asked once a message. At most 67,108,864 bytes are taken. The
+/// table of routes is made once.
 pub fn replay_link<L: Link, C: Clock>(
     alloc: Global,
+    desk: &mut Alone,
+    link: &mut L,
+    clock: &mut C,
+) -> Served
+    ensures { Session (point L.Link C.Clock link.old clock.old desk.old)
+        (point L.Link C.Clock link.new clock.new desk.new) result }
+{
+    match Routes::new(alloc) {
+        Ok(routes) => replay_by(alloc, &routes, desk, link, clock),
+        Err(_) => Served::Memory,
+    }
+}
+
+// The same, by this table of routes.
+fn replay_by<L: Link, C: Clock>(
+    alloc: Global,
+    routes: &Routes,
     desk: &mut Alone,
     link: &mut L,
     clock: &mut C,
@@ -29,7 +47,7 @@ pub fn replay_link<L: Link, C: Clock>(
     let mut taken = 0;
     let mut waiting = Waiting::new();
     'pieces: loop {
-        match answer_on(alloc, desk, link, clock, &mut buffer, &mut waiting) {
+        match answer_on(alloc, routes, desk, link, clock, &mut buffer, &mut waiting) {
             Ok(None) => {}
             Ok(Some(fault)) => match refuse(alloc, link, fault) {
                 Ok(()) => return Served::Bad(fault),

@@ -18,7 +18,7 @@ use crate::served::{Broken, Unread};
 use pl_base::{Clock, Failed, Link};
 use pl_streams::{PIECE, TAKEN_LIMIT};
 use pl_wire::{
-    HttpFault, Message, Next, Waiting, fault_reply, memory_reply, next_request, reply_bytes,
+    HttpFault, Message, Next, Routes, Waiting, fault_reply, memory_reply, next_message, reply_bytes,
 };
 use std::alloc::Global;
 
@@ -79,6 +79,7 @@ fn answer_next<L: Link, C: Clock>(
 // Answers each whole message of the buffer, and says whether what is left can't begin one.
 fn answer_all<L: Link, C: Clock>(
     alloc: Global,
+    routes: &Routes,
     desk: &mut Alone,
     link: &mut L,
     clock: &mut C,
@@ -91,7 +92,7 @@ fn answer_all<L: Link, C: Clock>(
     ensures writes { OnlyWrites result (told L.Link link.old) (told L.Link link.new) }
 {
     'messages: loop {
-        match next_request(alloc, buffer.as_slice())? {
+        match next_message(alloc, routes, buffer.as_slice())? {
             Next::Partial => return Ok(None),
             Next::Bad(fault) => return Ok(Some(fault)),
             Next::Whole { taken, message } => {
@@ -105,6 +106,7 @@ fn answer_all<L: Link, C: Clock>(
 /// The same, where the bytes may be known to begin a message only: then they aren't read again.
 pub fn answer_on<L: Link, C: Clock>(
     alloc: Global,
+    routes: &Routes,
     desk: &mut Alone,
     link: &mut L,
     clock: &mut C,
@@ -122,7 +124,7 @@ pub fn answer_on<L: Link, C: Clock>(
     if waiting.goes_on(buffer.as_slice()) {
         return Ok(None);
     }
-    let fault = answer_all(alloc, desk, link, clock, buffer)?;
+    let fault = answer_all(alloc, routes, desk, link, clock, buffer)?;
     *waiting = Waiting::of(buffer.as_slice());
     Ok(fault)
 }

@@ -3,8 +3,8 @@ use Rattle.pl_wire.specs.Message.{IsMessage}
 use Rattle.pipectl.proofs.Sessions.{answers_broken, answers_on, breaks_on, breaks_off, breaks_here}
 use Rattle.pipectl.proofs.serving.answer_all.Goals as goal
 
-pub returns-in_err-next_request-clause-answers : goal.returns-in_err-next_request-clause-answers
-returns-in_err-next_request-clause-answers g c =
+pub returns-in_err-next_message-clause-answers : goal.returns-in_err-next_message-clause-answers
+returns-in_err-next_message-clause-answers g c =
     let failed : OnOk c.from_residual.result ⊥ = search rules in
     answers_broken c.from_residual.result _ _ c.args.buffer.now c.messages.buffer failed
     (breaks_off _ _ _ c.args.buffer.now _ c.messages.buffer _ c.messages.invariant.answered
@@ -13,7 +13,7 @@ returns-in_err-next_request-clause-answers g c =
 pub returns-in_err-answer_next-in-Whole-clause-answers :
     goal.returns-in_err-answer_next-in-Whole-clause-answers
 returns-in_err-answer_next-in-Whole-clause-answers g c =
-    let stands = rw c.in-Whole.is at c.in_ok-next_request.ensures in
+    let stands = rw c.in-Whole.is at c.in_ok-next_message.ensures in
     let failed : OnOk c.from_residual-in_err-answer_next-in-Whole.result ⊥ = search rules in
     answers_broken c.from_residual-in_err-answer_next-in-Whole.result _ _ c.args.buffer.now
     c.messages.buffer failed
@@ -25,7 +25,7 @@ returns-in_err-answer_next-in-Whole-clause-answers g c =
 
 pub messages-preserved : goal.messages-preserved
 messages-preserved g c =
-    let stands = rw c.in-Whole.is at c.in_ok-next_request.ensures in
+    let stands = rw c.in-Whole.is at c.in_ok-next_message.ensures in
     let told = c.in_ok-answer_next-in-Whole.ensures in
     let before = c.messages.invariant in
     record {

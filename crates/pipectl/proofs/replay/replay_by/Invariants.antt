@@ -2,7 +2,7 @@ use Rattle.std.proofs.Common.{◌≡◌, ◌-◌, vec_len}
 use Rattle.pl_wire.specs.Waiting.{Awaits}
 use Rattle.pipectl.specs.Session.{point}
 use Rattle.pipectl.proofs.Endings.{Serving}
-use Rattle.pipectl.proofs.replay.replay_link.Given as goal
+use Rattle.pipectl.proofs.replay.replay_by.Given as goal
 
 -- what was served so far
 abbrev pub invariant-pieces : goal.invariant-pieces

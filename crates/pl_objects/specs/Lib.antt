@@ -1,0 +1,4 @@
+pub mod Jobs
+pub mod Origins
+pub mod Runs
+pub mod Steps
