@@ -240,8 +240,9 @@ module _ (P : Origin → Type 0) where
       (value_parts P P one.node.value (node_parts P P one.node all.0).1))
       (λ items are. are)
 
--- ---- What P must keep across the border of a call into a file, of whose item's place and of which K
--- holds. R holds of the places of that file. A call has its item's place, and the borders that its path crossed.
+-- ---- What P must keep across the border of a call into a file. R holds of the places of that
+-- file, and K of it and of where the call's item stands. A call has that place, and the borders
+-- that its path crossed.
 
 pub record Borders (P : Origin → Type 0) (R : FileKey → Place → Type 0)
     (K : Place → FileKey → Type 0) : Type 0 where
@@ -306,11 +307,12 @@ module _ (P : Origin → Type 0) (R : FileKey → Place → Type 0) (K : Place �
       first_then U (CallFrom P) S H used (call_of item) _ (call_of_from P item)
       (λ call. static_then U (FollowFrom P U) S (H × CallFrom P call) used (deeper next call.at) _
       (deeper_from next call.at follows)
-      (λ follow goes. used_static_then U (FileIn R) (λ (opened : OpenedFile). K call.at opened.key) S
-      (H × CallFrom P call) used (opens call.at call.path used) _
+      (λ follow goes. used_static_then U (FileIn R)
+      (λ (opened : OpenedFile). K call.at opened.key) S (H × CallFrom P call) used
+      (opens call.at call.path used) _
       (opening.file call.at call.path used)
-      (given U (λ (opened : OpenedFile). K call.at opened.key) (Unit {0}) (H × CallFrom P call) used
-      (opens call.at call.path used) (λ h. tt) (opening.used call.at call.path used))
+      (given U (λ (opened : OpenedFile). K call.at opened.key) (Unit {0}) (H × CallFrom P call)
+      used (opens call.at call.path used) (λ h. tt) (opening.used call.at call.path used))
       (λ opened later file. static_then U (NodeIn (R opened.key)) S
       ((H × CallFrom P call) × K call.at opened.key) later (file_node opened.file) _ file
       (λ node within. static_then U (Each (PairIn (R opened.key))) S
@@ -333,8 +335,8 @@ module _ (P : Origin → Type 0) (R : FileKey → Place → Type 0) (K : Place �
       (((H × CallFrom P call) × K call.at opened.key) × FrameFrom P (R opened.key) inner) later
       (expanded body (scope_of follow inner (InCalls form)) count later) _
       (expanded_gives P (R opened.key) U body stands
-      (((H × CallFrom P call) × K call.at opened.key) × FrameFrom P (R opened.key) inner) follow inner
-      (InCalls form) count later goes (λ h. h.1))
+      (((H × CallFrom P call) × K call.at opened.key) × FrameFrom P (R opened.key) inner) follow
+      inner (InCalls form) count later goes (λ h. h.1))
       (λ one last. alone_gives U S
       ((((H × CallFrom P call) × K call.at opened.key) × FrameFrom P (R opened.key) inner)
       × OneFrom P (R opened.key) one) last (items_from form body.place one)

@@ -328,7 +328,8 @@ module _ (P : Origin → Type 0) (T : FileKey → Origin → Type 0) (R : FileKe
 
   opened_gives :
       (opened : OpenedFile) (asked : Asked) (H : Type 0) (frame : Frame) (count : ℕ)
-      (used : List FileKey) → FileIn R opened → (H → K asked.at opened.key) → (H → AskedFrom P asked) →
+      (used : List FileKey) → FileIn R opened → (H → K asked.at opened.key) →
+      (H → AskedFrom P asked) →
       Gives U H used
       (opened_filled opened asked.shown asked.arguments (followed 99 opens) frame count used)
       (ExtensionFrom T)
@@ -344,7 +345,8 @@ module _ (P : Origin → Type 0) (T : FileKey → Origin → Type 0) (R : FileKe
       (λ h. framed_from P (T key) (R key) (Extends key) asked.shown.crossings
       (λ place here. border.literal key asked.at asked.shown place (known h) (all h).0 here)
       (λ place here. border.made key asked.at asked.shown place (known h) (all h).0 here)
-      (λ origin is name place here. border.argument key asked.at origin name place (known h) is here)
+      (λ origin is name place here.
+      border.argument key asked.at origin name place (known h) is here)
       key pairs frame.variables asked.arguments stands (all h).1)
       (λ inner. body_gives key node.place pairs 99 (H × FrameFrom (T key) (R key) inner) inner
       count used stands (λ h. h.1))))
@@ -359,7 +361,8 @@ module _ (P : Origin → Type 0) (T : FileKey → Origin → Type 0) (R : FileKe
       (opens asked.at asked.path used) _ (opening.file asked.at asked.path used)
       (given U (λ (opened : OpenedFile). K asked.at opened.key) (Unit {0}) H used
       (opens asked.at asked.path used) (λ h. tt) (opening.used asked.at asked.path used))
-      (λ opened later file. opened_gives opened asked (H × K asked.at opened.key) frame count later file
+      (λ opened later file. opened_gives opened asked (H × K asked.at opened.key) frame count later
+      file
       (λ h. h.1) (λ h. all h.0))
 
   from_gives :

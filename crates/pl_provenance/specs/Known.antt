@@ -53,8 +53,8 @@ abbrev pub IsUsedFile : Set → List FileKey → FileKey → Type 0
 IsUsedFile files used key =
     Contains used key × ((file : Parsed) × (finite.get files key ≡ Some file))
 
--- some path leads to a file from an item that stands there, so the file is of the item's repository,
--- of the run's own, or of one that resources name
+-- some path leads to a file from an item that stands there, so the file is of the item's
+-- repository, of the run's own, or of one that resources name
 abbrev pub IsReached : Home → Place → FileKey → Type 0
 IsReached home at key = (path : List ℕ) × (target at (cut_path path) home ≡ Ok (Some key))
 

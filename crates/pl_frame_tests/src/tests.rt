@@ -1,4 +1,0 @@
-mod calls;
-mod expressions;
-mod showing;
-mod world;

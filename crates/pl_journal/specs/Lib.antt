@@ -1,0 +1,5 @@
+pub mod About
+pub mod Kinds
+pub mod Log
+pub mod Runs
+pub mod Settings

@@ -1,0 +1,14 @@
+//! The journal: what has happened, and what is looked up in it.
+#![tactic(auto)]
+
+mod about;
+mod built_in;
+mod journal;
+mod kinds;
+mod looking;
+mod runs;
+mod settings;
+mod told;
+
+pub use journal::Journal;
+pub use told::{outcome_told, outputs_told, rule_told, taker_told};
