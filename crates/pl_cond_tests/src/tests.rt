@@ -1,9 +1,0 @@
-mod faults;
-mod handed;
-mod jobs;
-mod plans;
-mod stages;
-mod statuses;
-mod table;
-mod variables;
-mod views;
