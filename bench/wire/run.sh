@@ -1,26 +1,29 @@
 #!/bin/sh
-# Counts by callgrind what reading one message of 262,144 bytes of content costs in `pipectl replay`: all of `next_request`,
-# and of it the head's reading and the copy of the content for a put, and `serde_json`'s own reading for bodies of JSON
-# (a run with long parameters, one with short ones, approvers, capabilities). Prints the counts and their ratios. Needs
-# valgrind and python3, and proves the program first where it isn't proved. Not a part of the gate.
+# Counts by callgrind what reading one message of 262,144 bytes of content costs in `pipectl replay`: `pl_wire::asked`, which is
+# all behind the head; of it the copy of a put's content (by how the count grows with the content), and for bodies of JSON
+# `serde_json`'s own reading (`pl_bodies`' value_in: a run with long parameters, one with short ones, capabilities, approvers,
+# patterns). Prints the counts and their ratios. Needs valgrind and python3, and proves the program first where it isn't proved.
+# Not a part of the gate.
 set -e
 top=$(cd "$(dirname "$0")/../.." && pwd)
 program=${1:-$top/crates/pipectl/out/pipectl}
 [ -n "$1" ] || "$top/tools/prove"
 python3 - "$program" <<'PYTHON'
-import json, re, subprocess, sys
+import json, re, subprocess, sys, tempfile
 
 program = sys.argv[1]
 admin = "ba7816bf8f01cfea414140de5dae2223b00361a396177a9cb410ff61f20015ad"
 most = 262144
 
 
-def instructions(data, names):
-    command = ["valgrind", "--tool=callgrind", "--callgrind-out-file=/dev/null"]
-    command += [f"--toggle-collect={name}" for name in names]
-    command += [program, "replay", "--admin", admin]
-    done = subprocess.run(command, input=data, stdout=subprocess.DEVNULL, stderr=subprocess.PIPE)
-    return int(re.search(r"Collected : (\d+)", done.stderr.decode()).group(1))
+def instructions(data, within, of):
+    """Returns the instructions inside the function `within`, and those of `of` that it called."""
+    with tempfile.NamedTemporaryFile() as out:
+        command = ["valgrind", "--tool=callgrind", f"--callgrind-out-file={out.name}", f"--toggle-collect={within}"]
+        subprocess.run([*command, program, "replay", "--admin", admin], input=data, stdout=subprocess.DEVNULL, stderr=subprocess.DEVNULL)
+        told = subprocess.run(["callgrind_annotate", "--inclusive=yes", "--threshold=100", out.name], capture_output=True, text=True).stdout
+    found = {name: int(count.replace(",", "")) for count, name in re.findall(r"^ *([\d,]+) .*:((?:pl_|serde_)\S+)", told, re.M)}
+    return found[within], found.get(of, 0)
 
 
 def message(front, content):
@@ -39,11 +42,12 @@ def filled(make):
     return json.dumps(make(count)).encode()
 
 
-whole = ["pl_wire::next::next_message"]
-put = message("PUT /files/app/refs%2Fheads%2Fmain/%2Fci.yml", b"x" * most)
-all_of = instructions(put, whole)
-parts = instructions(put, ["pl_heads::front::read_head", "pl_base::list::*from_slice*"])
-print(f"a put: {all_of} instructions, {parts} of them for the head and the copy, ratio {all_of / parts:.2f}")
+asked, head = "pl_wire::asked::asked", "pl_heads::front::read_head"
+put = [message("PUT /files/app/refs%2Fheads%2Fmain/%2Fci.yml", b"x" * size) for size in (most // 2, most)]
+half, whole = (instructions(data, asked, asked)[0] for data in put)
+heads = instructions(put[1], head, head)[0]
+copy = 2 * (whole - half)
+print(f"a put: {heads + whole} instructions, {heads} of them for the head and {copy} for the copy, ratio {(heads + whole) / (heads + copy):.2f}")
 for name, front, make in (
     ("long parameters", "POST /runs", lambda n: {"pipeline": "ci", "ref": "refs/heads/main", "parameters": {"a": "x" * n}}),
     ("short parameters", "POST /runs", lambda n: {"pipeline": "ci", "ref": "refs/heads/main", "parameters": {f"p{i}": "v" for i in range(n)}}),
@@ -53,8 +57,6 @@ for name, front, make in (
     ("patterns", "PUT /resources/pool/p", lambda n: {"pipelines": "all", "exclusive": False, "checks": [
         {"kind": "branch", "patterns": [f"refs/heads/{i}" for i in range(n)]}]}),
 ):
-    data = message(front, filled(make))
-    all_of = instructions(data, whole)
-    reading = instructions(data, ["serde_json::*from_slice*"])
-    print(f"{name}: {all_of} instructions, {reading} of them serde_json's reading, ratio {all_of / reading:.2f}", flush=True)
+    whole, reading = instructions(message(front, filled(make)), asked, "pl_bodies::content::value_in")
+    print(f"{name}: {whole} instructions, {reading} of them serde_json's reading, ratio {whole / reading:.2f}", flush=True)
 PYTHON
