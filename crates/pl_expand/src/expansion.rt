@@ -14,13 +14,13 @@ ghost use Rattle.pl_expand.specs.Tree.{expansion};
 
 use crate::filling::{early_by, fill_root};
 use crate::root::{RootMapping, RootNode, RootTree};
-use crate::rooting::ROOT;
 use pl_base::{
     Argument, ExactCopy, Expanded, FileKey, List, Memory, Node, NodeBody, NodePair, Place, Shared,
 };
 use pl_calls::{Files, Home, Reach, node_in, same_file, under};
 use pl_directives::{Counted, ExpandFault, ExpandProblem, complain, enter};
 use pl_expanding::{Scope, expand_node};
+use pl_extends::ROOT;
 use pl_frame::{Frame, Parameter};
 use pl_root::{first_complaint, first_frame, parameters_by, repositories_of};
 use std::alloc::Global;

@@ -10,10 +10,8 @@ ghost use Rattle.pl_expand.specs.Tree.{filled_root, root_from};
 ghost use Rattle.pl_expand.specs.Tree.{filled_in, file_of, variables_pair, object_pairs};
 ghost use Rattle.pl_root.specs.Keys.{root_key};
 
-use crate::extending::{Extension, judge_keys};
 use crate::merging::merge;
 use crate::root::{RootMapping, RootNode};
-use crate::rooting::{RootFilling, Spot, put_pair_of};
 use pl_base::{
     DEEPEST, ExactCopy, FileKey, List, MarkedNode, MarkedPair, Memory, Node, NodePair, Origin,
     Place, Value,
@@ -24,6 +22,7 @@ use pl_directives::{
     complain, put_pair,
 };
 use pl_expanding::{MOST_LEVELS, Scope, expand_node};
+use pl_extends::{Extension, RootFilling, Spot, judge_keys, put_pair_of};
 use pl_frame::{Frame, literal_at};
 use pl_root::{RootKey, second_frame};
 use std::alloc::Global;

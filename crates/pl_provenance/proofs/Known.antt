@@ -51,7 +51,7 @@ use Rattle.pl_origins.proofs.Nodes.{NodeIn, PairIn, BodyIn, node_in, under_in}
 use Rattle.pl_origins.proofs.Scalars.{OneFrom}
 use Rattle.pl_origins.proofs.Steps.{Used, Gives, ok_then, static_then, used_then}
 use Rattle.pl_origins.proofs.Steps.{done_gives}
-use Rattle.pl_expand.specs.declared.rooting.RootFilling.{RootFilling}
+use Rattle.pl_extends.specs.declared.rooting.RootFilling.{RootFilling}
 use Rattle.pl_expand.specs.declared.root.RootNode.{RootNode}
 use Rattle.pl_expand.specs.declared.root.RootTree.{RootTree}
 use Rattle.pl_root.specs.Resources.{earliest}

@@ -29,7 +29,7 @@ use Rattle.pl_origins.proofs.Frames.{ParameterFrom}
 use Rattle.pl_origins.proofs.Kept.{any_ok, NoFiles, plainly}
 use Rattle.pl_origins.proofs.Nodes.{NodeIn, PairIn, BodyIn, node_in, under_in}
 use Rattle.pl_origins.proofs.Steps.{Used, ok_then, any_then}
-use Rattle.pl_expand.specs.declared.rooting.RootFilling.{RootFilling}
+use Rattle.pl_extends.specs.declared.rooting.RootFilling.{RootFilling}
 use Rattle.pl_expand.specs.declared.root.RootNode.{RootNode}
 use Rattle.pl_expand.specs.declared.root.RootTree.{RootTree}
 use Rattle.pl_root.specs.Resources.{earliest}

@@ -8,7 +8,7 @@ use Rattle.pl_base.specs.declared.node.NodeBody.TheVariants as written
 use Rattle.pl_base.specs.declared.node.NodeBody.TheOpen.{NodeBody-F, Node-F, NodePair-F}
 use Rattle.pl_base.specs.declared.node.NodeBody.TheOpen.{Scalar, Seq, Map}
 use Rattle.pl_base.specs.declared.node.NodePair.{NodePair, roll-NodePair, map-NodePair}
-use Rattle.pl_expand.specs.Rooting.{NodeSeen, PairSeen, node_seen, body_seen, pair_seen}
+use Rattle.pl_extends.specs.Rooting.{NodeSeen, PairSeen, node_seen, body_seen, pair_seen}
 
 abbrev BodyClaim : NodeBody → Type 0
 BodyClaim one = (body_seen one).itself ≡ one

@@ -1,10 +1,10 @@
 -- `extends` of the root file (Microsoft Learn, Azure Pipelines, "YAML schema reference", extends,
 -- and "Templates": extend from a template). It is read after directives, like every other key.
-use Rattle.std.specs.Prelude.{ℕ, Bool, true, false, not, ◌&&◌, List, [], ◌∷◌, ◌++◌, map, filter}
+use Rattle.std.specs.Prelude.{ℕ, Bool, true, false, List, [], ◌∷◌}
 use Rattle.std.specs.Prelude.{find, codes}
 use Rattle.std.specs.Prelude.{Option, Some, None, Result, Ok, if◌then◌else◌}
 use Rattle.std.specs.Option.{option_map}
-use Rattle.std.specs.List.{filter_map, list_any, list_all}
+use Rattle.std.specs.List.{list_any, list_all}
 use Rattle.pl_base.specs.declared.node.Node.{Node}
 use Rattle.pl_base.specs.declared.node.NodeBody.TheOpen.{Scalar, Seq, Map}
 use Rattle.pl_base.specs.declared.node.NodePair.{NodePair}
@@ -14,12 +14,10 @@ use Rattle.pl_base.specs.declared.origin.Origin.{Origin}
 use Rattle.pl_base.specs.declared.place.FileKey.{FileKey}
 use Rattle.pl_base.specs.declared.place.Place.{Place}
 use Rattle.pl_base.specs.declared.value.Value.{Value, out-Value}
-use Rattle.pl_base.specs.declared.value.Value as value
 use Rattle.pl_base.specs.declared.value.Value.TheOpen.{Value-F}
 use Rattle.pl_base.specs.declared.value.Value.TheOpen as layer
 use Rattle.pl_base.specs.declared.value.MarkedNode.{MarkedNode}
 use Rattle.pl_base.specs.declared.value.MarkedPair.{MarkedPair}
-use Rattle.pl_eval.specs.LookUps.{made}
 use Rattle.pl_frame.specs.Doubles.{first_double}
 use Rattle.pl_frame.specs.declared.frame.Frame.{Frame}
 use Rattle.pl_literal.specs.Items.{is}
@@ -52,9 +50,9 @@ use Rattle.pl_calls.specs.declared.reaching.Opened.{Opened}
 use Rattle.pl_expanding.specs.Expanding.{Filling, part_of, entry_of, expanded, path_by}
 use Rattle.pl_expanding.specs.Expanding.{pair_behind}
 use Rattle.pl_expanding.specs.Following.{Follow, Scope, scope_of}
-use Rattle.pl_expanding.specs.Levels.{followed, variable_item}
+use Rattle.pl_expanding.specs.Levels.{followed}
 use Rattle.pl_expanding.specs.declared.followed.SettledPairs.{SettledPairs}
-use Rattle.pl_expand.specs.declared.extending.Extension.{Extension}
+use Rattle.pl_extends.specs.declared.extending.Extension.{Extension}
 
 -- ---- What `extends` asks for: where its mapping stands, the path's text, the origin that shows
 -- where that comes from, and the arguments.
@@ -277,86 +275,3 @@ abbrev pub extended :
     Result (Extension × List FileKey) ExpandFault
 extended opens key node frame count used =
     extended_by (body_of node) opens key node frame count used
-
--- ---- the tree of both files
-
-abbrev pub has_key : List ℕ → List MarkedPair → Bool
-has_key key pairs = list_any (λ pair. is pair.key key) pairs
-
--- variables as items: an empty scalar has none
-abbrev pub variables_from :
-    Value-F Value MarkedNode MarkedPair → Place → Result (List MarkedNode) ExpandFault
-variables_from (layer.Array items) place = Ok items
-variables_from (layer.Object pairs) place = Ok (map variable_item pairs)
-variables_from (layer.Str []) place = Ok []
-variables_from layer.Null place = Ok []
-variables_from other place = refused WrongKind place
-
-abbrev pub variables_in : MarkedNode → Result (List MarkedNode) ExpandFault
-variables_in node = variables_from (out-Value node.value) node.origin.source
-
--- where both files have variables they are one list, the root's first
-abbrev pub joined_variables : MarkedNode → MarkedNode → Result (List MarkedNode) ExpandFault
-joined_variables first second =
-    variables_in first >>= λ items. variables_in second >>= λ more. Ok (items ++ more)
-
-abbrev pub both_variables :
-    Option MarkedNode → Option MarkedNode → Result (Option (List MarkedNode)) ExpandFault
-both_variables (Some first) (Some second) =
-    joined_variables first second >>= λ items. Ok (Some items)
-both_variables first second = Ok None
-
--- that list has the place of the root's, with the origin of the root's value
-abbrev pub with_items : Option (List MarkedNode) → MarkedPair → MarkedPair
-with_items None pair = pair
-with_items (Some items) pair = record {
-  key = pair.key;
-  key_origin = pair.key_origin;
-  item = made pair.item.origin (value.Array items);
-}
-
--- a pool or a lock's behaviour of the template stands in the place of the root's
-abbrev pub is_replaced : List MarkedPair → List ℕ → Bool
-is_replaced more key =
-    list_any (is key) (codes "pool" ∷ codes "lockBehavior" ∷ []) && has_key key more
-
-abbrev pub root_side :
-    Option (List MarkedNode) → List MarkedPair → MarkedPair → Option MarkedPair
-root_side joined more pair =
-    if is_replaced more pair.key then None
-    else if is pair.key (codes "variables") then Some (with_items joined pair)
-    else Some pair
-
-abbrev pub template_side : List MarkedPair → MarkedPair → Bool
-template_side pairs pair =
-    not (is pair.key (codes "variables") && has_key (codes "variables") pairs)
-
--- no job of the root stands beside the template's, wherever its key came from
-abbrev pub is_form : List ℕ → Bool
-is_form key = list_any (is key) (codes "stages" ∷ codes "jobs" ∷ codes "steps" ∷ [])
-
-abbrev pub form_place : List MarkedPair → Option Place
-form_place pairs =
-    option_map (λ pair. pair.key_origin.source) (find (λ pair. is_form pair.key) pairs)
-
-abbrev pub joined_pairs :
-    List MarkedPair → List MarkedPair → Option (List MarkedNode) → List MarkedPair
-joined_pairs pairs more joined =
-    filter_map (root_side joined more) pairs ++ filter (template_side pairs) more
-
-abbrev pub shared_variables :
-    List MarkedPair → List MarkedPair → Result (Option (List MarkedNode)) ExpandFault
-shared_variables pairs more =
-    both_variables (item_under (codes "variables") pairs) (item_under (codes "variables") more)
-
-abbrev pub merged_with :
-    List MarkedPair → List MarkedPair → Result (List MarkedPair) ExpandFault
-merged_with more pairs =
-    unless_at {X = Unit {0}} WrongKind (form_place pairs) tt >>= λ none.
-    shared_variables pairs more >>= λ joined.
-    Ok (joined_pairs pairs more joined)
-
-abbrev pub merged :
-    Option Extension → List MarkedPair → Result (List MarkedPair) ExpandFault
-merged None pairs = Ok pairs
-merged (Some extension) pairs = merged_with extension.pairs pairs

@@ -1,8 +1,8 @@
 use Rattle.std.proofs.Common.{◌≡◌, [], drop}
 use Rattle.pl_calls.specs.Reaching.{opens}
 use Rattle.pl_expanding.specs.Levels.{followed}
-use Rattle.pl_expand.specs.Extending.{arguments_behind}
-use Rattle.pl_expand.proofs.extending.arguments_in.Given as goal
+use Rattle.pl_extends.specs.Extending.{arguments_behind}
+use Rattle.pl_extends.proofs.extending.arguments_in.Given as goal
 
 abbrev pub invariant-loop-pair : goal.invariant-loop-pair
 invariant-loop-pair g l = record {

@@ -1,6 +1,6 @@
 use Rattle.std.proofs.Common.{◌≡◌, [], drop}
-use Rattle.pl_expand.specs.Extending.{arguments_given}
-use Rattle.pl_expand.proofs.extending.arguments_given.Given as goal
+use Rattle.pl_extends.specs.Extending.{arguments_given}
+use Rattle.pl_extends.proofs.extending.arguments_given.Given as goal
 
 abbrev pub invariant-loop-pair : goal.invariant-loop-pair
 invariant-loop-pair l =

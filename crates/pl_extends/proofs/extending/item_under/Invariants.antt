@@ -1,6 +1,6 @@
 use Rattle.std.proofs.Common.{◌≡◌, find, drop}
 use Rattle.pl_literal.specs.Items.{is}
-use Rattle.pl_expand.proofs.extending.item_under.Given as goal
+use Rattle.pl_extends.proofs.extending.item_under.Given as goal
 
 abbrev pub invariant-loop-pair : goal.invariant-loop-pair
 invariant-loop-pair l =

@@ -1,6 +1,6 @@
 use Rattle.std.proofs.Common.{◌≡◌, find, drop}
-use Rattle.pl_expand.specs.Extending.{is_form}
-use Rattle.pl_expand.proofs.merging.form_place.Given as goal
+use Rattle.pl_extends.specs.Forms.{is_form}
+use Rattle.pl_extends.proofs.forms.form_place.Given as goal
 
 abbrev pub invariant-loop-pair : goal.invariant-loop-pair
 invariant-loop-pair l =

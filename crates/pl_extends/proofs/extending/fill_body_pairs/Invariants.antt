@@ -3,8 +3,8 @@ use Rattle.pl_calls.specs.Reaching.{opens}
 use Rattle.pl_directives.specs.declared.region.Region.TheVariants.{Free}
 use Rattle.pl_expanding.specs.Following.{scope_of}
 use Rattle.pl_expanding.specs.Levels.{followed}
-use Rattle.pl_expand.specs.Extending.{body_pairs}
-use Rattle.pl_expand.proofs.extending.fill_body_pairs.Given as goal
+use Rattle.pl_extends.specs.Extending.{body_pairs}
+use Rattle.pl_extends.proofs.extending.fill_body_pairs.Given as goal
 
 abbrev pub invariant-loop-pair : goal.invariant-loop-pair
 invariant-loop-pair g l = record {

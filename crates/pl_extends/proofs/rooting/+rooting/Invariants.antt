@@ -1,7 +1,7 @@
 use Rattle.std.proofs.Common.{◌≡◌, ℕ, ◌+◌, ◌*◌, drop, map}
 use Rattle.pl_calls.specs.Reaching.{opens}
-use Rattle.pl_expand.specs.Rooting.{node_seen, pair_seen, pairs_put, turns_put}
-use Rattle.pl_expand.proofs.rooting.+rooting.Given as goal
+use Rattle.pl_extends.specs.Rooting.{node_seen, pair_seen, pairs_put, turns_put}
+use Rattle.pl_extends.proofs.rooting.+rooting.Given as goal
 
 abbrev depth : ℕ → ℕ → ℕ
 depth levels rank = 8 * levels + rank

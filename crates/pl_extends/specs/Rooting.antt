@@ -46,9 +46,10 @@ use Rattle.pl_expanding.specs.Expanding.{part_of, done}
 use Rattle.pl_expanding.specs.Following.{scope_of}
 use Rattle.pl_expanding.specs.Levels.{followed}
 use Rattle.pl_expanding.specs.Settling.{node_settling}
-use Rattle.pl_expand.specs.declared.extending.Extension.{Extension}
-use Rattle.pl_expand.specs.declared.rooting.RootFilling.{RootFilling}
-use Rattle.pl_expand.specs.Extending.{extended, value_extended, is_form, form_place}
+use Rattle.pl_extends.specs.declared.extending.Extension.{Extension}
+use Rattle.pl_extends.specs.declared.rooting.RootFilling.{RootFilling}
+use Rattle.pl_extends.specs.Extending.{extended, value_extended}
+use Rattle.pl_extends.specs.Forms.{is_form, form_place}
 
 abbrev pub filled_with : Option Extension → Progress → RootFilling
 filled_with extension progress = record { progress = progress; extension = extension }

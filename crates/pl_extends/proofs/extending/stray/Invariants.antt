@@ -1,7 +1,7 @@
 use Rattle.std.proofs.Common.{◌≡◌, find, drop}
 use Rattle.std.specs.Prelude.{not}
-use Rattle.pl_expand.specs.Extending.{may_extend}
-use Rattle.pl_expand.proofs.extending.stray.Given as goal
+use Rattle.pl_extends.specs.Extending.{may_extend}
+use Rattle.pl_extends.proofs.extending.stray.Given as goal
 
 abbrev pub invariant-loop-pair : goal.invariant-loop-pair
 invariant-loop-pair l =

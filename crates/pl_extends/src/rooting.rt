@@ -7,15 +7,15 @@ ghost use Rattle.pl_calls.specs.Reaching.{opens};
 ghost use Rattle.pl_directives.specs.Complaints.{refused};
 ghost use Rattle.pl_directives.specs.Gives.{Gives};
 ghost use Rattle.pl_directives.specs.Misfits.{problem_of};
-ghost use Rattle.pl_expand.specs.Rooting.{filled_with, chained, counting, has_form, misplaced};
-ghost use Rattle.pl_expand.specs.Rooting.{extends_misplaced, form_misplaced, unless_misplaced};
-ghost use Rattle.pl_expand.specs.Rooting.{extended_behind, key_put, named_put, with_item, item_put};
-ghost use Rattle.pl_expand.specs.Rooting.{given_by, given_put, all_given_put, value_put, text_put};
-ghost use Rattle.pl_expand.specs.Rooting.{pairs_put, turns_put, asked_put};
-ghost use Rattle.pl_expand.specs.Rooting.{node_seen, body_seen, pair_seen};
+ghost use Rattle.pl_extends.specs.Rooting.{filled_with, chained, counting, has_form, misplaced};
+ghost use Rattle.pl_extends.specs.Rooting.{extends_misplaced, form_misplaced, unless_misplaced};
+ghost use Rattle.pl_extends.specs.Rooting.{extended_behind, key_put, named_put, with_item, item_put};
+ghost use Rattle.pl_extends.specs.Rooting.{given_by, given_put, all_given_put, value_put, text_put};
+ghost use Rattle.pl_extends.specs.Rooting.{pairs_put, turns_put, asked_put};
+ghost use Rattle.pl_extends.specs.Rooting.{node_seen, body_seen, pair_seen};
 
 use crate::extending::{Extension, extend, extend_value};
-use crate::merging::{form_place, is_form};
+use crate::forms::{form_place, is_form};
 use pl_base::{
     DEEPEST, ExactCopy, List, MarkedNode, MarkedPair, Memory, Node, NodeBody, NodePair, Place,
     Text, Value,

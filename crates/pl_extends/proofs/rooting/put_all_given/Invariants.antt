@@ -1,7 +1,7 @@
 use Rattle.std.proofs.Common.{◌≡◌, drop}
 use Rattle.pl_calls.specs.Reaching.{opens}
-use Rattle.pl_expand.specs.Rooting.{all_given_put}
-use Rattle.pl_expand.proofs.rooting.put_all_given.Given as goal
+use Rattle.pl_extends.specs.Rooting.{all_given_put}
+use Rattle.pl_extends.proofs.rooting.put_all_given.Given as goal
 
 abbrev pub invariant-loop-pair : goal.invariant-loop-pair
 invariant-loop-pair g l = record {

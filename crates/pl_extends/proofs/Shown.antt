@@ -3,7 +3,7 @@ use Rattle.std.proofs.Common.{◌≡◌, List, [], ◌∷◌, map, sym, subst, a
 use denote.Ref.{Bor}
 use Rattle.pl_base.specs.declared.origin.Crossing.{Crossing}
 use Rattle.pl_base.specs.declared.origin.Origin.{Origin}
-use Rattle.pl_expand.specs.Extending.{shown_by, shown}
+use Rattle.pl_extends.specs.Extending.{shown_by, shown}
 
 pub shows_key :
     (items : List (Bor Crossing)) (key path : Origin) →
