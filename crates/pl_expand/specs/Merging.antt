@@ -18,7 +18,7 @@ use Rattle.pl_directives.specs.declared.fault.ExpandProblem.TheVariants.{WrongKi
 use Rattle.pl_directives.specs.Complaints.{refused}
 use Rattle.pl_reading.specs.Steps.{◌>>=◌}
 use Rattle.pl_calls.specs.Judging.{unless_at}
-use Rattle.pl_expanding.specs.Levels.{variable_item}
+use Rattle.pl_recursion.specs.Levels.{variable_item}
 use Rattle.pl_extends.specs.declared.extending.Extension.{Extension}
 use Rattle.pl_extends.specs.Extending.{item_under}
 use Rattle.pl_extends.specs.Forms.{form_place}

@@ -54,9 +54,9 @@ use Rattle.pl_calls.specs.Judging.{unless_at}
 use Rattle.pl_calls.specs.Meant.{◌>>>◌, alone}
 use Rattle.pl_calls.specs.Parts.{Body, body_of, under}
 use Rattle.pl_calls.specs.Reaching.{Opens, node_in, opens, same_file}
-use Rattle.pl_expanding.specs.Expanding.{expanded}
-use Rattle.pl_expanding.specs.Following.{Follow, scope_of}
-use Rattle.pl_expanding.specs.Levels.{followed}
+use Rattle.pl_recursion.specs.Expanding.{expanded}
+use Rattle.pl_recursion.specs.Following.{Follow, scope_of}
+use Rattle.pl_recursion.specs.Levels.{followed}
 use Rattle.pl_expand.specs.Merging.{merged}
 use Rattle.pl_extends.specs.Rooting.{filled_with, Rooting, chained, pair_seen}
 use Rattle.pl_root.specs.Resources.{earliest}

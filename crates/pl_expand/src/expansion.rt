@@ -5,7 +5,7 @@ ghost use Rattle.pl_calls.specs.Reaching.{opens, same_file};
 ghost use Rattle.pl_directives.specs.Complaints.{refused};
 ghost use Rattle.pl_directives.specs.Gives.{Gives};
 ghost use Rattle.pl_directives.specs.declared.fault.ExpandProblem.TheVariants.{FileMissing};
-ghost use Rattle.pl_expanding.specs.Levels.{followed};
+ghost use Rattle.pl_recursion.specs.Levels.{followed};
 ghost use Rattle.pl_expand.specs.Tree.{root_mapping, pairs_expanded, body_expanded, whole};
 ghost use Rattle.pl_expand.specs.Tree.{used_files, home_of};
 ghost use Rattle.pl_expand.specs.Tree.{mapping_expanded, other_expanded, tree_of, bare_home};
@@ -19,9 +19,9 @@ use pl_base::{
 };
 use pl_calls::{Files, Home, Reach, node_in, same_file, under};
 use pl_directives::{Counted, ExpandFault, ExpandProblem, complain, enter};
-use pl_expanding::{Scope, expand_node};
 use pl_extends::ROOT;
 use pl_frame::{Frame, Parameter};
+use pl_recursion::{Scope, expand_node};
 use pl_root::{first_complaint, first_frame, parameters_by, repositories_of};
 use std::alloc::Global;
 

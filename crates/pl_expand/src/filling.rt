@@ -3,7 +3,7 @@ ghost use Rattle.std.specs.Option.{option_copied, option_map};
 ghost use Rattle.pl_calls.specs.Gives.{GivesUsed};
 ghost use Rattle.pl_calls.specs.Reaching.{opens};
 ghost use Rattle.pl_directives.specs.Gives.{Gives};
-ghost use Rattle.pl_expanding.specs.Levels.{followed};
+ghost use Rattle.pl_recursion.specs.Levels.{followed};
 ghost use Rattle.pl_expand.specs.Tree.{early_by, given_to, early_behind, root_pair, root_pairs};
 ghost use Rattle.pl_expand.specs.Tree.{put_variables, stands, root_object, root_mapping};
 ghost use Rattle.pl_expand.specs.Tree.{filled_root, root_from};
@@ -20,9 +20,9 @@ use pl_directives::{
     Chain, Content, ExpandFault, ExpandProblem, Form, Kind, Progress, Region, Standing, begin,
     complain, put_pair,
 };
-use pl_expanding::{MOST_LEVELS, MOST_OPEN, Scope, expand_node};
 use pl_extends::{Extension, RootFilling, Spot, judge_keys, put_pair_of};
 use pl_frame::{Frame, literal_at};
+use pl_recursion::{MOST_LEVELS, MOST_OPEN, Scope, expand_node};
 use pl_root::{RootKey, second_frame};
 use std::alloc::Global;
 

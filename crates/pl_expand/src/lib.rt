@@ -1,6 +1,6 @@
 //! Pipelines, expanded: the root file with its run arguments, its variables first, then its pairs,
 //! beside those of the template that it extends. Below it stand the pairs and `extends`, in
-//! `pl_extends`, and the recursion into nodes and called templates, in `pl_expanding`.
+//! `pl_extends`, and the recursion into nodes and called templates, in `pl_recursion`.
 #![tactic(auto)]
 
 mod expansion;

@@ -13,8 +13,8 @@ ghost use Rattle.pl_expand.specs.Merging.{shared_variables, merged_with, merged}
 
 use pl_base::{ExactCopy, List, MarkedNode, MarkedPair, Memory, Place, Text, Value};
 use pl_directives::{ExpandFault, ExpandProblem, complain};
-use pl_expanding::variable_items;
 use pl_extends::{Extension, form_place, item_under};
+use pl_recursion::variable_items;
 use std::alloc::Global;
 
 /// Whether one of the pairs has a key.

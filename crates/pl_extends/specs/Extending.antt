@@ -47,11 +47,11 @@ use Rattle.pl_calls.specs.Meant.{◌>>>◌, alone}
 use Rattle.pl_calls.specs.Parts.{Body, body_of, under}
 use Rattle.pl_calls.specs.Reaching.{Opens, node_in}
 use Rattle.pl_calls.specs.declared.reaching.Opened.{Opened}
-use Rattle.pl_expanding.specs.Expanding.{Filling, part_of, entry_of, expanded, path_by}
-use Rattle.pl_expanding.specs.Expanding.{pair_behind}
-use Rattle.pl_expanding.specs.Following.{Follow, Scope, scope_of}
-use Rattle.pl_expanding.specs.Levels.{followed}
-use Rattle.pl_expanding.specs.declared.followed.SettledPairs.{SettledPairs}
+use Rattle.pl_recursion.specs.Expanding.{Filling, part_of, entry_of, expanded, path_by}
+use Rattle.pl_recursion.specs.Expanding.{pair_behind}
+use Rattle.pl_recursion.specs.Following.{Follow, Scope, scope_of}
+use Rattle.pl_recursion.specs.Levels.{followed}
+use Rattle.pl_recursion.specs.declared.followed.SettledPairs.{SettledPairs}
 use Rattle.pl_extends.specs.declared.extending.Extension.{Extension}
 
 -- ---- What `extends` asks for: where its mapping stands, the path's text, the origin that shows

@@ -42,10 +42,10 @@ use Rattle.pl_directives.specs.Scalars.{scalar_value}
 use Rattle.pl_reading.specs.Steps.{◌>>=◌}
 use Rattle.pl_calls.specs.Meant.{◌>>>◌, alone}
 use Rattle.pl_calls.specs.Reaching.{Opens}
-use Rattle.pl_expanding.specs.Expanding.{part_of, done}
-use Rattle.pl_expanding.specs.Following.{scope_of}
-use Rattle.pl_expanding.specs.Levels.{followed}
-use Rattle.pl_expanding.specs.Settling.{node_settling}
+use Rattle.pl_recursion.specs.Expanding.{part_of, done}
+use Rattle.pl_recursion.specs.Following.{scope_of}
+use Rattle.pl_recursion.specs.Levels.{followed}
+use Rattle.pl_recursion.specs.Settling.{node_settling}
 use Rattle.pl_extends.specs.declared.extending.Extension.{Extension}
 use Rattle.pl_extends.specs.declared.rooting.RootFilling.{RootFilling}
 use Rattle.pl_extends.specs.Extending.{extended, value_extended}

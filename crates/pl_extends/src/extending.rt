@@ -11,8 +11,8 @@ ghost use Rattle.pl_directives.specs.Gives.{Gives};
 ghost use Rattle.pl_directives.specs.declared.fault.ExpandProblem.TheVariants.{WrongKind, KeyTwice};
 ghost use Rattle.pl_directives.specs.declared.region.Region.TheVariants.{Free};
 ghost use Rattle.pl_frame.specs.Doubles.{first_double};
-ghost use Rattle.pl_expanding.specs.Following.{scope_of};
-ghost use Rattle.pl_expanding.specs.Levels.{followed};
+ghost use Rattle.pl_recursion.specs.Following.{scope_of};
+ghost use Rattle.pl_recursion.specs.Levels.{followed};
 ghost use Rattle.pl_extends.specs.Extending.{path_in, mapping_from, value_from, argument_behind};
 ghost use Rattle.pl_extends.specs.Extending.{arguments_behind, may_extend, extended_pairs};
 ghost use Rattle.pl_extends.specs.Extending.{body_pair, body_pairs, pairs_there, body_filled};
@@ -37,10 +37,10 @@ use pl_directives::{
     Chain, Content, Counted, ExpandFault, ExpandProblem, Kind, Progress, Region, Standing, begin,
     complain, enter, scalar_value,
 };
-use pl_expanding::{
+use pl_frame::{Frame, first_double};
+use pl_recursion::{
     MOST_LEVELS, MOST_OPEN, Scope, SettledPairs, expand_node, expand_path, fill_pair,
 };
-use pl_frame::{Frame, first_double};
 use pl_template::{KeyForm, key_form};
 use std::alloc::Global;
 

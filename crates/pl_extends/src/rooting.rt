@@ -24,8 +24,8 @@ use pl_directives::{
     Action, Chain, Content, Counted, ExpandFault, ExpandProblem, MadeKey, Misfit, Progress, Region,
     Standing, Turns, complain, enter, key_asks, put_pair, scalar_value,
 };
-use pl_expanding::{MOST_LEVELS, MOST_OPEN, Scope, fill_key, settle_node};
 use pl_frame::{Frame, within};
+use pl_recursion::{MOST_LEVELS, MOST_OPEN, Scope, fill_key, settle_node};
 use std::alloc::Global;
 
 /// The root's pairs so far, and what the template gives that it extends.

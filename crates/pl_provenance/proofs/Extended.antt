@@ -40,10 +40,10 @@ use Rattle.pl_calls.specs.Judging.{unless_at, stray, held, template_in, may_give
 use Rattle.pl_calls.specs.Parts.{Body, body_of, under}
 use Rattle.pl_calls.specs.Reaching.{Opens, node_in as file_node}
 use Rattle.pl_calls.specs.declared.reaching.Opened.{Opened as OpenedFile}
-use Rattle.pl_expanding.specs.Expanding.{part_of, entry_of, expanded, pair_behind}
-use Rattle.pl_expanding.specs.Following.{Follow, scope_of}
-use Rattle.pl_expanding.specs.Levels.{followed}
-use Rattle.pl_expanding.specs.declared.followed.SettledPairs.{SettledPairs}
+use Rattle.pl_recursion.specs.Expanding.{part_of, entry_of, expanded, pair_behind}
+use Rattle.pl_recursion.specs.Following.{Follow, scope_of}
+use Rattle.pl_recursion.specs.Levels.{followed}
+use Rattle.pl_recursion.specs.declared.followed.SettledPairs.{SettledPairs}
 use Rattle.pl_eval_laws.proofs.Leads.{Opened}
 use Rattle.pl_eval_laws.proofs.Lists.{Has, has_map, each_found}
 use Rattle.pl_eval_laws.proofs.Trees.{NodeFrom, PairFrom, OpenedFrom, node_parts, pair_parts}

@@ -48,10 +48,10 @@ use Rattle.pl_directives.specs.Scalars.{scalar_value}
 use Rattle.pl_calls.specs.Parameters.{declared_by}
 use Rattle.pl_calls.specs.Parts.{Body, under}
 use Rattle.pl_calls.specs.Reaching.{Opens}
-use Rattle.pl_expanding.specs.Expanding.{expanded, part_of, done}
-use Rattle.pl_expanding.specs.Following.{scope_of}
-use Rattle.pl_expanding.specs.Levels.{followed}
-use Rattle.pl_expanding.specs.Settling.{node_settling}
+use Rattle.pl_recursion.specs.Expanding.{expanded, part_of, done}
+use Rattle.pl_recursion.specs.Following.{scope_of}
+use Rattle.pl_recursion.specs.Levels.{followed}
+use Rattle.pl_recursion.specs.Settling.{node_settling}
 use Rattle.pl_eval_laws.proofs.Leads.{Opened}
 use Rattle.pl_eval_laws.proofs.Lists.{Has, each_append}
 use Rattle.pl_eval_laws.proofs.Trees.{NodeFrom, PairFrom, OpenedFrom, pair_from, text_node}

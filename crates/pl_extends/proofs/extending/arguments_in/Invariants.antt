@@ -1,6 +1,6 @@
 use Rattle.std.proofs.Common.{◌≡◌, [], drop}
 use Rattle.pl_calls.specs.Reaching.{opens}
-use Rattle.pl_expanding.specs.Levels.{followed}
+use Rattle.pl_recursion.specs.Levels.{followed}
 use Rattle.pl_extends.specs.Extending.{arguments_behind}
 use Rattle.pl_extends.proofs.extending.arguments_in.Given as goal
 

@@ -1,8 +1,8 @@
 use Rattle.std.proofs.Common.{◌≡◌, drop}
 use Rattle.pl_calls.specs.Reaching.{opens}
 use Rattle.pl_directives.specs.declared.region.Region.TheVariants.{Free}
-use Rattle.pl_expanding.specs.Following.{scope_of}
-use Rattle.pl_expanding.specs.Levels.{followed}
+use Rattle.pl_recursion.specs.Following.{scope_of}
+use Rattle.pl_recursion.specs.Levels.{followed}
 use Rattle.pl_extends.specs.Extending.{body_pairs}
 use Rattle.pl_extends.proofs.extending.fill_body_pairs.Given as goal
 
