@@ -11,7 +11,7 @@ use crate::expanding::expand_node;
 use crate::followed::Followed;
 use crate::items::items_from;
 use crate::scope::Scope;
-use pl_base::{Crossing, DEEPEST, ExactCopy, List, MarkedNode, Memory, Node, NodePair, Place};
+use pl_base::{Crossing, ExactCopy, List, MarkedNode, Memory, Node, NodePair, Place};
 use pl_calls::{
     Call, Files, Opened, Reach, Template, body_in, call_of, framed_by, judge_body, node_in, open,
     template_in,
@@ -24,12 +24,14 @@ use std::alloc::Global;
 pub const MOST_LEVELS: u32 = 100;
 
 /// A call that is followed: the call itself, the frame of its caller, the form of the list that its
-/// item is of, and the count before it.
+/// item is of, how many nodes may still stand in one another in what it gives, and the count before
+/// it.
 #[derive(Drop)]
 struct Calling<'c> {
     call: &'c Call<'c>,
     frame: &'c Frame,
     form: Form,
+    levels: u32,
     count: u32,
 }
 
@@ -57,6 +59,7 @@ pub fn follow<F: Files>(
         call: &call,
         frame: scope.frame,
         form,
+        levels: scope.at.levels,
         count,
     };
     descend(alloc, &calling, scope.at.calls, files, reach)
@@ -110,7 +113,7 @@ fn enter_file<F: Files>(
         frame: &inner,
         at: Standing {
             region: Region::Calls(calling.form),
-            levels: DEEPEST,
+            levels: calling.levels,
             calls: left,
         },
     };
