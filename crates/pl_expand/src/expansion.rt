@@ -268,7 +268,7 @@ pub fn expand_counted<F: Files>(
 /// out of the repository or no file is there, X2 where it is the 101st file, X16 where that isn't
 /// in the profile, X10 where that extends a template itself, X9 where it isn't of the form that is
 /// called, X14 where its declarations are wrong or the arguments don't fit. Memory may come at any
-/// time, also where nodes stand more than `DEEPEST` levels deep in one another.
+/// time, also where more than `MOST_OPEN` nodes are open at once, over all calls.
 pub fn expand<F: Files>(
     alloc: Global,
     files: &mut F,

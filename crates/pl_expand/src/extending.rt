@@ -26,8 +26,8 @@ ghost use Rattle.pl_template.specs.Forms.{form_of};
 ghost use Rattle.pl_template.specs.Keys.{key_form_of};
 
 use pl_base::{
-    Crossing, DEEPEST, ExactCopy, FileKey, List, MarkedNode, MarkedPair, Memory, Node, NodeBody,
-    NodePair, Origin, Place, Shared, Text, Value,
+    Crossing, ExactCopy, FileKey, List, MarkedNode, MarkedPair, Memory, Node, NodeBody, NodePair,
+    Origin, Place, Shared, Text, Value,
 };
 use pl_calls::{
     Files, Opened, Reach, Template, arguments_at, framed_by, may_give, node_in, open, path_text,
@@ -37,7 +37,9 @@ use pl_directives::{
     Chain, Content, Counted, ExpandFault, ExpandProblem, Kind, Progress, Region, Standing, begin,
     complain, enter, scalar_value,
 };
-use pl_expanding::{MOST_LEVELS, Scope, SettledPairs, expand_node, expand_path, fill_pair};
+use pl_expanding::{
+    MOST_LEVELS, MOST_OPEN, Scope, SettledPairs, expand_node, expand_path, fill_pair,
+};
 use pl_frame::{Frame, first_double};
 use pl_template::{KeyForm, key_form};
 use std::alloc::Global;
@@ -53,7 +55,7 @@ pub struct Extension {
 /// Where arguments stand: nothing in them is a call yet.
 const ARGUMENTS: Standing = Standing {
     region: Region::Quiet,
-    levels: DEEPEST,
+    levels: MOST_OPEN,
     calls: MOST_LEVELS,
 };
 
@@ -63,7 +65,7 @@ const LEVELS_LEFT: u32 = 99;
 /// Where the pairs of the template that is extended stand.
 const EXTENDED: Standing = Standing {
     region: Region::Free,
-    levels: DEEPEST,
+    levels: MOST_OPEN,
     calls: LEVELS_LEFT,
 };
 
@@ -554,7 +556,7 @@ fn are_plain(alloc: Global, pairs: &List<NodePair>) -> Result<bool, Memory>
 /// Where the value of `extends` stands.
 const IN_EXTENDS: Standing = Standing {
     region: Region::Extends,
-    levels: DEEPEST,
+    levels: MOST_OPEN,
     calls: MOST_LEVELS,
 };
 

@@ -15,15 +15,14 @@ use crate::merging::merge;
 use crate::root::{RootMapping, RootNode};
 use crate::rooting::{RootFilling, Spot, put_pair_of};
 use pl_base::{
-    DEEPEST, ExactCopy, FileKey, List, MarkedNode, MarkedPair, Memory, Node, NodePair, Origin,
-    Place, Value,
+    ExactCopy, FileKey, List, MarkedNode, MarkedPair, Memory, Node, NodePair, Origin, Place, Value,
 };
 use pl_calls::{Files, Reach};
 use pl_directives::{
     Chain, Content, ExpandFault, ExpandProblem, Form, Kind, Progress, Region, Standing, begin,
     complain, put_pair,
 };
-use pl_expanding::{MOST_LEVELS, Scope, expand_node};
+use pl_expanding::{MOST_LEVELS, MOST_OPEN, Scope, expand_node};
 use pl_frame::{Frame, literal_at};
 use pl_root::{RootKey, second_frame};
 use std::alloc::Global;
@@ -54,7 +53,7 @@ pub fn early_by<F: Files>(
     };
     let at = Standing {
         region: Region::Calls(Form::Variables),
-        levels: DEEPEST,
+        levels: MOST_OPEN,
         calls: MOST_LEVELS,
     };
     let one = expand_node(alloc, node, Scope { frame, at }, count, files, reach)?;
@@ -135,7 +134,7 @@ fn fill_root_pair<F: Files>(
 {
     let spot = Spot {
         frame,
-        levels: DEEPEST,
+        levels: MOST_OPEN,
     };
     match RootKey::of(&pair.key) {
         RootKey::Parameters | RootKey::Resources => Ok(filling.chained(Chain::Closed)),

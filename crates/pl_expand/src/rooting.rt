@@ -17,15 +17,14 @@ ghost use Rattle.pl_expand.specs.Rooting.{node_seen, body_seen, pair_seen};
 use crate::extending::{Extension, extend, extend_value};
 use crate::merging::{form_place, is_form};
 use pl_base::{
-    DEEPEST, ExactCopy, List, MarkedNode, MarkedPair, Memory, Node, NodeBody, NodePair, Place,
-    Text, Value,
+    ExactCopy, List, MarkedNode, MarkedPair, Memory, Node, NodeBody, NodePair, Place, Text, Value,
 };
 use pl_calls::{Files, Reach};
 use pl_directives::{
     Action, Chain, Content, Counted, ExpandFault, ExpandProblem, MadeKey, Misfit, Progress, Region,
     Standing, Turns, complain, enter, key_asks, put_pair, scalar_value,
 };
-use pl_expanding::{MOST_LEVELS, Scope, fill_key, settle_node};
+use pl_expanding::{MOST_LEVELS, MOST_OPEN, Scope, fill_key, settle_node};
 use pl_frame::{Frame, within};
 use std::alloc::Global;
 
@@ -39,7 +38,7 @@ pub struct RootFilling {
 /// Where the root's mapping stands.
 pub const ROOT: Standing = Standing {
     region: Region::Free,
-    levels: DEEPEST,
+    levels: MOST_OPEN,
     calls: MOST_LEVELS,
 };
 

@@ -23,6 +23,10 @@ use std::alloc::Global;
 /// How many levels of templates may be called in one another.
 pub const MOST_LEVELS: u32 = 100;
 
+/// How many nodes may be open at once, over all calls. Stack is memory too: with one more, memory is
+/// wanting.
+pub const MOST_OPEN: u32 = 500;
+
 /// A call that is followed: the call itself, the frame of its caller, the form of the list that its
 /// item is of, how many nodes may still stand in one another in what it gives, and the count before
 /// it.

@@ -15,7 +15,7 @@ mod settling;
 
 pub use expanding::{expand_node, expand_path, fill_key, fill_pair};
 pub use followed::{Followed, SettledPairs};
-pub use following::MOST_LEVELS;
+pub use following::{MOST_LEVELS, MOST_OPEN};
 pub use items::variable_items;
 pub use scope::Scope;
 pub use settling::settle_node;

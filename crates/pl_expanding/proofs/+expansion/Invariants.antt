@@ -7,7 +7,7 @@ use Rattle.pl_expanding.specs.Settling.{node_seen, pair_seen}
 use Rattle.pl_expanding.specs.Settling as settling
 use Rattle.pl_expanding.proofs.+expansion.Given as goal
 
--- A node's depth counts below the levels of templates: a called file begins with all of its own.
+-- A node's depth counts below the levels of templates: a called file goes on with what is left.
 abbrev depth : ℕ → ℕ → ℕ → ℕ
 depth calls levels rank = 16 * (4294967296 * calls + levels) + rank
 
