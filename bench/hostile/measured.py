@@ -35,7 +35,7 @@ def begin(words, text, output, seconds, memory, stack):
     os.execv(words[0], words)
 
 
-def measure(words, text, output, seconds=20, memory=4096, stack=64):
+def measure(words, text, output, seconds=10, memory=4096, stack=64):
     """Runs a program over a file. It ends after so many seconds, MiB of memory or of stack."""
     process = os.fork()
     if not process:
