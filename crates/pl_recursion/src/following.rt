@@ -23,19 +23,17 @@ use std::alloc::Global;
 /// How many levels of templates may be called in one another.
 pub const MOST_LEVELS: u32 = 100;
 
-/// How many nodes may be open at once, over all calls. Stack is memory too: with one more, memory is
-/// wanting.
+/// How many nodes may be open at once, over all calls. Stack is memory too: with one more, memory
+/// is wanting.
 pub const MOST_OPEN: u32 = 500;
 
 /// A call that is followed: the call itself, the frame of its caller, the form of the list that its
-/// item is of, how many nodes may still stand in one another in what it gives, and the count before
-/// it.
+/// item is of, and the count before it.
 #[derive(Drop)]
 struct Calling<'c> {
     call: &'c Call<'c>,
     frame: &'c Frame,
     form: Form,
-    levels: u32,
     count: u32,
 }
 
@@ -63,18 +61,25 @@ pub fn follow<F: Files>(
         call: &call,
         frame: scope.frame,
         form,
-        levels: scope.at.levels,
         count,
     };
-    descend(alloc, &calling, scope.at.calls, files, reach)
+    descend(
+        alloc,
+        &calling,
+        scope.at.levels,
+        scope.at.calls,
+        files,
+        reach,
+    )
 }
 
-/// One level more: X3 where none is left.
+/// One level more, in which so many nodes may still stand in one another. X3 where none is left.
 #[cycle(expansion)]
 #[tactic(auto, using(crate::proofs::Levels::reached_none, crate::proofs::Levels::reached_some))]
 fn descend<F: Files>(
     alloc: Global,
     calling: &Calling<'_>,
+    nodes: u32,
     levels: u32,
     files: &mut F,
     reach: &mut Reach,
@@ -90,7 +95,7 @@ fn descend<F: Files>(
         return Err(ExpandFault::Refused(first));
     };
     let opened = open(alloc, calling.call.at, &calling.call.path, files, reach)?;
-    enter_file(alloc, &opened, calling, left, files, reach)
+    enter_file(alloc, &opened, calling, nodes, left, files, reach)
 }
 
 /// The file that the path led to.
@@ -99,6 +104,7 @@ fn enter_file<F: Files>(
     alloc: Global,
     opened: &Opened,
     calling: &Calling<'_>,
+    nodes: u32,
     left: u32,
     files: &mut F,
     reach: &mut Reach,
@@ -117,7 +123,7 @@ fn enter_file<F: Files>(
         frame: &inner,
         at: Standing {
             region: Region::Calls(calling.form),
-            levels: calling.levels,
+            levels: nodes,
             calls: left,
         },
     };

@@ -90,7 +90,7 @@ abbrev pub decreases-following::descend : goal.decreases-following::descend
 decreases-following::descend g l = depth l.levels 0 1
 
 abbrev pub decreases-following::enter_file : goal.decreases-following::enter_file
-decreases-following::enter_file g l = depth l.left l.calling.levels 9
+decreases-following::enter_file g l = depth l.left l.nodes 9
 
 abbrev pub decreases-following::fill : goal.decreases-following::fill
 decreases-following::fill g l = depth l.scope.at.calls l.scope.at.levels 8
