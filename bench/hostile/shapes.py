@@ -235,8 +235,8 @@ def a_default_of_100000_nodes_in_14000_calls():
     return bundle("steps:\n" + CALL * 14_000, ("/t.yml", text))
 
 
-@shape(8)
-def arguments_of_1000_nodes_in_each_of_100_calls():
+@shape(0)
+def arguments_of_1000_nodes_in_each_of_25_calls():
     arguments = ",".join(f"k{n}: v" for n in range(1_000))
     text = "parameters:\n- name: a\n  type: object\nsteps:\n- script: a\n"
     return bundle("steps:\n" + f"- {{template: t.yml, parameters: {{a: {{{arguments}}}}}}}\n" * 25, ("/t.yml", text))
