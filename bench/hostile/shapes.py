@@ -116,7 +116,7 @@ def steps_in_arguments_call_from_level_to_level():
     return bundle(CALLS, ("/t.yml", text))
 
 
-@shape(8)
+@shape(0)
 def an_expression_of_50_levels_behind_99_calls():
     deep = "not(" * 49 + "1" + ")" * 49
     files = [(f"/t{n}.yml", "steps:\n" + nested_blocks(4, "${{if 1}}:", f"- template: t{n + 1}.yml\n")) for n in range(99)]
@@ -131,7 +131,7 @@ def ever_deeper(last):
     return bundle("steps:\n- template: t0.yml\n", *files, ("/t15.yml", "parameters:\n- name: a\n  type: object\nsteps:\n" + last))
 
 
-@shape(8)
+@shape(0)
 def a_value_of_900_levels_put():
     return ever_deeper("- script: a\n  env: ${{ parameters.a }}\n")
 
@@ -151,7 +151,7 @@ def a_value_of_900_levels_looped_over():
     return ever_deeper("- ${{ each x in parameters.a }}:\n  - ${{ each y in x }}:\n    - script: a\n")
 
 
-@shape(8)
+@shape(0)
 def flow_sequences_of_64_levels_in_each_of_100_files():
     text = "steps:\n- script: a\n  env: " + "[" * 60 + "]" * 60 + "\n"
     files = [(f"/t{n}.yml", text) for n in range(100)]
@@ -235,8 +235,8 @@ def a_default_of_100000_nodes_in_14000_calls():
     return bundle("steps:\n" + CALL * 14_000, ("/t.yml", text))
 
 
-@shape(8)
-def arguments_of_1000_nodes_in_each_of_100_calls():
+@shape(0)
+def arguments_of_1000_nodes_in_each_of_25_calls():
     arguments = ",".join(f"k{n}: v" for n in range(1_000))
     text = "parameters:\n- name: a\n  type: object\nsteps:\n- script: a\n"
     return bundle("steps:\n" + f"- {{template: t.yml, parameters: {{a: {{{arguments}}}}}}}\n" * 25, ("/t.yml", text))
