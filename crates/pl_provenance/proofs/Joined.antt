@@ -16,7 +16,7 @@ use Rattle.pl_directives.specs.declared.progress.Content.{Content}
 use Rattle.pl_directives.specs.declared.progress.Content.TheVariants.{Unknown, Items, Pairs}
 use Rattle.pl_calls.specs.Judging.{unless_at}
 use Rattle.pl_eval_laws.proofs.Lists.{each_append, each_implies}
-use Rattle.pl_eval_laws.proofs.Trees.{PairFrom}
+use Rattle.pl_eval_laws.proofs.Trees.{Asked as Wanted, PairFrom}
 use Rattle.pl_origins.proofs.Steps.{ok_then, any_then}
 use Rattle.pl_extends.specs.declared.extending.Extension.{Extension}
 use Rattle.pl_extends.specs.Forms.{is_form, form_place}
@@ -89,7 +89,7 @@ module _ (joined : Option (List MarkedNode)) (more : List MarkedPair) where
 
 -- ---- the pairs of jobs
 
-module _ (P : Origin → Type 0) where
+module _ (P : Wanted) where
   abbrev WhereForm : MarkedPair → Type 0
   WhereForm pair = is_form pair.key ≡ true → PairFrom P P pair
 
