@@ -1,5 +1,6 @@
 -- Rows with numbers of their own: which rows go by their numbers, and what stays of that.
-use Rattle.std.proofs.Common.{◌≡◌, ◌&&◌, ◌||◌, ℤ, Bool, true, false, not, List, [], ◌∷◌, ◌++◌, filter}
+use Rattle.std.proofs.Common.{◌≡◌, ◌&&◌, ◌||◌, ℤ, Bool, true, false, not, List, [], ◌∷◌, ◌++◌}
+use Rattle.std.proofs.Common.{filter}
 use Rattle.std.proofs.Common.{refl, sym, ap, ◌∙◌, IsPermutation}
 use Rattle.std.specs.declared.cmp.Ordering.{Ordering}
 use Rattle.std.specs.declared.cmp.Ordering.TheVariants.{Less, Equal, Greater}
@@ -11,8 +12,10 @@ use Rattle.sqlite.specs.declared.types.Value.TheVariants.{Int}
 use Rattle.sqlite.specs.Order.{Row, value_cmp}
 use Rattle.sqlite.specs.Tree.{has_rowid, put_row, rowid, IsAscending}
 use Rattle.sqlite.specs.Edit.{id_in, is_taken, without_all}
-use Rattle.sqlite_trees.proofs.ListLemmas.{all-filter, all-permutation, all_both, all_of, all_weaker}
-use Rattle.sqlite_trees.proofs.ListLemmas.{along_permutation, ascending-filter, filter_all, filter_same}
+use Rattle.sqlite_trees.proofs.ListLemmas.{all-filter, all-permutation, all_both, all_of}
+use Rattle.sqlite_trees.proofs.ListLemmas.{all_weaker}
+use Rattle.sqlite_trees.proofs.ListLemmas.{along_permutation, ascending-filter, filter_all}
+use Rattle.sqlite_trees.proofs.ListLemmas.{filter_same}
 use Rattle.sqlite_value.proofs.OrderLemmas.{value_cmp_total}
 use Rattle.pl_sqlkeeper.specs.Kept.{has_number_of, AreApart}
 

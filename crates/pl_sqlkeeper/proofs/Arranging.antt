@@ -80,11 +80,14 @@ pub are_told : (db : Trees) (stored : List Row) (rows sorted : List Kept) →
     IsPermutation (map read_row (db 0)) stored → sorted ≡ rows_in db
 are_told db stored rows sorted zip same order strict shown =
     same_rows sorted (rows_in db) order (rows_in_order db) each where
+      kept : IsPermutation (flat_map shown_kept (map read_row (db 0))) rows
+      kept = subst (IsPermutation (flat_map shown_kept (map read_row (db 0))))
+          (zipped stored rows zip)
+          (IsPermutation-flat_map shown_kept (map read_row (db 0)) stored shown)
+
       all : IsPermutation (flat_map kept_of (db 0)) sorted
       all = IsPermutation-trans _ _ _ (subst (λ l. IsPermutation l rows)
-          (flat_map-map shown_kept read_row (db 0))
-          (subst (IsPermutation (flat_map shown_kept (map read_row (db 0)))) (zipped stored rows zip)
-          (IsPermutation-flat_map shown_kept (map read_row (db 0)) stored shown))) same
+          (flat_map-map shown_kept read_row (db 0)) kept) same
 
       each : (at : Kept) → filter (here at) sorted ≡ filter (here at) (rows_in db)
       each at = sym (rows_here at db ∙ last_same (found at (db 0)) (filter (here at) sorted)

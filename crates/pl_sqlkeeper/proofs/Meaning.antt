@@ -1,5 +1,6 @@
 -- What the statements' texts mean under the keeper's schema.
-use Rattle.std.proofs.Common.{◌≡◌, ◌⊎◌, inl, inr, ◌&&◌, ℕ, ℤ, pos, negsuc, Bool, true, false, not, cond}
+use Rattle.std.proofs.Common.{◌≡◌, ◌⊎◌, inl, inr, ◌&&◌, ℕ, ℤ, pos, negsuc, Bool, true, false, not}
+use Rattle.std.proofs.Common.{cond}
 use Rattle.std.proofs.Common.{List, [], ◌∷◌, map, flat_map, filter, codes, None, Ok, Err, Result}
 use Rattle.std.proofs.Common.{if◌then◌else◌, ◌||◌, refl, sym, ap, subst, subst₂, ◌∙◌, IsPermutation}
 use Rattle.std.specs.List.{list_any}

@@ -1,5 +1,6 @@
 -- Rows whose numbers rise have numbers of their own.
-use Rattle.std.proofs.Common.{◌≡◌, ℕ, zero, suc, ◌+◌, ◌-◌, ◌<◌, get_or, subst₂, ℤ, ◌<ℤ◌, true, false, List, [], ◌∷◌, length}
+use Rattle.std.proofs.Common.{◌≡◌, ℕ, zero, suc, ◌+◌, ◌-◌, ◌<◌, get_or, subst₂, ℤ, ◌<ℤ◌, true}
+use Rattle.std.proofs.Common.{false, List, [], ◌∷◌, length}
 use Rattle.std.proofs.Common.{refl, ap, ◌∙◌, arith}
 use Rattle.std.specs.Ordering.{int_cmp, is_eq}
 use Rattle.std.specs.List.{AllAdjacentBelow, AllByRecursion}

@@ -1,6 +1,7 @@
 -- Rows in order are told by what they have at each place; and what changes leave at one place.
 use Rattle.std.proofs.Common.{◌≡◌, ◌⊎◌, inl, inr, ◌&&◌, ℕ, suc, ◌+◌, ◌<◌, Bool, true, false, not}
-use Rattle.std.proofs.Common.{if◌then◌else◌, List, [], ◌∷◌, ◌++◌, length, get_or, Option, Some, None}
+use Rattle.std.proofs.Common.{if◌then◌else◌, List, [], ◌∷◌, ◌++◌, length, get_or, Option, Some}
+use Rattle.std.proofs.Common.{None}
 use Rattle.std.proofs.Common.{subst, refl, sym, ap, ◌∙◌, append-nil, true≢false, arith}
 use Rattle.std.specs.List.{filter}
 use Rattle.std.specs.Option.{option_map, option_to_list}

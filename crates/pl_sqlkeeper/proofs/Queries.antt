@@ -1,6 +1,7 @@
 -- What a query keeps, and what its answer says of the rows.
 use Rattle.std.proofs.Common.{[], ◌≡◌, ◌⊎◌, inl, inr, Bool, true, false, ℕ, List, map, Option}
-use Rattle.std.proofs.Common.{Some, None, Result, Ok, Err, IfOk, IfErr, IsTrue, refl, sym, ap, subst}
+use Rattle.std.proofs.Common.{Some, None, Result, Ok, Err, IfOk, IfErr, IsTrue, refl, sym, ap}
+use Rattle.std.proofs.Common.{subst}
 use Rattle.std.proofs.Common.{◌∙◌, true≢false, if◌then◌else◌, IsPermutation}
 use Rattle.std.proofs.lemmas.List.Sorted.{IsPermutation-sym}
 use Rattle.sqlite_trees.proofs.Doubt.{no_doubt}

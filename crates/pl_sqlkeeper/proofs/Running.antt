@@ -1,5 +1,6 @@
 -- Changes whose statements ran, one after the other.
-use Rattle.std.proofs.Common.{Result, Ok, Err, OnOk, subst₂, ◌≡◌, ℕ, suc, ◌+◌, ◌<◌, List, [], ◌∷◌, length, drop, get_or}
+use Rattle.std.proofs.Common.{Result, Ok, Err, OnOk, subst₂, ◌≡◌, ℕ, suc, ◌+◌, ◌<◌, List, [], ◌∷◌}
+use Rattle.std.proofs.Common.{length, drop, get_or}
 use Rattle.std.proofs.Common.{IsTrue, Option, Some, None, sym, ap, subst, ◌∙◌, add-one}
 use Rattle.std.proofs.Common.{drop-cons}
 use Rattle.sqlite.specs.Store.{Ghosts}

@@ -1,6 +1,8 @@
 -- What statements that ran, a commit and a rollback make of the rows that are told.
-use Rattle.std.proofs.Common.{◌++◌, not, ◌≡◌, ◌⊎◌, inl, inr, Bool, true, false, ℕ, List, [], ◌∷◌, Option, Some}
-use Rattle.std.proofs.Common.{Result, Ok, Err, OnOk, OnErr, None, IfSome, IsTrue, refl, sym, ap, subst, ◌∙◌, true≢false, if◌then◌else◌}
+use Rattle.std.proofs.Common.{◌++◌, not, ◌≡◌, ◌⊎◌, inl, inr, Bool, true, false, ℕ, List, [], ◌∷◌}
+use Rattle.std.proofs.Common.{Option, Some}
+use Rattle.std.proofs.Common.{Result, Ok, Err, OnOk, OnErr, None, IfSome, IsTrue, refl, sym, ap}
+use Rattle.std.proofs.Common.{subst, ◌∙◌, true≢false, if◌then◌else◌}
 use Rattle.sqlite.specs.declared.types.Value.TheVariants.{Blob, Int}
 use Rattle.sqlite.specs.Edit.{is_taken}
 use Rattle.sqlite.specs.Order.{Row}

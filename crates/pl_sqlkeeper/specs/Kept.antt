@@ -1,5 +1,6 @@
 -- The rows that a keeper over a database tells.
-use Rattle.std.specs.Prelude.{◌≡◌, ◌<ℤ◌, Bool, true, false, if◌then◌else◌, List, [], ◌∷◌, length, map, flat_map}
+use Rattle.std.specs.Prelude.{◌≡◌, ◌<ℤ◌, Bool, true, false, if◌then◌else◌, List, [], ◌∷◌, length}
+use Rattle.std.specs.Prelude.{map, flat_map}
 use Rattle.std.specs.Prelude.{Option, Some, None, IsTrue}
 use Rattle.std.specs.List.{AllAdjacentBelow, AllByRecursion}
 use Rattle.sqlite.specs.declared.types.Value.{Value}

@@ -9,7 +9,8 @@ returns-clause-ours g c =
     let new = c.make_all.new.conn in
     ours_after g.S.Store c.args.changes.now c.args.conn.now new
     (open_clean g.S.Store g.met.S.Store.shut_if_dirty new)
-    (c.is_autocommit-settled.ensures.settled (c.is_autocommit-settled.ensures.value ∙ ap not c.requires.idle))
+    (c.is_autocommit-settled.ensures.settled
+    (c.is_autocommit-settled.ensures.value ∙ ap not c.requires.idle))
     c.requires.ours c.make_all.result c.make_all.ensures.made c.make_all.ensures.none
 
 pub returns-clause-crash : goal.returns-clause-crash
@@ -22,7 +23,8 @@ returns-clause-applied g c =
     let new = c.make_all.new.conn in
     applied_after g.S.Store c.args.changes.now c.args.conn.now new
     (open_clean g.S.Store g.met.S.Store.shut_if_dirty new)
-    (c.is_autocommit-settled.ensures.settled (c.is_autocommit-settled.ensures.value ∙ ap not c.requires.idle))
+    (c.is_autocommit-settled.ensures.settled
+    (c.is_autocommit-settled.ensures.value ∙ ap not c.requires.idle))
     c.requires.ours c.make_all.result c.make_all.ensures.made
 
 pub returns-clause-tells : goal.returns-clause-tells
@@ -30,7 +32,8 @@ returns-clause-tells g c =
     let new = c.make_all.new.conn in
     tells_after g.S.Store c.args.changes.now c.args.conn.now new
     (open_clean g.S.Store g.met.S.Store.shut_if_dirty new)
-    (c.is_autocommit-settled.ensures.settled (c.is_autocommit-settled.ensures.value ∙ ap not c.requires.idle))
+    (c.is_autocommit-settled.ensures.settled
+    (c.is_autocommit-settled.ensures.value ∙ ap not c.requires.idle))
     c.requires.ours c.make_all.result c.make_all.ensures.made
 
 pub returns-clause-lasting : goal.returns-clause-lasting
@@ -38,7 +41,8 @@ returns-clause-lasting g c =
     let new = c.make_all.new.conn in
     lasting_after g.S.Store c.args.changes.now c.args.conn.now new
     (open_clean g.S.Store g.met.S.Store.shut_if_dirty new)
-    (c.is_autocommit-settled.ensures.settled (c.is_autocommit-settled.ensures.value ∙ ap not c.requires.idle))
+    (c.is_autocommit-settled.ensures.settled
+    (c.is_autocommit-settled.ensures.value ∙ ap not c.requires.idle))
     c.requires.ours c.make_all.result c.make_all.ensures.lasting
 
 pub returns-clause-kept : goal.returns-clause-kept
@@ -46,5 +50,6 @@ returns-clause-kept g c =
     let new = c.make_all.new.conn in
     kept_after g.S.Store c.args.changes.now c.args.conn.now new
     (open_clean g.S.Store g.met.S.Store.shut_if_dirty new)
-    (c.is_autocommit-settled.ensures.settled (c.is_autocommit-settled.ensures.value ∙ ap not c.requires.idle))
+    (c.is_autocommit-settled.ensures.settled
+    (c.is_autocommit-settled.ensures.value ∙ ap not c.requires.idle))
     c.requires.ours c.make_all.result c.make_all.ensures.none
