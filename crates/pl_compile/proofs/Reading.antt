@@ -64,7 +64,8 @@ read_more texts read key text are there at file found =
 pub none_yet : (texts : Texts) (read : Read) → read ≡ finite.empty → AreOf texts read
 none_yet texts read is key file found =
     absurd (false≢true
-    (ap is_some (sym (finite.get-empty file_cmp key) ∙ (ap (λ read. finite.get read key) (sym is) ∙ found))))
+    (ap is_some (sym (finite.get-empty file_cmp key) ∙ (ap (λ read. finite.get read key) (sym is) ∙
+    found))))
 
 -- ---- a file that is asked for
 

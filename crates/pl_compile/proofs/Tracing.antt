@@ -4,6 +4,7 @@ use Rattle.std.specs.List.{AllByRecursion as Each}
 use Rattle.pl_base.specs.declared.expanded.Argument.{Argument}
 use Rattle.pl_base.specs.declared.expanded.Expanded.{Expanded}
 use Rattle.pl_base.specs.declared.place.FileKey.{FileKey}
+use Rattle.pl_eval_laws.specs.Marks.{marks_of}
 use Rattle.pl_eval_laws.specs.Trees.{origins_of}
 use Rattle.pl_origins.specs.Through.{IsThrough}
 use Rattle.pl_plan.specs.Plans.{IsPlanOf}
@@ -11,13 +12,15 @@ use Rattle.pl_plan.specs.declared.plan.Compiled.{Compiled}
 use Rattle.pl_provenance.specs.Closure.{ArePairsFromClosure, IsFromClosure}
 use Rattle.pl_provenance.specs.Known.{home_in, IsKnown}
 use Rattle.pl_provenance.specs.Roots.{IsPairThrough, jobs_of}
+use Rattle.pl_provenance.specs.Texts.{IsSaid, Says}
 use Rattle.pl_provenance.specs.Written.{ArePairsWhereTold, IsWhereTold}
 use Rattle.pl_schema.specs.Pipelines.{pipeline_of}
 use Rattle.pl_schema_parts.specs.declared.pipeline.Pipeline.{Pipeline}
-use Rattle.pl_step_origins.proofs.Planned.{extend_same, jobs_hold, steps_hold}
+use Rattle.pl_step_origins.proofs.Planned.{extend_same, jobs_hold, steps_hold, steps_say}
 use Rattle.pl_compile.specs.Compiling.{Expands, texts_of}
 use Rattle.pl_compile.specs.Reading.{Texts, read_all}
-use Rattle.pl_compile.specs.Tracing.{AreKnown, AreWritten, ComeFromClosure, ComeThrough}
+use Rattle.pl_compile.specs.Tracing.{AreKnown, AreSaid, AreWritten, ComeFromClosure}
+use Rattle.pl_compile.specs.Tracing.{ComeThrough}
 
 module _ (texts : Texts) (whole : Expanded) (pipeline : Pipeline) (compiled : Compiled)
     (reads : pipeline_of whole ≡ Ok pipeline) (plans : IsPlanOf pipeline (Ok compiled.plan)) where
@@ -65,3 +68,6 @@ module _ (texts : Texts) (whole : Expanded) (pipeline : Pipeline) (compiled : Co
         (jobs_hold (IsKnown (read_all texts) (home_in root whole) whole.used arguments)
         whole.tree known);
   }
+
+  pub are_said : Each (IsSaid (read_all texts)) (marks_of whole.tree) → AreSaid texts compiled
+  are_said all = steps_say (Says (read_all texts)) whole pipeline compiled.plan reads plans all

@@ -1,5 +1,5 @@
--- What a pipeline compiles to: it is expanded, read by the schema and planned, and the first refusal
--- of these is the answer.
+-- What a pipeline compiles to: it is expanded, read by the schema and planned, and the first
+-- refusal of these is the answer.
 use Rattle.std.specs.Prelude.{◌≡◌, ◌⊎◌, ℕ, List, [], ◌∷◌, flat_map, Option, Some, None, Result, Ok}
 use Rattle.std.specs.Prelude.{Err}
 use Rattle.std.specs.FinMap as finite

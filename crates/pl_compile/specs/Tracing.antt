@@ -8,8 +8,9 @@ use Rattle.pl_origins.specs.Through.{IsThrough}
 use Rattle.pl_plan.specs.declared.plan.Compiled.{Compiled}
 use Rattle.pl_provenance.specs.Closure.{IsFromClosure}
 use Rattle.pl_provenance.specs.Known.{home_in, IsKnown}
+use Rattle.pl_provenance.specs.Texts.{IsSaid}
 use Rattle.pl_provenance.specs.Written.{IsWhereTold}
-use Rattle.pl_step_origins.specs.Steps.{AreStepsFrom}
+use Rattle.pl_step_origins.specs.Steps.{AreStepsFrom, AreStepsSaying}
 use Rattle.pl_compile.specs.Compiling.{Expands, texts_of}
 use Rattle.pl_compile.specs.Reading.{Texts, read_all}
 
@@ -44,4 +45,10 @@ pub record AreKnown (texts : Texts) (root : FileKey) (arguments : List Argument)
   pub expands : Expands texts root arguments whole
   pub sources : compiled.sources.files ≡ texts_of texts whole.used
   pub known :
-      AreStepsFrom (IsKnown (read_all texts) (home_in root whole) whole.used arguments) compiled.plan
+      AreStepsFrom (IsKnown (read_all texts) (home_in root whole) whole.used arguments)
+      compiled.plan
+
+-- And each scalar and key in a step that no argument gave and no expression made says what is
+-- written where it stands.
+abbrev pub AreSaid : Texts → Compiled → Type 0
+AreSaid texts compiled = AreStepsSaying (IsSaid (read_all texts)) compiled.plan

@@ -4,7 +4,8 @@ ghost use Rattle.pl_base.specs.declared.place.FileKey.{FileKey as Key};
 ghost use Rattle.pl_compile.specs.Compiling.{Compiles, Plans, PlansTree, Reads, names_of};
 ghost use Rattle.pl_compile.specs.Compiling.{plan_refusal, schema_refusal, sources_of, text_at};
 ghost use Rattle.pl_compile.specs.Compiling.{texts_of};
-ghost use Rattle.pl_compile.specs.Tracing.{AreKnown, AreWritten, ComeFromClosure, ComeThrough};
+ghost use Rattle.pl_compile.specs.Tracing.{AreKnown, AreSaid, AreWritten, ComeFromClosure};
+ghost use Rattle.pl_compile.specs.Tracing.{ComeThrough};
 
 use crate::expanding::expanded;
 use crate::fault::CompileFault;
@@ -140,8 +141,8 @@ fn sources_of(
     })
 }
 
-/// The plan of a pipeline whose files are texts, with what it was compiled from: the root file's key,
-/// the arguments, and the texts of the files that were used, in the order in which they were.
+/// The plan of a pipeline whose files are texts, with what it was compiled from: the root file's
+/// key, the arguments, and the texts of the files that were used, in the order in which they were.
 ///
 /// `root` is the key of the pipeline's file, `arguments` are the run's, as texts. The pipeline is
 /// expanded, read by the schema and planned. Refused with the first code of the expansion (X1 to
@@ -155,8 +156,10 @@ fn sources_of(
 /// (clause `written`), which is the template or one that it calls, itself or by files that it calls
 /// (clause `closure`). Each origin in a step tells places of used files or of run arguments, its
 /// borders lead into files among the sources, and what no argument and no expression gave stands
-/// where its borders lead from the root file (clause `known`; Microsoft Learn, Azure Pipelines,
-/// "Security through templates").
+/// where its borders lead from the root file, along paths that these files say (clause `known`).
+/// And each scalar and key in a step that no argument gave and no expression made says what is
+/// written where it stands (clause `texts`; Microsoft Learn, Azure Pipelines, "Security through
+/// templates").
 pub fn compile(
     alloc: Global,
     files: &FileSet,
@@ -169,6 +172,7 @@ pub fn compile(
     ensures closure { (file : Key) →
         IfOk result (ComeFromClosure files.now root.now arguments.now file) }
     ensures known { IfOk result (AreKnown files.now root.now arguments.now) }
+    ensures texts { IfOk result (AreSaid files.now) }
 {
     let whole = expanded(alloc, files, root, arguments)?;
     match tree_planned(alloc, &whole) {

@@ -4,10 +4,12 @@ ghost use Rattle.pl_base.specs.declared.place.FileKey.{FileKey as Key};
 ghost use Rattle.pl_base.specs.declared.expanded.Expanded.{Expanded as Tree};
 ghost use Rattle.pl_directives.specs.Gives.{Gives};
 ghost use Rattle.pl_directives.specs.declared.fault.ExpandFault.{ExpandFault as Fault};
+ghost use Rattle.pl_eval_laws.specs.Marks.{marks_of};
 ghost use Rattle.pl_eval_laws.specs.Trees.{origins_of};
 ghost use Rattle.pl_provenance.specs.Closure.{ArePairsFromClosure};
 ghost use Rattle.pl_provenance.specs.Known.{IsKnown, home_in};
 ghost use Rattle.pl_provenance.specs.Roots.{IsPairThrough, jobs_of};
+ghost use Rattle.pl_provenance.specs.Texts.{IsSaid};
 ghost use Rattle.pl_provenance.specs.Written.{ArePairsWhereTold};
 ghost use Rattle.pl_compile.specs.Reading.{read_all, tree_of};
 ghost use Rattle.pl_compile.specs.Refusals.{Tells};
@@ -38,20 +40,22 @@ fn told(alloc: Global, expanded: Result<Expanded, ExpandFault>) -> Result<Expand
 /// "Templates").
 ///
 /// `root` is the key of the pipeline's file, `arguments` are the run's, as texts. Each file is read
-/// as YAML once at most, and only where it is reached. What comes out is the tree with the origin of
-/// each node, the template that the root extends, the repositories and the files that were used.
-/// Refused with the first code of the expansion, X1 to X16, at its place; where that is X12, X13, X14
-/// or X16 its one detail is the code of what is wrong with the expression, its value, the parameter
-/// or the text. Memory where memory was wanting.
+/// as YAML once at most, and only where it is reached. What comes out is the tree with the origin
+/// of each node, the template that the root extends, the repositories and the files that were used.
+/// Refused with the first code of the expansion, X1 to X16, at its place; where that is X12, X13,
+/// X14 or X16 its one detail is the code of what is wrong with the expression, its value, the
+/// parameter or the text. Memory where memory was wanting.
 ///
-/// Where the root extends a template, each key `stages`, `jobs` and `steps` of the tree and each node
-/// and key under it crossed the border `extends` just once, and into that template (clause `steps`);
-/// and what of these no argument and no expression gave is written in the file of the last border
-/// that its origin tells (clause `written`), which is the template or a file that it calls, itself or
-/// by files that it calls (clause `closure`). Each origin in the whole tree tells places of used
-/// files or of run arguments, its borders lead into used files that are there, and what no argument
-/// and no expression gave stands where its borders lead from the root file (clause `known`;
-/// Microsoft Learn, Azure Pipelines, "Security through templates").
+/// Where the root extends a template, each key `stages`, `jobs` and `steps` of the tree and each
+/// node and key under it crossed the border `extends` just once, and into that template (clause
+/// `steps`); and what of these no argument and no expression gave is written in the file of the
+/// last border that its origin tells (clause `written`), which is the template or a file that it
+/// calls, itself or by files that it calls (clause `closure`). Each origin in the whole tree tells
+/// places of used files or of run arguments, its borders lead into used files that are there, and
+/// what no argument and no expression gave stands where its borders lead from the root file, along
+/// paths that these files say (clause `known`). And each scalar and key that no argument gave and
+/// no expression made says what is written where it stands (clause `texts`; Microsoft Learn, Azure
+/// Pipelines, "Security through templates").
 pub fn expanded(
     alloc: Global,
     files: &FileSet,
@@ -69,6 +73,8 @@ pub fn expanded(
         AllByRecursion
         (IsKnown (read_all files.now) (home_in root.now whole) whole.used arguments.now)
         (origins_of whole.tree)) }
+    ensures texts { IfOk result (λ whole.
+        AllByRecursion (IsSaid (read_all files.now)) (marks_of whole.tree)) }
 {
     let mut read = TextFiles::new(alloc, files);
     let expanded = expand(alloc, &mut read, root, arguments);

@@ -1,5 +1,5 @@
-//! Pipelines, compiled: from the texts of files to the expanded tree and to the plan, or to the first
-//! refusal.
+//! Pipelines, compiled: from the texts of files to the expanded tree and to the plan, or to the
+//! first refusal.
 #![tactic(auto)]
 
 mod codes;

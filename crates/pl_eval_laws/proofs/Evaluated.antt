@@ -44,13 +44,15 @@ use Rattle.pl_eval.specs.Means.{means}
 use Rattle.pl_reading.specs.Steps.{◌>>=◌}
 use Rattle.pl_eval_laws.proofs.Lists.{Has, has_map, has_next, each_found, each_at, each_map}
 use Rattle.pl_eval_laws.proofs.Lists.{each_filter_map}
-use Rattle.pl_eval_laws.proofs.Trees.{NodeFrom, PairFrom, OpenedFrom, null_node, truth_node}
+use Rattle.pl_eval_laws.specs.Marks.{Said}
+use Rattle.pl_eval_laws.proofs.Trees.{Asked, Told, NodeFrom, PairFrom, OpenedFrom, null_node}
+use Rattle.pl_eval_laws.proofs.Trees.{truth_node}
 use Rattle.pl_eval_laws.proofs.Trees.{number_node, version_node, text_node, array_node, node_parts}
 use Rattle.pl_eval_laws.proofs.Trees.{pair_parts, value_parts}
 
 -- ---- what is found in a value comes from it
 
-module _ (P L : Origin → Type 0) where
+module _ (P L : Asked) where
   item_of : (pair : MarkedPair) → PairFrom P L pair → NodeFrom P L pair.item
   item_of pair all = (pair_parts P L pair all).1
 
@@ -122,43 +124,49 @@ module _ (P L : Origin → Type 0) where
   items_from (open_value.Str text) all = tt
 
   projected_from :
-      (names : List (List ℕ)) (node : MarkedNode) → NodeFrom P L node → (here : Origin) → P here →
+      (names : List (List ℕ)) (node : MarkedNode) → NodeFrom P L node → (here : Origin) → P.own here
+      →
       NodeFrom P L (made here (projected names node.value))
-  projected_from names node all here made_here =
-      array_node P L here made_here _ (each_filter_map (NodeFrom P L) (NodeFrom P L)
+  projected_from names node all here own_here =
+      array_node P L here own_here _ (each_filter_map (NodeFrom P L) (NodeFrom P L)
       (member_behind names) (member_behind_from names) (items_of node.value)
       (items_from (out-Value node.value) (below_from node all)))
 
 -- ---- the functions that look at the values of all arguments make atoms, and `split` texts
 
-module _ (P L : Origin → Type 0) (here : Origin) (made_here : P here) where
+module _ (P L : Asked) (here : Origin) (own_here : P.own here)
+    (told_here : (said : Said) → Told P here said) where
   abbrev Made : Value → Type 0
   Made one = NodeFrom P L (made here one)
 
   literal_from : (one : Value) → IsLiteral one → Made one
-  literal_from (Truth truth) is = truth_node P L here made_here truth
-  literal_from (Number number) is = number_node P L here made_here number
-  literal_from (Version segments) is = version_node P L here made_here segments
-  literal_from (Str text) is = text_node P L here made_here text
+  literal_from (Truth truth) is = truth_node P L here own_here truth (told_here _)
+  literal_from (Number number) is = number_node P L here own_here number (told_here _)
+  literal_from (Version segments) is = version_node P L here own_here segments (told_here _)
+  literal_from (Str text) is = text_node P L here own_here text (told_here _)
   literal_from one is = absurd is
 
   text_made : (text : Result (List ℕ) TextFault) → IfOk (text_value text) Made
-  text_made (Ok text) = text_node P L here made_here text
+  text_made (Ok text) = text_node P L here own_here text (told_here _)
   text_made (Err fault) = tt
 
   each_text_made :
       (texts : List (List ℕ)) → Each (NodeFrom P L) (map (λ text. made here (Str text)) texts)
   each_text_made [] = tt
-  each_text_made (text ∷ texts) = (text_node P L here made_here text, each_text_made texts)
+  each_text_made (text ∷ texts) = (
+    text_node P L here own_here text (told_here _),
+    each_text_made
+        texts,
+  )
 
   texts_made :
       (texts : Result (List (List ℕ)) TextFault) → IfOk (texts_value here texts) Made
-  texts_made (Ok texts) = array_node P L here made_here _ (each_text_made texts)
+  texts_made (Ok texts) = array_node P L here own_here _ (each_text_made texts)
   texts_made (Err fault) = tt
 
   length_made : (of : Opened) → IfOk (length_in of) Made
-  length_made (open_value.Str text) = number_node P L here made_here _
-  length_made (open_value.Array items) = number_node P L here made_here _
+  length_made (open_value.Str text) = number_node P L here own_here _ (told_here _)
+  length_made (open_value.Array items) = number_node P L here own_here _ (told_here _)
   length_made (open_value.Object pairs) = tt
   length_made open_value.Null = tt
   length_made (open_value.Bool is) = tt
@@ -168,11 +176,11 @@ module _ (P L : Origin → Type 0) (here : Origin) (made_here : P here) where
   compared_made :
       (test : Ordering → Bool) (order : Result Ordering EvalCode) →
       IfOk (order >>= λ order. Ok (Truth (test order))) Made
-  compared_made test (Ok order) = truth_node P L here made_here (test order)
+  compared_made test (Ok order) = truth_node P L here own_here (test order) (told_here _)
   compared_made test (Err code) = tt
 
   one_made : (function : UnaryFunction) (one : Value) → IfOk (of_one function one) Made
-  one_made unary.Not one = truth_node P L here made_here _
+  one_made unary.Not one = truth_node P L here own_here _ (told_here _)
   one_made unary.Length one = length_made (out-Value one)
   one_made unary.Lower one = text_made _
   one_made unary.Upper one = text_made _
@@ -181,17 +189,17 @@ module _ (P L : Origin → Type 0) (here : Origin) (made_here : P here) where
   two_made :
       (function : BinaryFunction) (left right : Value) →
       IfOk (of_two here function left right) Made
-  two_made binary.Xor left right = truth_node P L here made_here _
-  two_made binary.Eq left right = truth_node P L here made_here _
-  two_made binary.Ne left right = truth_node P L here made_here _
+  two_made binary.Xor left right = truth_node P L here own_here _ (told_here _)
+  two_made binary.Eq left right = truth_node P L here own_here _ (told_here _)
+  two_made binary.Ne left right = truth_node P L here own_here _ (told_here _)
   two_made binary.Lt left right = compared_made is_lt (ordered left right)
   two_made binary.Le left right = compared_made is_le (ordered left right)
   two_made binary.Gt left right = compared_made is_gt (ordered left right)
   two_made binary.Ge left right = compared_made is_ge (ordered left right)
-  two_made binary.Contains left right = truth_node P L here made_here _
-  two_made binary.StartsWith left right = truth_node P L here made_here _
-  two_made binary.EndsWith left right = truth_node P L here made_here _
-  two_made binary.ContainsValue left right = truth_node P L here made_here _
+  two_made binary.Contains left right = truth_node P L here own_here _ (told_here _)
+  two_made binary.StartsWith left right = truth_node P L here own_here _ (told_here _)
+  two_made binary.EndsWith left right = truth_node P L here own_here _ (told_here _)
+  two_made binary.ContainsValue left right = truth_node P L here own_here _ (told_here _)
   two_made binary.Join left right = text_made _
   two_made binary.Split left right = texts_made _
 
@@ -212,17 +220,17 @@ module _ (P L : Origin → Type 0) (here : Origin) (made_here : P here) where
   answer_from (Err code) whole = tt
 
   told_from : (is : Result Bool EvalCode) → IfOk (told here is) (NodeFrom P L)
-  told_from (Ok is) = truth_node P L here made_here is
+  told_from (Ok is) = truth_node P L here own_here is (told_here _)
   told_from (Err code) = tt
 
   contrary_from : (is : Result Bool EvalCode) → IfOk (contrary here is) (NodeFrom P L)
-  contrary_from (Ok is) = truth_node P L here made_here _
+  contrary_from (Ok is) = truth_node P L here own_here _ (told_here _)
   contrary_from (Err code) = tt
 
   argument_from :
       (arguments : List Meaning) (at : ℕ) → Each (λ one. IfOk one (NodeFrom P L)) arguments →
       IfOk (argument here arguments at) (NodeFrom P L)
-  argument_from [] at all = null_node P L here made_here
+  argument_from [] at all = null_node P L here own_here (told_here _)
   argument_from (first ∷ arguments) zero all = all.0
   argument_from (first ∷ arguments) (suc at) all = argument_from arguments at all.1
 
@@ -258,14 +266,14 @@ module _ (P L : Origin → Type 0) (here : Origin) (made_here : P here) where
       (arguments : List Meaning) → Each (λ one. IfOk one (NodeFrom P L)) arguments →
       IfOk (first_filled here arguments) (NodeFrom P L)
   unfolding first_filled
-  first_from [] all = null_node P L here made_here
+  first_from [] all = null_node P L here own_here (told_here _)
   first_from (first ∷ arguments) all =
       first_by first (first_filled here arguments) all.0 (first_from arguments all.1)
 
   status_from :
       (known : Known) (function : Function) (nodes : Result (List MarkedNode) EvalCode) →
       IfOk (nodes >>= status known here function) (NodeFrom P L)
-  status_from known function (Ok nodes) = truth_node P L here made_here _
+  status_from known function (Ok nodes) = truth_node P L here own_here _ (told_here _)
   status_from known function (Err code) = tt
 
   strict_from :
@@ -293,7 +301,7 @@ module _ (P L : Origin → Type 0) (here : Origin) (made_here : P here) where
   looked_from :
       (found : Option MarkedNode) → Has (NodeFrom P L) found →
       NodeFrom P L (unwrap_or found (made here Null))
-  looked_from None has = null_node P L here made_here
+  looked_from None has = null_node P L here own_here (told_here _)
   looked_from (Some node) has = has
 
   looked_up_from :
@@ -311,7 +319,7 @@ module _ (P L : Origin → Type 0) (here : Origin) (made_here : P here) where
   project_from :
       (of : Meaning) (names : List (List ℕ)) → IfOk of (NodeFrom P L) →
       IfOk (of >>= λ node. answer here (projected names node.value)) (NodeFrom P L)
-  project_from (Ok of) names from_of = projected_from P L names of from_of here made_here
+  project_from (Ok of) names from_of = projected_from P L names of from_of here own_here
   project_from (Err code) names from_of = tt
 
   module _ (known : Known)

@@ -1,18 +1,24 @@
--- What holds of all origins of a tree, and of the calls that its mappings would be, by its parts.
+-- What holds of all origins of a tree, of the calls that its mappings would be, and of what its
+-- scalars and keys say, by its parts.
 use Rattle.std.proofs.Common.{◌≡◌, ℕ, ℤ, Bool, Option, Some, None, List, [], ◌∷◌, map, sym, subst}
-use Rattle.std.proofs.Common.{rules}
+use Rattle.std.proofs.Common.{◌++◌, rules}
 use Rattle.std.specs.List.{AllByRecursion as Each}
 use Rattle.pl_base.specs.declared.origin.Origin.{Origin}
+use Rattle.pl_base.specs.declared.place.Place.{Place}
 use Rattle.pl_base.specs.declared.value.Value.{Value, out-Value, roll-Value, the_lemmas}
 use Rattle.pl_base.specs.declared.value.Value.TheVariants as value
 use Rattle.pl_base.specs.declared.value.Value.TheOpen.{Null, Bool as Truth, Number}
 use Rattle.pl_base.specs.declared.value.Value.TheOpen.{Version, Str, Array, Object}
 use Rattle.pl_base.specs.declared.value.MarkedNode.{MarkedNode}
 use Rattle.pl_base.specs.declared.value.MarkedPair.{MarkedPair}
+use Rattle.pl_eval_laws.specs.Marks.{Said, key as key_said, scalar, Mark, Marks, mark, said_at}
+use Rattle.pl_eval_laws.specs.Marks.{together as marks_together, marks_of, marks_in, IsTold}
 use Rattle.pl_eval_laws.specs.Trees.{Origins, together, origins_of, origins_below, origins_in}
 use Rattle.pl_eval_laws.proofs.Leads.{Opened, lead, led_by, head_in, head_by, head_of, leads_of}
 use Rattle.pl_eval_laws.proofs.Leads.{leads_below, leads_in, node_leads, pair_leads, layer_leads}
 use Rattle.pl_eval_laws.proofs.Leads.{opened_leads, opened_is, rolled}
+use Rattle.pl_eval_laws.proofs.Marks.{marks_below, atom_by, atom_of, node_marks, pair_marks}
+use Rattle.pl_eval_laws.proofs.Marks.{opened_marks, layer_marks}
 use Rattle.pl_eval_laws.proofs.Lists.{Has, each_append, each_front, each_back, each_implies}
 
 -- ---- the origins of a tree, by those of its parts
@@ -45,29 +51,70 @@ layer_origins (Str text) = search (rules, the_lemmas)
 layer_origins (Array items) = search (rules, the_lemmas)
 layer_origins (Object pairs) = search (rules, the_lemmas)
 
+-- ---- what is asked of a tree: of each origin, and of what its scalars and keys say where they are
+-- written
+
+pub record Asked : Type 1 where
+  pub own : Origin → Type 0
+  pub says : Place → Said → Type 0
+
+-- what is asked of a key or a scalar that says so
+abbrev pub Told : Asked → Origin → Said → Type 0
+Told P = IsTold P.says
+
+abbrev pub Marked : Asked → Mark → Type 0
+Marked P one = Told P one.origin one.said
+
+abbrev pub Atom : Asked → Origin → Option Value → Type 0
+Atom P origin atom = Has (λ one. Told P origin (scalar one)) atom
+
+-- of origins alone
+abbrev pub only : (Origin → Type 0) → Asked
+only own = record { own = own; says = λ place said. Unit {0} }
+
+-- what asks nothing
+abbrev pub Any : Asked
+Any = only (λ origin. Unit {0})
+
 -- ---- a predicate of all origins, and one of the calls that the mappings would be
 
-unfoldable pub NodeFrom : (Origin → Type 0) → (Origin → Type 0) → MarkedNode → Type 0
-NodeFrom P L node = Each P (origins_of node) × Each L (leads_of node)
+unfoldable pub NodeFrom : Asked → Asked → MarkedNode → Type 0
+NodeFrom P L node =
+    Each P.own (origins_of node) × (Each L.own (leads_of node) × Each (Marked P) (marks_of node))
 
-unfoldable pub ValueFrom : (Origin → Type 0) → (Origin → Type 0) → Value → Type 0
-ValueFrom P L one = Each P (origins_below one) × Each L (leads_below one)
+unfoldable pub ValueFrom : Asked → Asked → Value → Type 0
+ValueFrom P L one =
+    Each P.own (origins_below one)
+    × (Each L.own (leads_below one) × Each (Marked P) (marks_below one))
 
-unfoldable pub PairFrom : (Origin → Type 0) → (Origin → Type 0) → MarkedPair → Type 0
-PairFrom P L pair = Each P (origins_in pair) × Each L (leads_in pair)
+unfoldable pub PairFrom : Asked → Asked → MarkedPair → Type 0
+PairFrom P L pair =
+    Each P.own (origins_in pair) × (Each L.own (leads_in pair) × Each (Marked P) (marks_in pair))
 
-abbrev pub OpenedFrom : (Origin → Type 0) → (Origin → Type 0) → Opened → Type 0
+abbrev pub OpenedFrom : Asked → Asked → Opened → Type 0
 OpenedFrom P L (Array items) = Each (NodeFrom P L) items
 OpenedFrom P L (Object pairs) = Each (PairFrom P L) pairs
 OpenedFrom P L atom = Unit {0}
 
 -- the call that a node would be, where it is a mapping
-abbrev pub Led : (Origin → Type 0) → Origin → Option Origin → Type 0
-Led L origin head = Has (λ path. L (lead origin path)) head
+abbrev pub Led : Asked → Origin → Option Origin → Type 0
+Led L origin head = Has (λ path. L.own (lead origin path)) head
 
--- what asks nothing
-abbrev pub Any : Origin → Type 0
-Any origin = Unit {0}
+marks_from :
+    {X : Type 0} (f : X → Marks) (xs : List X) (Q : Mark → Type 0) →
+    Each (λ x. Each Q (f x)) xs → Each Q (marks_together (map f xs))
+marks_from f [] Q all = tt
+marks_from f (x ∷ xs) Q all =
+    each_append Q (f x) (marks_together (map f xs)) all.0 (marks_from f xs Q all.1)
+
+marks_apart :
+    {X : Type 0} (f : X → Marks) (xs : List X) (Q : Mark → Type 0) →
+    Each Q (marks_together (map f xs)) → Each (λ x. Each Q (f x)) xs
+marks_apart f [] Q all = tt
+marks_apart f (x ∷ xs) Q all = (
+  each_front Q (f x) (marks_together (map f xs)) all,
+  marks_apart f xs Q (each_back Q (f x) (marks_together (map f xs)) all),
+)
 
 module _ (P : Origin → Type 0) where
   together_from :
@@ -86,77 +133,120 @@ module _ (P : Origin → Type 0) where
     apart_from f xs (each_back P (f x) (together (map f xs)) all),
   )
 
-  led_listed : (origin : Origin) (head : Option Origin) → Led P origin head →
+  led_listed : (origin : Origin) (head : Option Origin) → Has (λ path. P (lead origin path)) head →
       Each P (led_by origin head)
   led_listed origin None led = tt
   led_listed origin (Some path) led = (led, tt)
 
   listed_led : (origin : Origin) (head : Option Origin) → Each P (led_by origin head) →
-      Led P origin head
+      Has (λ path. P (lead origin path)) head
   listed_led origin None all = tt
   listed_led origin (Some path) all = all.0
 
-zipped :
-    {X : Type 0} (A B : X → Type 0) (xs : List X) → Each A xs → Each B xs →
-    Each (λ x. A x × B x) xs
-zipped A B [] left right = tt
-zipped A B (x ∷ xs) left right = ((left.0, right.0), zipped A B xs left.1 right.1)
+module _ (P : Asked) (origin : Origin) where
+  atom_listed : (atom : Option Value) → Atom P origin atom → Each (Marked P) (said_at origin atom)
+  atom_listed None told = tt
+  atom_listed (Some one) told = (told, tt)
 
-module _ {X : Type 0} (A B : X → Type 0) where
-  lefts : (xs : List X) → Each (λ x. A x × B x) xs → Each A xs
-  lefts = each_implies (λ x. A x × B x) A (λ x both. both.0)
+  listed_atom : (atom : Option Value) → Each (Marked P) (said_at origin atom) → Atom P origin atom
+  listed_atom None all = tt
+  listed_atom (Some one) all = all.0
 
-  rights : (xs : List X) → Each (λ x. A x × B x) xs → Each B xs
-  rights = each_implies (λ x. A x × B x) B (λ x both. both.1)
+thrice :
+    {X : Type 0} (A B C : X → Type 0) (xs : List X) → Each A xs → Each B xs → Each C xs →
+    Each (λ x. A x × (B x × C x)) xs
+thrice A B C [] left middle right = tt
+thrice A B C (x ∷ xs) left middle right =
+    ((left.0, (middle.0, right.0)), thrice A B C xs left.1 middle.1 right.1)
 
-module _ (P L : Origin → Type 0) where
+module _ {X : Type 0} (A B C : X → Type 0) where
+  abbrev All : X → Type 0
+  All x = A x × (B x × C x)
+
+  lefts : (xs : List X) → Each All xs → Each A xs
+  lefts = each_implies All A (λ x all. all.0)
+
+  middles : (xs : List X) → Each All xs → Each B xs
+  middles = each_implies All B (λ x all. all.1.0)
+
+  rights : (xs : List X) → Each All xs → Each C xs
+  rights = each_implies All C (λ x all. all.1.1)
+
+module _ (P L : Asked) where
   -- ---- a tree from its parts
 
   pub node_from :
-      (origin : Origin) (one : Value) → P origin → ValueFrom P L one →
-      Led L origin (head_of one) → NodeFrom P L (record { origin = origin; value = one })
+      (origin : Origin) (one : Value) → P.own origin → Atom P origin (atom_of one) →
+      ValueFrom P L one → Led L origin (head_of one) →
+      NodeFrom P L (record { origin = origin; value = one })
   unfolding NodeFrom ValueFrom
-  node_from origin one own below led = (
-    subst (Each P) (sym (node_origins origin one)) (own, below.0),
-    subst (Each L) (sym (node_leads origin one))
-        (each_append L (led_by origin (head_of one)) (leads_below one)
-        (led_listed L origin (head_of one) led) below.1),
+  node_from origin one own told below led = (
+    subst (Each P.own) (sym (node_origins origin one)) (own, below.0),
+    (
+      subst (Each L.own) (sym (node_leads origin one))
+          (each_append L.own (led_by origin (head_of one)) (leads_below one)
+          (led_listed L.own origin (head_of one) led) below.1.0),
+      subst (Each (Marked P)) (sym (node_marks origin one))
+          (each_append (Marked P) (said_at origin (atom_of one)) (marks_below one)
+          (atom_listed P origin (atom_of one) told) below.1.1),
+    ),
   )
 
   pub pair_from :
-      (key : List ℕ) (key_origin : Origin) (item : MarkedNode) → P key_origin →
-      NodeFrom P L item →
+      (key : List ℕ) (key_origin : Origin) (item : MarkedNode) → P.own key_origin →
+      Told P key_origin (key_said key) → NodeFrom P L item →
       PairFrom P L (record { key = key; key_origin = key_origin; item = item })
   unfolding NodeFrom PairFrom
-  pair_from key key_origin item own below = (
-    subst (Each P) (sym (pair_origins key key_origin item)) (own, below.0),
-    subst (Each L) (sym (pair_leads key key_origin item)) below.1,
+  pair_from key key_origin item own told below = (
+    subst (Each P.own) (sym (pair_origins key key_origin item)) (own, below.0),
+    (
+      subst (Each L.own) (sym (pair_leads key key_origin item)) below.1.0,
+      subst (Each (Marked P)) (sym (pair_marks key key_origin item)) (told, below.1.1),
+    ),
   )
 
   pub layer_from : (layer : Opened) → OpenedFrom P L layer → ValueFrom P L (roll-Value layer)
   unfolding NodeFrom ValueFrom PairFrom
   layer_from layer parts = (
-    subst (Each P) (sym (layer_origins layer)) (origins layer parts),
-    subst (Each L) (sym (layer_leads layer)) (leads layer parts),
+    subst (Each P.own) (sym (layer_origins layer)) (origins layer parts),
+    (
+      subst (Each L.own) (sym (layer_leads layer)) (leads layer parts),
+      subst (Each (Marked P)) (sym (layer_marks layer)) (marks layer parts),
+    ),
   )
     where
-      origins : (layer : Opened) → OpenedFrom P L layer → Each P (opened_origins layer)
+      origins : (layer : Opened) → OpenedFrom P L layer → Each P.own (opened_origins layer)
       origins (Array items) parts =
-          together_from P origins_of items
-          (lefts (λ x. Each P (origins_of x)) (λ x. Each L (leads_of x)) items parts)
+          together_from P.own origins_of items
+          (lefts (λ x. Each P.own (origins_of x)) (λ x. Each L.own (leads_of x))
+          (λ x. Each (Marked P) (marks_of x)) items parts)
       origins (Object pairs) parts =
-          together_from P origins_in pairs
-          (lefts (λ x. Each P (origins_in x)) (λ x. Each L (leads_in x)) pairs parts)
+          together_from P.own origins_in pairs
+          (lefts (λ x. Each P.own (origins_in x)) (λ x. Each L.own (leads_in x))
+          (λ x. Each (Marked P) (marks_in x)) pairs parts)
       origins atom parts = tt
 
-      leads : (layer : Opened) → OpenedFrom P L layer → Each L (opened_leads layer)
+      leads : (layer : Opened) → OpenedFrom P L layer → Each L.own (opened_leads layer)
       leads (Array items) parts =
-          together_from L leads_of items
-          (rights (λ x. Each P (origins_of x)) (λ x. Each L (leads_of x)) items parts)
+          together_from L.own leads_of items
+          (middles (λ x. Each P.own (origins_of x)) (λ x. Each L.own (leads_of x))
+          (λ x. Each (Marked P) (marks_of x)) items parts)
       leads (Object pairs) parts =
-          together_from L leads_in pairs
-          (rights (λ x. Each P (origins_in x)) (λ x. Each L (leads_in x)) pairs parts)
+          together_from L.own leads_in pairs
+          (middles (λ x. Each P.own (origins_in x)) (λ x. Each L.own (leads_in x))
+          (λ x. Each (Marked P) (marks_in x)) pairs parts)
       leads atom parts = tt
+
+      marks : (layer : Opened) → OpenedFrom P L layer → Each (Marked P) (opened_marks layer)
+      marks (Array items) parts =
+          marks_from marks_of items (Marked P)
+          (rights (λ x. Each P.own (origins_of x)) (λ x. Each L.own (leads_of x))
+          (λ x. Each (Marked P) (marks_of x)) items parts)
+      marks (Object pairs) parts =
+          marks_from marks_in pairs (Marked P)
+          (rights (λ x. Each P.own (origins_in x)) (λ x. Each L.own (leads_in x))
+          (λ x. Each (Marked P) (marks_in x)) pairs parts)
+      marks atom parts = tt
 
   pub null_from : ValueFrom P L value.Null
   null_from = subst (ValueFrom P L) value.rolls-Null (layer_from Null tt)
@@ -187,118 +277,174 @@ module _ (P L : Origin → Type 0) where
 
   -- ---- a node from its parts
 
-  module _ (origin : Origin) (own : P origin) where
+  module _ (origin : Origin) (own : P.own origin) where
     abbrev Whole : Value → Type 0
     Whole one = NodeFrom P L (record { origin = origin; value = one })
 
-    layer_node : (layer : Opened) → OpenedFrom P L layer → Led L origin (head_by layer) →
-        Whole (roll-Value layer)
-    layer_node layer parts led =
-        node_from origin (roll-Value layer) own (layer_from layer parts)
+    layer_node : (layer : Opened) → Atom P origin (atom_by layer) → OpenedFrom P L layer →
+        Led L origin (head_by layer) → Whole (roll-Value layer)
+    layer_node layer told parts led =
+        node_from origin (roll-Value layer) own
+        (subst (λ (layer : Opened). Atom P origin (atom_by layer)) (sym (opened_is layer)) told)
+        (layer_from layer parts)
         (subst (λ (layer : Opened). Led L origin (head_by layer)) (sym (opened_is layer)) led)
 
-    pub null_node : Whole value.Null
-    null_node = subst Whole value.rolls-Null (layer_node Null tt tt)
+    pub null_node : Told P origin (scalar value.Null) → Whole value.Null
+    null_node told = subst Whole value.rolls-Null (layer_node Null told tt tt)
 
-    pub truth_node : (truth : Bool) → Whole (value.Bool truth)
-    truth_node truth = subst Whole (value.rolls-Bool truth) (layer_node (Truth truth) tt tt)
+    pub truth_node : (truth : Bool) → Told P origin (scalar (value.Bool truth)) →
+        Whole (value.Bool truth)
+    truth_node truth told =
+        subst Whole (value.rolls-Bool truth) (layer_node (Truth truth) told tt tt)
 
-    pub number_node : (number : ℤ) → Whole (value.Number number)
-    number_node number = subst Whole (value.rolls-Number number) (layer_node (Number number) tt tt)
+    pub number_node : (number : ℤ) → Told P origin (scalar (value.Number number)) →
+        Whole (value.Number number)
+    number_node number told =
+        subst Whole (value.rolls-Number number) (layer_node (Number number) told tt tt)
 
-    pub version_node : (segments : List ℕ) → Whole (value.Version segments)
-    version_node segments =
-        subst Whole (value.rolls-Version segments) (layer_node (Version segments) tt tt)
+    pub version_node : (segments : List ℕ) → Told P origin (scalar (value.Version segments)) →
+        Whole (value.Version segments)
+    version_node segments told =
+        subst Whole (value.rolls-Version segments) (layer_node (Version segments) told tt tt)
 
-    pub text_node : (text : List ℕ) → Whole (value.Str text)
-    text_node text = subst Whole (value.rolls-Str text) (layer_node (Str text) tt tt)
+    pub text_node : (text : List ℕ) → Told P origin (scalar (value.Str text)) →
+        Whole (value.Str text)
+    text_node text told = subst Whole (value.rolls-Str text) (layer_node (Str text) told tt tt)
 
     pub array_node : (items : List MarkedNode) → Each (NodeFrom P L) items →
         Whole (value.Array items)
-    array_node items all = subst Whole (value.rolls-Array items) (layer_node (Array items) all tt)
+    array_node items all =
+        subst Whole (value.rolls-Array items) (layer_node (Array items) tt all tt)
 
     pub object_node : (pairs : List MarkedPair) → Each (PairFrom P L) pairs →
         Led L origin (head_in pairs) → Whole (value.Object pairs)
     object_node pairs all led =
-        subst Whole (value.rolls-Object pairs) (layer_node (Object pairs) all led)
+        subst Whole (value.rolls-Object pairs) (layer_node (Object pairs) tt all led)
 
   -- ---- the parts of a tree
 
   pub node_parts : (node : MarkedNode) → NodeFrom P L node →
-      P node.origin × ValueFrom P L node.value
+      P.own node.origin × ValueFrom P L node.value
   unfolding NodeFrom ValueFrom
   node_parts node all =
-      let own = subst (Each P) (node_origins node.origin node.value) all.0 in
-      let below = subst (Each L) (node_leads node.origin node.value) all.1 in (
+      let own = subst (Each P.own) (node_origins node.origin node.value) all.0 in
+      let below = subst (Each L.own) (node_leads node.origin node.value) all.1.0 in
+      let told = subst (Each (Marked P)) (node_marks node.origin node.value) all.1.1 in (
         own.0,
         (
           own.1,
-          each_back L (led_by node.origin (head_of node.value)) (leads_below node.value) below,
+          (
+            each_back L.own (led_by node.origin (head_of node.value)) (leads_below node.value)
+                below,
+            each_back (Marked P) (said_at node.origin (atom_of node.value))
+                (marks_below node.value) told,
+          ),
         ),
       )
 
   pub node_led : (node : MarkedNode) → NodeFrom P L node → Led L node.origin (head_of node.value)
   unfolding NodeFrom
   node_led node all =
-      listed_led L node.origin (head_of node.value)
-      (each_front L (led_by node.origin (head_of node.value)) (leads_below node.value)
-      (subst (Each L) (node_leads node.origin node.value) all.1))
+      listed_led L.own node.origin (head_of node.value)
+      (each_front L.own (led_by node.origin (head_of node.value)) (leads_below node.value)
+      (subst (Each L.own) (node_leads node.origin node.value) all.1.0))
+
+  -- what a scalar says
+  pub node_told : (node : MarkedNode) → NodeFrom P L node → Atom P node.origin (atom_of node.value)
+  unfolding NodeFrom
+  node_told node all =
+      listed_atom P node.origin (atom_of node.value)
+      (each_front (Marked P) (said_at node.origin (atom_of node.value)) (marks_below node.value)
+      (subst (Each (Marked P)) (node_marks node.origin node.value) all.1.1))
 
   pub pair_parts : (pair : MarkedPair) → PairFrom P L pair →
-      P pair.key_origin × NodeFrom P L pair.item
+      P.own pair.key_origin × NodeFrom P L pair.item
   unfolding NodeFrom PairFrom
   pair_parts pair all =
-      let own = subst (Each P) (pair_origins pair.key pair.key_origin pair.item) all.0 in
-      (own.0, (own.1, subst (Each L) (pair_leads pair.key pair.key_origin pair.item) all.1))
+      let own = subst (Each P.own) (pair_origins pair.key pair.key_origin pair.item) all.0 in
+      let told = subst (Each (Marked P)) (pair_marks pair.key pair.key_origin pair.item) all.1.1 in (
+        own.0,
+        (
+          own.1,
+          (
+            subst (Each L.own) (pair_leads pair.key pair.key_origin pair.item) all.1.0,
+            told.1,
+          ),
+        ),
+      )
+
+  -- what a key says
+  pub pair_told : (pair : MarkedPair) → PairFrom P L pair →
+      Told P pair.key_origin (key_said pair.key)
+  unfolding PairFrom
+  pair_told pair all =
+      (subst (Each (Marked P)) (pair_marks pair.key pair.key_origin pair.item) all.1.1).0
 
   layer_parts : (layer : Opened) → ValueFrom P L (roll-Value layer) → OpenedFrom P L layer
   unfolding NodeFrom ValueFrom PairFrom
   layer_parts layer all =
-      by layer (subst (Each P) (layer_origins layer) all.0)
-      (subst (Each L) (layer_leads layer) all.1)
+      by layer (subst (Each P.own) (layer_origins layer) all.0)
+      (subst (Each L.own) (layer_leads layer) all.1.0)
+      (subst (Each (Marked P)) (layer_marks layer) all.1.1)
     where
-      by : (layer : Opened) → Each P (opened_origins layer) → Each L (opened_leads layer) →
-          OpenedFrom P L layer
-      by (Array items) origins leads =
-          zipped (λ x. Each P (origins_of x)) (λ x. Each L (leads_of x)) items
-          (apart_from P origins_of items origins) (apart_from L leads_of items leads)
-      by (Object pairs) origins leads =
-          zipped (λ x. Each P (origins_in x)) (λ x. Each L (leads_in x)) pairs
-          (apart_from P origins_in pairs origins) (apart_from L leads_in pairs leads)
-      by atom origins leads = tt
+      by : (layer : Opened) → Each P.own (opened_origins layer) → Each L.own (opened_leads layer) →
+          Each (Marked P) (opened_marks layer) → OpenedFrom P L layer
+      by (Array items) origins leads marks =
+          thrice (λ x. Each P.own (origins_of x)) (λ x. Each L.own (leads_of x))
+          (λ x. Each (Marked P) (marks_of x)) items
+          (apart_from P.own origins_of items origins) (apart_from L.own leads_of items leads)
+          (marks_apart marks_of items (Marked P) marks)
+      by (Object pairs) origins leads marks =
+          thrice (λ x. Each P.own (origins_in x)) (λ x. Each L.own (leads_in x))
+          (λ x. Each (Marked P) (marks_in x)) pairs
+          (apart_from P.own origins_in pairs origins) (apart_from L.own leads_in pairs leads)
+          (marks_apart marks_in pairs (Marked P) marks)
+      by atom origins leads marks = tt
 
   pub value_parts : (one : Value) → ValueFrom P L one → OpenedFrom P L (out-Value one)
   value_parts one all =
       layer_parts (out-Value one) (subst (ValueFrom P L) (sym (rolled one)) all)
 
-  pub first_from : (pairs : List MarkedPair) → Each (PairFrom P L) pairs → Has P (head_in pairs)
+  pub first_from : (pairs : List MarkedPair) → Each (PairFrom P L) pairs →
+      Has P.own (head_in pairs)
   first_from [] all = tt
   first_from (pair ∷ pairs) all = (node_parts pair.item (pair_parts pair all.0).1).0
 
-  head_within : (layer : Opened) → OpenedFrom P L layer → Has P (head_by layer)
+  head_within : (layer : Opened) → OpenedFrom P L layer → Has P.own (head_by layer)
   head_within (Object pairs) all = first_from pairs all
   head_within atom all = tt
 
   -- the first value of a mapping
-  pub head_from : (one : Value) → ValueFrom P L one → Has P (head_of one)
+  pub head_from : (one : Value) → ValueFrom P L one → Has P.own (head_of one)
   head_from one all = head_within (out-Value one) (value_parts one all)
 
 pub led_from :
     (P L : Origin → Type 0) (origin : Origin) → ((path : Origin) → P path → L (lead origin path)) →
-    (head : Option Origin) → Has P head → Led L origin head
+    (head : Option Origin) → Has P head → Has (λ path. L (lead origin path)) head
 led_from P L origin leads None has = tt
 led_from P L origin leads (Some path) has = leads path has
 
 -- ---- other predicates
 
-module _ (P Q L M : Origin → Type 0) (origins : (origin : Origin) → P origin → Q origin)
-    (leads : (origin : Origin) → L origin → M origin) where
+module _ (P Q L M : Asked) (origins : (origin : Origin) → P.own origin → Q.own origin)
+    (leads : (origin : Origin) → L.own origin → M.own origin)
+    (says : (origin : Origin) (said : Said) → Told P origin said → Told Q origin said) where
   pub node_implies : (node : MarkedNode) → NodeFrom P L node → NodeFrom Q M node
   unfolding NodeFrom
-  node_implies node all =
-      (each_implies P Q origins _ all.0, each_implies L M leads _ all.1)
+  node_implies node all = (
+    each_implies P.own Q.own origins _ all.0,
+    (
+      each_implies L.own M.own leads _ all.1.0,
+      each_implies (Marked P) (Marked Q) (λ one. says one.origin one.said) _ all.1.1,
+    ),
+  )
 
   pub pair_implies : (pair : MarkedPair) → PairFrom P L pair → PairFrom Q M pair
   unfolding PairFrom
-  pair_implies pair all =
-      (each_implies P Q origins _ all.0, each_implies L M leads _ all.1)
+  pair_implies pair all = (
+    each_implies P.own Q.own origins _ all.0,
+    (
+      each_implies L.own M.own leads _ all.1.0,
+      each_implies (Marked P) (Marked Q) (λ one. says one.origin one.said) _ all.1.1,
+    ),
+  )

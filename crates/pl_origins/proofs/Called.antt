@@ -1,5 +1,5 @@
 -- What calls of templates give.
-use Rattle.std.proofs.Common.{ℕ, zero, suc, Option, Some, None, Result, List, []}
+use Rattle.std.proofs.Common.{◌≡◌, ℕ, zero, suc, subst, Option, Some, None, Result, List, []}
 use Rattle.std.proofs.Common.{◌∷◌, ◌++◌, map, refl, Bool, true, false, cond}
 use Rattle.std.specs.Prelude.{IfOk, codes}
 use Rattle.std.specs.List.{AllByRecursion as Each}
@@ -11,7 +11,7 @@ use Rattle.pl_base.specs.declared.place.Place.{Place}
 use Rattle.pl_base.specs.declared.node.Node.{Node}
 use Rattle.pl_base.specs.declared.node.NodePair.{NodePair}
 use Rattle.pl_base.specs.declared.node.NodeBody.TheOpen.{Scalar, Seq, Map}
-use Rattle.pl_base.specs.declared.value.Value.{out-Value}
+use Rattle.pl_base.specs.declared.value.Value.{Value, Str, out-Value}
 use Rattle.pl_base.specs.declared.value.Value.TheOpen as layer
 use Rattle.pl_base.specs.declared.value.MarkedNode.{MarkedNode}
 use Rattle.pl_base.specs.declared.value.MarkedPair.{MarkedPair}
@@ -27,7 +27,9 @@ use Rattle.pl_directives.specs.declared.region.Form.{Form}
 use Rattle.pl_directives.specs.declared.region.Form.TheVariants.{Stages, Jobs, Steps, Variables}
 use Rattle.pl_directives.specs.declared.region.Region.TheVariants.{Calls as InCalls}
 use Rattle.pl_directives.specs.Counting.{entered}
-use Rattle.pl_calls.specs.Calls.{Called, path_text, pairs_from, arguments_at, arguments_behind}
+use Rattle.pl_expr.specs.Conversions.{cast_text}
+use Rattle.pl_calls.specs.Calls.{Called, text_from, path_text, pairs_from, arguments_at}
+use Rattle.pl_calls.specs.Calls.{arguments_behind}
 use Rattle.pl_calls.specs.Calls.{call_from, call_of, given_across}
 use Rattle.pl_calls.specs.Frames.{parameters_for, template_of, framed_by}
 use Rattle.pl_calls.specs.Judging.{unless_at, mapping_in, template_in, held, body_in, form_key}
@@ -36,39 +38,42 @@ use Rattle.pl_calls.specs.Parameters.{declared_by, bound_to}
 use Rattle.pl_calls.specs.Parts.{Body, body_of, under, key_place_of}
 use Rattle.pl_calls.specs.Reaching.{Opens, node_in as file_node}
 use Rattle.pl_calls.specs.declared.reaching.Opened.{Opened as OpenedFile}
-use Rattle.pl_expanding.specs.Expanding.{expanded}
-use Rattle.pl_expanding.specs.Following.{Follow, scope_of}
-use Rattle.pl_expanding.specs.Levels.{variable_item, items_of, items_from, frame_for, deeper}
-use Rattle.pl_expanding.specs.Levels.{call_by, followed}
+use Rattle.pl_recursion.specs.Expanding.{expanded}
+use Rattle.pl_recursion.specs.Following.{Follow, scope_of}
+use Rattle.pl_recursion.specs.Levels.{variable_item, items_of, items_from, frame_for, deeper}
+use Rattle.pl_recursion.specs.Levels.{call_by, followed}
 use Rattle.pl_eval_laws.proofs.Leads.{Opened, head_by}
+use Rattle.pl_eval_laws.specs.Marks.{scalar}
+use Rattle.pl_eval_laws.proofs.Marks.{atom_by, atom_of, atom_value}
 use Rattle.pl_eval_laws.proofs.Lists.{Has, each_map}
+use Rattle.pl_eval_laws.proofs.Trees.{Asked, Told, Atom, node_told, pair_told}
 use Rattle.pl_eval_laws.proofs.Trees.{NodeFrom, PairFrom, OpenedFrom, Led, pair_from, text_node}
 use Rattle.pl_eval_laws.proofs.Trees.{object_node, node_parts, node_led, pair_parts, value_parts}
-use Rattle.pl_origins.proofs.Bound.{ParamIn, BoundFrom, Takeable, declared_in, bound_to_from}
+use Rattle.pl_origins.proofs.Bound.{ParamIn, AreBound, Takeable, declared_in, bound_to_from}
 use Rattle.pl_origins.proofs.Bound.{parameters_from}
 use Rattle.pl_origins.proofs.Expanded.{expanded_gives}
 use Rattle.pl_origins.proofs.Following.{FollowedFrom, FollowFrom}
-use Rattle.pl_origins.proofs.Frames.{Seen, FrameFrom, ParameterFrom}
+use Rattle.pl_origins.proofs.Frames.{Seen, Keeps, Reads, FrameFrom, ParameterFrom}
 use Rattle.pl_origins.proofs.Moved.{moved_from}
-use Rattle.pl_origins.proofs.Nodes.{NodeIn, PairIn, BodyIn, node_in, under_in}
+use Rattle.pl_origins.proofs.Nodes.{Site, NodeIn, PairIn, BodyIn, node_in, under_in}
 use Rattle.pl_origins.proofs.Scalars.{OneFrom}
 use Rattle.pl_origins.proofs.Steps.{Gives, ok_then, any_then, plain_then, static_then, first_then}
 use Rattle.pl_origins.proofs.Steps.{used_then, used_static_then, alone_gives, given}
 
 -- ---- the frame behind a border
 
-module _ (P Q : Origin → Type 0) (R : Place → Type 0) (crossing : Crossing)
+module _ (P Q : Asked) (R : Site) (reads : Reads R Q) (crossing : Crossing)
     (crossings : List Crossing)
-    (literal_is : (place : Place) → R place →
-    Q (record { source = place; crossings = crossings ++ crossing ∷ [] }))
-    (made_is : (place : Place) → R place →
-    Q (record { source = place; crossings = (crossings ++ crossing ∷ []) ++ Made ∷ [] }))
-    (argument_is : (origin : Origin) → P origin → (name : List ℕ) (place : Place) → R place →
-    Seen Q R (across (Argument name place) (across crossing origin))) where
-  abbrev G : Origin → Type 0
+    (literal_is : (place : Place) → R.at place →
+    Q.own (record { source = place; crossings = crossings ++ crossing ∷ [] }))
+    (made_is : (place : Place) → R.at place →
+    Q.own (record { source = place; crossings = (crossings ++ crossing ∷ []) ++ Made ∷ [] }))
+    (argument_is : (origin : Origin) → P.own origin → (name : List ℕ) (place : Place) →
+    R.at place → (Seen Q R).own (across (Argument name place) (across crossing origin))) where
+  abbrev G : Asked
   G = Takeable (Seen Q R) R
 
-  abbrev M : Origin → Type 0
+  abbrev M : Asked
   M = Takeable Q R
 
   each_given :
@@ -78,7 +83,8 @@ module _ (P Q : Origin → Type 0) (R : Place → Type 0) (crossing : Crossing)
   each_given (pair ∷ arguments) all = (
     moved_from P G P M (across crossing) argument_is
         (λ origin is name place stands. (argument_is origin is name place stands).0)
-        (λ item path. refl) pair.item (pair_parts P P pair all.0).1,
+        (λ item path. refl) (λ origin said own told files. tt) pair.item
+        (pair_parts P P pair all.0).1,
     each_given arguments all.1,
   )
 
@@ -95,20 +101,22 @@ module _ (P Q : Origin → Type 0) (R : Place → Type 0) (crossing : Crossing)
       (declared_by (under (codes "parameters") pairs)) _
       (declared_in R (under (codes "parameters") pairs) (under_in R (codes "parameters") pairs
       within))
-      (λ declared stands. ok_then (Each (BoundFrom G M R)) (Each (ParameterFrom Q R))
+      (λ declared stands. ok_then (AreBound Q R reads declared) (Each (ParameterFrom Q R))
       (bound_to declared given) _
-      (bound_to_from G M R declared given stands (each_given arguments all))
-      (λ bound is_bound. parameters_from Q R behind literal_is declared bound stands is_bound)))
+      (bound_to_from Q R reads declared given stands (each_given arguments all))
+      (λ bound is_bound.
+      parameters_from Q R reads behind literal_is declared bound stands is_bound)))
       (λ parameters is. record {
         literal = literal_is;
         made = made_is;
+        reads = reads;
         parameters = is;
         loops = tt;
       })
 
 -- ---- a template in its file
 
-module _ (R : Place → Type 0) where
+module _ (R : Site) where
   unless_in :
       {X : Type 0} (F : X → Type 0) (problem : ExpandProblem) (place : Option Place) (x : X) →
       F x → IfOk (unless_at problem place x) F
@@ -144,11 +152,18 @@ module _ (R : Place → Type 0) where
 
 -- ---- the item of a call
 
-module _ (P : Origin → Type 0) where
+-- A path's text is said where it comes from, which is behind the borders that the call tells.
+abbrev pub PathFrom : Asked → Called → Type 0
+PathFrom P call =
+    (place : Place)
+    × (P.own (record { source = place; crossings = call.crossings })
+    × Told P (record { source = place; crossings = call.crossings }) (scalar (Str call.path)))
+
+module _ (P : Asked) where
   abbrev pub CallFrom : Called → Type 0
   CallFrom call =
-      P (record { source = call.at; crossings = call.crossings })
-      × Each (PairFrom P P) call.arguments
+      P.own (record { source = call.at; crossings = call.crossings })
+      × (PathFrom P call × Each (PairFrom P P) call.arguments)
 
   pub pairs_inside :
       (opened : Opened) (node : MarkedNode) → OpenedFrom P P opened →
@@ -179,118 +194,173 @@ module _ (P : Origin → Type 0) where
       (argument_by (is pair.key (codes "parameters")) pair _ all.0 tt)
       (λ found are. arguments_inside found pairs are all.1)
 
-  call_inside :
-      (opened : Opened) (own : Origin) → Led P own (head_by opened) → OpenedFrom P P opened →
-      IfOk (call_from opened own.source) CallFrom
-  call_inside (layer.Object []) own led all = tt
-  call_inside (layer.Object (pair ∷ pairs)) own led all =
-      any_then CallFrom (path_text pair.item) _
-      (λ text. ok_then (Each (PairFrom P P)) CallFrom (arguments_behind [] pairs) _
-      (arguments_inside [] pairs tt all.1) (λ arguments are. (led, are)))
-  call_inside (layer.Array items) own led all = tt
-  call_inside layer.Null own led all = tt
-  call_inside (layer.Bool truth) own led all = tt
-  call_inside (layer.Number number) own led all = tt
-  call_inside (layer.Version segments) own led all = tt
-  call_inside (layer.Str text) own led all = tt
+  cast_again : Keeps P.says → (path : MarkedNode) → Told P path.origin (scalar path.value) →
+      Told P path.origin (scalar (Str (cast_text path.value)))
+  cast_again keeps path told files =
+      keeps.text path.origin.source (cast_text path.value)
+      (keeps.cast path.origin.source path.value (told files))
 
-  pub call_of_from : (item : MarkedNode) → NodeFrom P P item → IfOk (call_of item) CallFrom
-  call_of_from item all =
-      call_inside (out-Value item.value) item.origin (node_led P P item all)
+  own_atom :
+      (path : MarkedNode) (atom : Option Value) → Has (λ atom. atom ≡ path.value) atom →
+      Atom P path.origin atom → Has (λ atom. Told P path.origin (scalar path.value)) atom
+  own_atom path None is told = tt
+  own_atom path (Some atom) is told =
+      subst (λ (one : Value). Told P path.origin (scalar one)) is told
+
+  -- the text that an atom is cast to is said too
+  path_told :
+      (keeps : Keeps P.says) (opened : Opened) (path : MarkedNode) → P.own path.origin →
+      Has (λ atom. Told P path.origin (scalar path.value)) (atom_by opened) →
+      IfOk (text_from opened path)
+      (λ text. Told P path.origin (scalar (Str text)))
+  path_told keeps (layer.Array items) path own told = tt
+  path_told keeps (layer.Object pairs) path own told = tt
+  path_told keeps layer.Null path own told = cast_again keeps path told
+  path_told keeps (layer.Bool truth) path own told = cast_again keeps path told
+  path_told keeps (layer.Number number) path own told = cast_again keeps path told
+  path_told keeps (layer.Version segments) path own told = cast_again keeps path told
+  path_told keeps (layer.Str text) path own told = cast_again keeps path told
+
+  path_from :
+      (keeps : Keeps P.says) (path : MarkedNode) → NodeFrom P P path →
+      IfOk (path_text path) (λ text. Told P path.origin (scalar (Str text)))
+  path_from keeps path all =
+      path_told keeps (out-Value path.value) path (node_parts P P path all).0
+      (own_atom path (atom_of path.value) (atom_value path.value) (node_told P P path all))
+
+  call_inside :
+      (keeps : Keeps P.says) (opened : Opened) (own : Origin) → Led P own (head_by opened) →
+      OpenedFrom P P opened → IfOk (call_from opened own.source) CallFrom
+  call_inside keeps (layer.Object []) own led all = tt
+  call_inside keeps (layer.Object (pair ∷ pairs)) own led all =
+      let path = (pair_parts P P pair all.0).1 in
+      ok_then (λ text. Told P pair.item.origin (scalar (Str text))) CallFrom
+      (path_text pair.item) _ (path_from keeps pair.item path)
+      (λ text told. ok_then (Each (PairFrom P P)) CallFrom (arguments_behind [] pairs) _
+      (arguments_inside [] pairs tt all.1)
+      (λ arguments are. (
+        led,
+        ((pair.item.origin.source, ((node_parts P P pair.item path).0, told)), are),
+      )))
+  call_inside keeps (layer.Array items) own led all = tt
+  call_inside keeps layer.Null own led all = tt
+  call_inside keeps (layer.Bool truth) own led all = tt
+  call_inside keeps (layer.Number number) own led all = tt
+  call_inside keeps (layer.Version segments) own led all = tt
+  call_inside keeps (layer.Str text) own led all = tt
+
+  pub call_of_from : Keeps P.says → (item : MarkedNode) → NodeFrom P P item →
+      IfOk (call_of item) CallFrom
+  call_of_from keeps item all =
+      call_inside keeps (out-Value item.value) item.origin (node_led P P item all)
       (value_parts P P item.value (node_parts P P item all).1)
 
   -- ---- what a call gives in its item's place
 
-  variable_from : (pair : MarkedPair) → PairFrom P P pair → NodeFrom P P (variable_item pair)
-  variable_from pair all =
+  variable_from : Keeps P.says → (pair : MarkedPair) → PairFrom P P pair →
+      NodeFrom P P (variable_item pair)
+  variable_from keeps pair all =
       let parts = pair_parts P P pair all in
+      let told = pair_told P P pair all in
+      let at = pair.key_origin.source in
       object_node P P pair.key_origin parts.0 _ (
         pair_from P P (codes "name") pair.key_origin _ parts.0
-            (text_node P P pair.key_origin parts.0 pair.key),
-        (pair_from P P (codes "value") pair.key_origin pair.item parts.0 parts.1, tt),
+            (λ files. keeps.name at pair.key (told files))
+            (text_node P P pair.key_origin parts.0 pair.key
+            (λ files. keeps.text at pair.key (told files))),
+        (
+          pair_from P P (codes "value") pair.key_origin pair.item parts.0
+              (λ files. keeps.value at pair.key (told files)) parts.1,
+          tt,
+        ),
       ) parts.0
 
   pub variables_from :
-      (pairs : List MarkedPair) → Each (PairFrom P P) pairs →
+      Keeps P.says → (pairs : List MarkedPair) → Each (PairFrom P P) pairs →
       Each (NodeFrom P P) (map variable_item pairs)
-  variables_from pairs all =
-      each_map (PairFrom P P) (NodeFrom P P) variable_item variable_from pairs all
+  variables_from keeps pairs all =
+      each_map (PairFrom P P) (NodeFrom P P) variable_item (variable_from keeps) pairs all
 
   items_inside :
-      (form : Form) (opened : Opened) (place : Place) → OpenedFrom P P opened →
+      (keeps : Keeps P.says) (form : Form) (opened : Opened) (place : Place) → OpenedFrom P P opened
+      →
       IfOk (items_of form opened place) (Each (NodeFrom P P))
-  items_inside form (layer.Array items) place all = all
-  items_inside Variables (layer.Object pairs) place all = variables_from pairs all
-  items_inside Stages (layer.Object pairs) place all = tt
-  items_inside Jobs (layer.Object pairs) place all = tt
-  items_inside Steps (layer.Object pairs) place all = tt
-  items_inside form layer.Null place all = tt
-  items_inside form (layer.Bool truth) place all = tt
-  items_inside form (layer.Number number) place all = tt
-  items_inside form (layer.Version segments) place all = tt
-  items_inside form (layer.Str text) place all = tt
+  items_inside keeps form (layer.Array items) place all = all
+  items_inside keeps Variables (layer.Object pairs) place all = variables_from keeps pairs all
+  items_inside keeps Stages (layer.Object pairs) place all = tt
+  items_inside keeps Jobs (layer.Object pairs) place all = tt
+  items_inside keeps Steps (layer.Object pairs) place all = tt
+  items_inside keeps form layer.Null place all = tt
+  items_inside keeps form (layer.Bool truth) place all = tt
+  items_inside keeps form (layer.Number number) place all = tt
+  items_inside keeps form (layer.Version segments) place all = tt
+  items_inside keeps form (layer.Str text) place all = tt
 
   items_from_inside :
-      (R : Place → Type 0) (form : Form) (place : Place) (one : Counted) → OneFrom P R one →
-      IfOk (items_from form place one) (FollowedFrom P)
-  items_from_inside R form place one all =
+      (R : Site) → Keeps P.says → (form : Form) (place : Place) (one : Counted) →
+      OneFrom P R one → IfOk (items_from form place one) (FollowedFrom P)
+  items_from_inside R keeps form place one all =
       ok_then (Each (NodeFrom P P)) (FollowedFrom P)
       (items_of form (out-Value one.node.value) place)
-      _ (items_inside form (out-Value one.node.value) place
+      _ (items_inside keeps form (out-Value one.node.value) place
       (value_parts P P one.node.value (node_parts P P one.node all.0).1))
       (λ items are. are)
 
 -- ---- What P must keep across the border of a call into a file. R holds of the places of that
--- file, and K of it and of where the call's item stands. A call has that place, and the borders
--- that its path crossed.
+-- file, and K of it, of the path's text and of where the call's item stands. A call has that place,
+-- and the borders that its path crossed.
 
-pub record Borders (P : Origin → Type 0) (R : FileKey → Place → Type 0)
-    (K : Place → FileKey → Type 0) : Type 0 where
+pub record Borders (P : Asked) (R : FileKey → Site) (K : Place → List ℕ → FileKey → Type 0)
+    : Type 0 where
   pub literal :
-      (key : FileKey) (call : Origin) (place : Place) → K call.source key → P call →
-      R key place →
-      P (record { source = place; crossings = call.crossings ++ Include key call.source ∷ [] })
+      (key : FileKey) (call : Called) (place : Place) → K call.at call.path key →
+      P.own (record { source = call.at; crossings = call.crossings }) → PathFrom P call →
+      (R key).at place →
+      P.own (record { source = place; crossings = call.crossings ++ Include key call.at ∷ [] })
   pub made :
-      (key : FileKey) (call : Origin) (place : Place) → K call.source key → P call →
-      R key place →
-      P (record {
+      (key : FileKey) (call : Called) (place : Place) → K call.at call.path key →
+      P.own (record { source = call.at; crossings = call.crossings }) → PathFrom P call →
+      (R key).at place →
+      P.own (record {
         source = place;
-        crossings = (call.crossings ++ Include key call.source ∷ []) ++ Made ∷ [];
+        crossings = (call.crossings ++ Include key call.at ∷ []) ++ Made ∷ [];
       })
   pub argument :
-      (key : FileKey) (call given : Origin) (name : List ℕ) (place : Place) →
-      K call.source key → P call →
-      P given → R key place →
-      Seen P (R key) (across (Argument name place) (across (Include key call.source) given))
+      (key : FileKey) (call : Called) (given : Origin) (name : List ℕ) (place : Place) →
+      K call.at call.path key →
+      P.own (record { source = call.at; crossings = call.crossings }) → P.own given →
+      (R key).at place →
+      (Seen P (R key)).own (across (Argument name place) (across (Include key call.at) given))
+  pub reads : (key : FileKey) → Reads (R key) P
+  pub keeps : Keeps P.says
 
 -- a file that a path leads to
-abbrev pub FileIn : (FileKey → Place → Type 0) → OpenedFile → Type 0
+abbrev pub FileIn : (FileKey → Site) → OpenedFile → Type 0
 FileIn R opened = IfOk (file_node opened.file) (NodeIn (R opened.key))
 
-pub record OpensFrom (R : FileKey → Place → Type 0) (K : Place → FileKey → Type 0)
+pub record OpensFrom (R : FileKey → Site) (K : Place → List ℕ → FileKey → Type 0)
     (U : List FileKey → Type 0) (opens : Opens) : Type 0 where
   pub file :
       (at : Place) (path : List ℕ) (used : List FileKey) →
       IfOk (opens at path used) (λ both. FileIn R both.0)
   pub used :
       (at : Place) (path : List ℕ) (used : List FileKey) →
-      Gives U (Unit {0}) used (opens at path used) (λ opened. K at opened.key)
+      Gives U (Unit {0}) used (opens at path used) (λ opened. K at path opened.key)
 
-module _ (P : Origin → Type 0) (R : FileKey → Place → Type 0) (K : Place → FileKey → Type 0)
+module _ (P : Asked) (R : FileKey → Site) (K : Place → List ℕ → FileKey → Type 0)
     (U : List FileKey → Type 0) (borders : Borders P R K) (opens : Opens)
     (opening : OpensFrom R K U opens) where
   frame_for_from :
       (key : FileKey) (pairs : List NodePair) (call : Called) (frame : Frame) →
-      Each (PairIn (R key)) pairs → K call.at key → CallFrom P call →
+      Each (PairIn (R key)) pairs → K call.at call.path key → CallFrom P call →
       IfOk (frame_for key pairs call frame) (FrameFrom P (R key))
   frame_for_from key pairs call frame within known from =
-      let at : Origin = record { source = call.at; crossings = call.crossings } in
-      framed_from P P (R key) (Include key call.at) call.crossings
-      (λ place stands. borders.literal key at place known from.0 stands)
-      (λ place stands. borders.made key at place known from.0 stands)
-      (λ origin is name place stands. borders.argument key at origin name place known from.0 is
+      framed_from P P (R key) (borders.reads key) (Include key call.at) call.crossings
+      (λ place stands. borders.literal key call place known from.0 from.1.0 stands)
+      (λ place stands. borders.made key call place known from.0 from.1.0 stands)
+      (λ origin is name place stands. borders.argument key call origin name place known from.0 is
       stands)
-      key pairs frame.variables call.arguments within from.1
+      key pairs frame.variables call.arguments within from.1.1
 
   deeper_from :
       (next : Option Follow) (at : Place) → Has (FollowFrom P U) next →
@@ -304,43 +374,49 @@ module _ (P : Origin → Type 0) (R : FileKey → Place → Type 0) (K : Place �
   call_gives next follows frame form item count used =
       let H : Type 0 = NodeFrom P P item in
       let S = FollowedFrom P in
-      first_then U (CallFrom P) S H used (call_of item) _ (call_of_from P item)
+      first_then U (CallFrom P) S H used (call_of item) _ (call_of_from P borders.keeps item)
       (λ call. static_then U (FollowFrom P U) S (H × CallFrom P call) used (deeper next call.at) _
       (deeper_from next call.at follows)
       (λ follow goes. used_static_then U (FileIn R)
-      (λ (opened : OpenedFile). K call.at opened.key) S (H × CallFrom P call) used
+      (λ (opened : OpenedFile). K call.at call.path opened.key) S (H × CallFrom P call) used
       (opens call.at call.path used) _
       (opening.file call.at call.path used)
-      (given U (λ (opened : OpenedFile). K call.at opened.key) (Unit {0}) (H × CallFrom P call)
+      (given U (λ (opened : OpenedFile). K call.at call.path opened.key) (Unit {0}) (H × CallFrom P
+      call)
       used (opens call.at call.path used) (λ h. tt) (opening.used call.at call.path used))
       (λ opened later file. static_then U (NodeIn (R opened.key)) S
-      ((H × CallFrom P call) × K call.at opened.key) later (file_node opened.file) _ file
+      ((H × CallFrom P call) × K call.at call.path opened.key) later (file_node opened.file) _ file
       (λ node within. static_then U (Each (PairIn (R opened.key))) S
-      ((H × CallFrom P call) × K call.at opened.key) later (template_in node) _
+      ((H × CallFrom P call) × K call.at call.path opened.key) later (template_in node) _
       (template_inside (R opened.key) node within)
       (λ pairs inside. static_then U (NodeIn (R opened.key)) S
-      ((H × CallFrom P call) × K call.at opened.key) later (body_in form node.place pairs) _
+      ((H × CallFrom P call) × K call.at call.path opened.key) later (body_in form node.place pairs)
+      _
       (body_inside (R opened.key) form node.place pairs inside)
       (λ body stands. first_then U (FrameFrom P (R opened.key)) S
-      ((H × CallFrom P call) × K call.at opened.key) later
+      ((H × CallFrom P call) × K call.at call.path opened.key) later
       (frame_for opened.key pairs call frame) _
       (λ h. frame_for_from opened.key pairs call frame inside h.1 h.0.1)
       (λ inner. plain_then U S
-      (((H × CallFrom P call) × K call.at opened.key) × FrameFrom P (R opened.key) inner) later
+      (((H × CallFrom P call) × K call.at call.path opened.key) × FrameFrom P (R opened.key) inner)
+      later
       (entered node.place count) _
       (λ count. plain_then U S
-      (((H × CallFrom P call) × K call.at opened.key) × FrameFrom P (R opened.key) inner) later
+      (((H × CallFrom P call) × K call.at call.path opened.key) × FrameFrom P (R opened.key) inner)
+      later
       (body_fits form body) _
       (λ none. used_then U (OneFrom P (R opened.key)) S
-      (((H × CallFrom P call) × K call.at opened.key) × FrameFrom P (R opened.key) inner) later
+      (((H × CallFrom P call) × K call.at call.path opened.key) × FrameFrom P (R opened.key) inner)
+      later
       (expanded body (scope_of follow inner (InCalls form)) count later) _
       (expanded_gives P (R opened.key) U body stands
-      (((H × CallFrom P call) × K call.at opened.key) × FrameFrom P (R opened.key) inner) follow
+      (((H × CallFrom P call) × K call.at call.path opened.key) × FrameFrom P (R opened.key) inner)
+      follow
       inner (InCalls form) count later goes (λ h. h.1))
       (λ one last. alone_gives U S
-      ((((H × CallFrom P call) × K call.at opened.key) × FrameFrom P (R opened.key) inner)
+      ((((H × CallFrom P call) × K call.at call.path opened.key) × FrameFrom P (R opened.key) inner)
       × OneFrom P (R opened.key) one) last (items_from form body.place one)
-      (λ h. items_from_inside P (R opened.key) form body.place one h.1)))))))))))
+      (λ h. items_from_inside P (R opened.key) borders.keeps form body.place one h.1)))))))))))
 
   -- with so many levels of templates below
   pub followed_gives : (levels : ℕ) → FollowFrom P U (followed levels opens)

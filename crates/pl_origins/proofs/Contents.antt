@@ -21,25 +21,27 @@ use Rattle.pl_directives.specs.Contents.{add_items, add_pairs, put_pair, distinc
 use Rattle.pl_directives.specs.Contents.{node_of, finished, absorbed_of, absorbed}
 use Rattle.pl_eval_laws.proofs.Leads.{Opened, head_in, head_by, object_head, array_head}
 use Rattle.pl_eval_laws.proofs.Lists.{Has, each_append}
+use Rattle.pl_eval_laws.proofs.Trees.{Asked}
 use Rattle.pl_eval_laws.proofs.Trees.{NodeFrom, PairFrom, OpenedFrom, array_node, object_node}
 use Rattle.pl_eval_laws.proofs.Trees.{node_parts, value_parts, led_from}
 use Rattle.pl_origins.proofs.Frames.{Seen}
+use Rattle.pl_origins.proofs.Nodes.{Site}
 use Rattle.pl_origins.proofs.Scalars.{HeldFrom, OneFrom}
 use Rattle.pl_origins.proofs.Steps.{ok_then}
 
 -- pairs, whose first value is seen in their frame
-abbrev pub PairsFrom : (Origin → Type 0) → (Place → Type 0) → List MarkedPair → Type 0
-PairsFrom P R pairs = Each (PairFrom P P) pairs × Has (Seen P R) (head_in pairs)
+abbrev pub PairsFrom : Asked → Site → List MarkedPair → Type 0
+PairsFrom P R pairs = Each (PairFrom P P) pairs × Has (Seen P R).own (head_in pairs)
 
-abbrev pub ContentFrom : (Origin → Type 0) → (Place → Type 0) → Content → Type 0
+abbrev pub ContentFrom : Asked → Site → Content → Type 0
 ContentFrom P R Unknown = Unit {0}
 ContentFrom P R (Items items) = Each (NodeFrom P P) items
 ContentFrom P R (Pairs pairs) = PairsFrom P R pairs
 
-abbrev pub ProgressFrom : (Origin → Type 0) → (Place → Type 0) → Progress → Type 0
+abbrev pub ProgressFrom : Asked → Site → Progress → Type 0
 ProgressFrom P R progress = ContentFrom P R progress.content
 
-module _ (P : Origin → Type 0) (R : Place → Type 0) where
+module _ (P : Asked) (R : Site) where
   pub nothing_from : (of : Kind) → ContentFrom P R (nothing_of of)
   nothing_from kind.Unknown = tt
   nothing_from kind.Items = tt
@@ -110,14 +112,14 @@ module _ (P : Origin → Type 0) (R : Place → Type 0) where
 
   pub put_pair_from :
       (pair : MarkedPair) (count : ℕ) (progress : Progress) → PairFrom P P pair →
-      Seen P R pair.item.origin → ProgressFrom P R progress →
+      (Seen P R).own pair.item.origin → ProgressFrom P R progress →
       IfOk (put_pair pair count progress) (ProgressFrom P R)
   put_pair_from pair count progress one seen all =
       add_pairs_from pair.key_origin.source (pair ∷ []) _ ((one, tt), seen) all
 
   -- ---- the whole collection, which stands in the frame's file
 
-  module _ (origin : Origin) (own : Seen P R origin) (here : R origin.source) where
+  module _ (origin : Origin) (own : (Seen P R).own origin) (here : R.at origin.source) where
     distinct_by :
         (double : Option Place) (pairs : List MarkedPair) → PairsFrom P R pairs →
         IfOk (distinct double pairs) (PairsFrom P R)
@@ -132,9 +134,9 @@ module _ (P : Origin → Type 0) (R : Place → Type 0) where
         (distinct_by (first_double pairs) pairs all)
         (λ pairs all. (
           object_node P P origin own.0 pairs all.0
-              (led_from (Seen P R) P origin (λ path seen. seen.1 origin.source here)
+              (led_from (Seen P R).own P.own origin (λ path seen. seen.1 origin.source here)
               (head_in pairs) all.1),
-          (own, subst (Has (Seen P R)) (sym (object_head pairs)) all.1),
+          (own, subst (Has (Seen P R).own) (sym (object_head pairs)) all.1),
         ))
 
     node_of_from :
@@ -142,7 +144,7 @@ module _ (P : Origin → Type 0) (R : Place → Type 0) where
         IfOk (node_of origin content) (HeldFrom P R)
     node_of_from (Items items) all = (
       array_node P P origin own.0 items all,
-      (own, subst (Has (Seen P R)) (sym (array_head items)) tt),
+      (own, subst (Has (Seen P R).own) (sym (array_head items)) tt),
     )
     node_of_from (Pairs pairs) all = object_of_from pairs all
     node_of_from Unknown all = object_of_from [] (tt, tt)
@@ -156,7 +158,7 @@ module _ (P : Origin → Type 0) (R : Place → Type 0) where
 
   absorbed_by :
       (opened : Opened) (problem : ExpandProblem) (place : Place) (progress : Progress) →
-      OpenedFrom P P opened → Has (Seen P R) (head_by opened) → ProgressFrom P R progress →
+      OpenedFrom P P opened → Has (Seen P R).own (head_by opened) → ProgressFrom P R progress →
       IfOk (absorbed_of opened problem place progress) (ProgressFrom P R)
   absorbed_by (layer.Array items) problem place progress below head all =
       ok_then (ProgressFrom P R) (ProgressFrom P R) (as_items problem place progress)

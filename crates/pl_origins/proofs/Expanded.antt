@@ -10,7 +10,9 @@ use Rattle.pl_base.specs.declared.node.Node.{Node}
 use Rattle.pl_base.specs.declared.node.NodeBody.{NodeBody, out-NodeBody, roll-NodeBody, the_lemmas}
 use Rattle.pl_base.specs.declared.node.NodePair.{NodePair}
 use Rattle.pl_base.specs.declared.node.NodeBody.TheOpen.{Scalar, Seq, Map}
+use Rattle.pl_base.specs.declared.value.Value.{Str, the_lemmas as the_values}
 use Rattle.pl_base.specs.declared.value.MarkedNode.{MarkedNode}
+use Rattle.pl_expr.specs.Conversions.{cast_text}
 use Rattle.pl_frame.specs.declared.frame.Frame.{Frame}
 use Rattle.pl_frame.specs.Names.{within}
 use Rattle.pl_frame.specs.Origins.{literal_at}
@@ -37,26 +39,28 @@ use Rattle.pl_directives.specs.Manners.{manner_of}
 use Rattle.pl_directives.specs.Regions.{under, inside, of_item, is_path}
 use Rattle.pl_directives.specs.Scalars.{scalar_value}
 use Rattle.pl_directives.specs.Strays.{told, key_stray, unless_stray, given_value}
-use Rattle.pl_expanding.specs.Expanding.{Filling, Shape, Part, Entry, scalar, sequence, mapping}
-use Rattle.pl_expanding.specs.Expanding.{collected, value_by, body_by, body, turns, path_by, done}
-use Rattle.pl_expanding.specs.Expanding.{value_under, pair_behind, pairs_behind, mapping_behind}
-use Rattle.pl_expanding.specs.Expanding.{item_by, item_behind, items_behind}
-use Rattle.pl_expanding.specs.Expanding.{facet_of, part_of, shape_of, entry_of, expanded}
-use Rattle.pl_expanding.specs.Following.{Follow, scope_of}
-use Rattle.pl_expanding.specs.Scalars.{scalar_at, path_at}
-use Rattle.pl_expanding.specs.Scalars.{path_by as path_text_by}
-use Rattle.pl_expanding.specs.Settling.{node_settling}
+use Rattle.pl_recursion.specs.Expanding.{Filling, Shape, Part, Entry, scalar, sequence, mapping}
+use Rattle.pl_recursion.specs.Expanding.{collected, value_by, body_by, body, turns, path_by, done}
+use Rattle.pl_recursion.specs.Expanding.{value_under, pair_behind, pairs_behind, mapping_behind}
+use Rattle.pl_recursion.specs.Expanding.{item_by, item_behind, items_behind}
+use Rattle.pl_recursion.specs.Expanding.{facet_of, part_of, shape_of, entry_of, expanded}
+use Rattle.pl_recursion.specs.Following.{Follow, scope_of}
+use Rattle.pl_recursion.specs.Scalars.{scalar_at, path_at}
+use Rattle.pl_recursion.specs.Scalars.{path_by as path_text_by}
+use Rattle.pl_recursion.specs.Settling.{node_settling}
 use Rattle.pl_directives.specs.declared.progress.Counted.{Counted}
 use Rattle.pl_calls.specs.Parts.{Body}
+use Rattle.pl_eval_laws.specs.Marks.{key as key_said, scalar as scalar_said}
 use Rattle.pl_eval_laws.proofs.Lists.{Has}
-use Rattle.pl_eval_laws.proofs.Trees.{pair_from}
+use Rattle.pl_eval_laws.proofs.Trees.{Asked, Told, pair_from}
 use Rattle.pl_origins.proofs.Contents.{ProgressFrom, nothing_from, as_items_from}
 use Rattle.pl_origins.proofs.Contents.{as_pairs_from, put_pair_from, finished_from, absorbed_from}
 use Rattle.pl_origins.proofs.Following.{FollowFrom, add_item_gives, splice_gives, spread_gives}
 use Rattle.pl_origins.proofs.Following.{KeptFrom, settling_gives}
 use Rattle.pl_origins.proofs.Frames.{Seen, SeenFrom, FrameFrom, turn_from, literal_seen}
 use Rattle.pl_origins.proofs.Induction.{BodyParts, written_induction}
-use Rattle.pl_origins.proofs.Nodes.{NodeIn, PairIn, BodyIn, node_in, pair_in}
+use Rattle.pl_origins.proofs.Nodes.{Site, NodeIn, PairIn, BodyIn, node_in, node_says, pair_in}
+use Rattle.pl_origins.proofs.Nodes.{pair_says, said_in}
 use Rattle.pl_origins.proofs.Scalars.{OneFrom, KeyFrom, ActionFrom, scalar_value_from}
 use Rattle.pl_origins.proofs.Scalars.{given_value_from, key_by_from, key_asks_from, SeenOne}
 use Rattle.pl_origins.proofs.Scalars.{seen_tree}
@@ -67,43 +71,73 @@ use Rattle.pl_origins.proofs.Steps.{plain_then, first_then, used_then}
 
 -- ---- the path of a call
 
-module _ (P : Origin → Type 0) (R : Place → Type 0) (frame : Frame) (from : FrameFrom P R frame)
-    (place : Place) (stands : R place) where
+module _ (P : Asked) (R : Site) (frame : Frame) (from : FrameFrom P R frame)
+    (place : Place) (stands : R.at place) where
+  -- the text of a text is that text
+  str_text : (text : List ℕ) → cast_text (Str text) ≡ text
+  str_text text = search (rules, the_values)
+
+  plain_told : (text : List ℕ) → R.says place (scalar_said (Str text)) →
+      Told P (literal_at frame place) (key_said text)
+  plain_told text says files =
+      subst (λ (name : List ℕ). P.says place (key_said name)) (str_text text)
+      (from.reads.keeps.cast place (Str text)
+      (from.reads.says place (scalar_said (Str text)) says))
+
   path_text_from :
-      (form : ScalarForm) (text : List ℕ) → IfOk (path_text_by form text frame place) (KeyFrom P R)
-  path_text_from Plain text = literal_seen P R frame from place stands
-  path_text_from (Whole inside) text = key_by_from P R frame from place stands (Whole inside)
-  path_text_from (Joined pieces) text = key_by_from P R frame from place stands (Joined pieces)
-  path_text_from Unclosed text = key_by_from P R frame from place stands Unclosed
+      (form : ScalarForm) (text : List ℕ) → R.says place (scalar_said (Str text)) →
+      IfOk (path_text_by form text frame place) (KeyFrom P R)
+  path_text_from Plain text says =
+      (literal_seen P R frame from place stands, plain_told text says)
+  path_text_from (Whole inside) text says = key_by_from P R frame from place stands (Whole inside)
+  path_text_from (Joined pieces) text says =
+      key_by_from P R frame from place stands (Joined pieces)
+  path_text_from Unclosed text says = key_by_from P R frame from place stands Unclosed
 
   path_at_from :
-      (text : List ℕ) (count : ℕ) → IfOk (path_at text frame place count) (OneFrom P R)
-  path_at_from text count =
+      (text : List ℕ) → R.says place (scalar_said (Str text)) → (count : ℕ) →
+      IfOk (path_at text frame place count) (OneFrom P R)
+  path_at_from text says count =
       any_then (OneFrom P R) (entered place count) _
       (λ count. ok_then (KeyFrom P R) (OneFrom P R) (path_text_by (form_of text) text frame place) _
-      (path_text_from (form_of text) text)
-      (λ path own. text_held P R path.origin path.key own))
+      (path_text_from (form_of text) text says)
+      (λ path own. text_held P R path.origin path.key own.0
+      (λ files. from.reads.keeps.text path.origin.source path.key (own.1 files))))
 
+-- what a node of that shape says where it stands
+abbrev pub ShapeSays : Site → Place → Shape → Type 0
+ShapeSays R place (scalar text) = R.says place (scalar_said (Str text))
+ShapeSays R place (sequence fill) = Unit {0}
+ShapeSays R place (mapping manner fill) = Unit {0}
+
+abbrev pub StandsAs : Site → Place → Shape → Type 0
+StandsAs R place shape = R.at place × ShapeSays R place shape
+
+module _ (P : Asked) (R : Site) (frame : Frame) (from : FrameFrom P R frame)
+    (place : Place) where
   pub path_from :
-      (shape : Shape) (count : ℕ) → IfOk (path_by shape place frame count) (OneFrom P R)
-  path_from (scalar text) count = path_at_from text count
-  path_from (sequence fill) count = any_then (OneFrom P R) (entered place count) _ (λ count. tt)
-  path_from (mapping manner fill) count =
+      (shape : Shape) → StandsAs R place shape → (count : ℕ) →
+      IfOk (path_by shape place frame count) (OneFrom P R)
+  path_from (scalar text) stands count =
+      path_at_from P R frame from place stands.0 text stands.1 count
+  path_from (sequence fill) stands count =
+      any_then (OneFrom P R) (entered place count) _ (λ count. tt)
+  path_from (mapping manner fill) stands count =
       any_then (OneFrom P R) (entered place count) _ (λ count. tt)
 
 kept_held :
-    (P : Origin → Type 0) (R : Place → Type 0) (node : MarkedNode) (one : Counted) →
+    (P : Asked) (R : Site) (node : MarkedNode) (one : Counted) →
     SeenFrom P R node → KeptFrom P node one → OneFrom P R one
 kept_held P R node one all kept =
     let held = seen_held P R node all in (
       kept.0,
       (
-        subst (Seen P R) (sym kept.1.0) held.1.0,
-        subst (Has (Seen P R)) (sym kept.1.1) held.1.1,
+        subst (Seen P R).own (sym kept.1.0) held.1.0,
+        subst (Has (Seen P R).own) (sym kept.1.1) held.1.1,
       ),
     )
 
-module _ (P : Origin → Type 0) (R : Place → Type 0) (U : List FileKey → Type 0) where
+module _ (P : Asked) (R : Site) (U : List FileKey → Type 0) where
   abbrev pub Held : Type 0 → Frame → Progress → Type 0
   Held H frame progress = (H → FrameFrom P R frame) × (H → ProgressFrom P R progress)
 
@@ -121,10 +155,11 @@ module _ (P : Origin → Type 0) (R : Place → Type 0) (U : List FileKey → Ty
   ShapeFrom (mapping manner fill) = FillingFrom fill
 
   abbrev pub PartFrom : Part → Type 0
-  PartFrom part = R part.place × ShapeFrom part.shape
+  PartFrom part = StandsAs R part.place part.shape × ShapeFrom part.shape
 
   abbrev pub EntryFrom : Entry → Type 0
-  EntryFrom entry = R entry.key_place × PartFrom entry.part
+  EntryFrom entry =
+      (R.at entry.key_place × R.says entry.key_place (key_said entry.key)) × PartFrom entry.part
 
   module _ (follow : Follow) (follows : FollowFrom P U follow) where
     filled :
@@ -153,19 +188,19 @@ module _ (P : Origin → Type 0) (R : Place → Type 0) (U : List FileKey → Ty
 
     scalar_gives :
         (text : List ℕ) (H : Type 0) (frame : Frame) (region : Region) (place : Place) (count : ℕ)
-        (used : List FileKey) → R place → (H → FrameFrom P R frame) →
+        (used : List FileKey) → StandsAs R place (scalar text) → (H → FrameFrom P R frame) →
         Gives U H used (scalar_at text (scope_of follow frame region) place count used)
         (OneFrom P R)
     scalar_gives text H frame region place count used stands from =
         first_then U (SeenOne P R) (OneFrom P R) H used (scalar_value text frame place count) _
-        (λ h. scalar_value_from P R frame (from h) place stands text count)
+        (λ h. scalar_value_from P R frame (from h) place stands.0 text stands.1 count)
         (λ one. settled_gives one (H × SeenOne P R one) frame region used (λ h. h.1))
 
     -- ---- a node as a value
 
     collected_gives :
         (of : Kind) (fill : Filling) → FillingFrom fill → (H : Type 0) (place : Place)
-        (frame : Frame) (region : Region) (count : ℕ) (used : List FileKey) → R place →
+        (frame : Frame) (region : Region) (count : ℕ) (used : List FileKey) → R.at place →
         (H → FrameFrom P R frame) →
         Gives U H used (collected of fill place (scope_of follow frame region) count used)
         (OneFrom P R)
@@ -182,29 +217,30 @@ module _ (P : Origin → Type 0) (R : Place → Type 0) (U : List FileKey → Ty
 
     pub value_gives :
         (shape : Shape) → ShapeFrom shape → (H : Type 0) (place : Place) (frame : Frame)
-        (region : Region) (count : ℕ) (used : List FileKey) → R place → (H → FrameFrom P R frame) →
+        (region : Region) (count : ℕ) (used : List FileKey) → StandsAs R place shape →
+        (H → FrameFrom P R frame) →
         Gives U H used (value_by shape place (scope_of follow frame region) count used)
         (OneFrom P R)
     value_gives (scalar text) fills H place frame region count used stands from =
         scalar_gives text H frame region place count used stands from
     value_gives (sequence fill) fills H place frame region count used stands from =
-        collected_gives kind.Items fill fills H place frame region count used stands from
+        collected_gives kind.Items fill fills H place frame region count used stands.0 from
     value_gives (mapping manner fill) fills H place frame region count used stands from =
-        collected_gives kind.Pairs fill fills H place frame region count used stands from
+        collected_gives kind.Pairs fill fills H place frame region count used stands.0 from
 
     -- ---- a node in a directive's place
 
     body_by_gives :
         (shape : Shape) → ShapeFrom shape → (H : Type 0) (place : Place) (problem : ExpandProblem)
-        (frame : Frame) (region : Region) (progress : Progress) (used : List FileKey) → R place →
-        (H → FrameFrom P R frame) → (H → ProgressFrom P R progress) →
+        (frame : Frame) (region : Region) (progress : Progress) (used : List FileKey) →
+        StandsAs R place shape → (H → FrameFrom P R frame) → (H → ProgressFrom P R progress) →
         Gives U H used (body_by shape place problem (scope_of follow frame region) progress used)
         (ProgressFrom P R)
     body_by_gives (scalar text) fills H place problem frame region progress used stands from all =
         first_then U (SeenOne P R) (ProgressFrom P R) H used
         (given_value text frame place progress.count region (told progress.content)) _
-        (λ h. given_value_from P R frame (from h) place stands text progress.count region
-        (told progress.content))
+        (λ h. given_value_from P R frame (from h) place stands.0 text stands.1 progress.count
+        region (told progress.content))
         (λ given. used_then U (OneFrom P R) (ProgressFrom P R) (H × SeenOne P R given) used
         (node_settling given.node (scope_of follow frame region) given.count used) _
         (settled_gives given (H × SeenOne P R given) frame region used (λ h. h.1))
@@ -272,7 +308,7 @@ module _ (P : Origin → Type 0) (R : Place → Type 0) (U : List FileKey → Ty
         (OneFrom P R)
     value_under_gives true key part fills H frame region count used from =
         alone_gives U (OneFrom P R) H used (path_by part.shape part.place frame count)
-        (λ h. path_from P R frame (from h) part.place fills.0 part.shape count)
+        (λ h. path_from P R frame (from h) part.place part.shape fills.0 count)
     value_under_gives false key part fills H frame region count used from =
         value_gives part.shape fills.1 H part.place frame (under key region) count used fills.0 from
 
@@ -292,7 +328,8 @@ module _ (P : Origin → Type 0) (R : Place → Type 0) (U : List FileKey → Ty
         progress.count used from)
         (λ one later. alone_gives U (ProgressFrom P R) (H × OneFrom P R one) later _
         (λ h. put_pair_from P R (record { key = key; key_origin = origin; item = one.node })
-        one.count progress (pair_from P P key origin one.node (own h.0).0 h.1.0) h.1.1.0
+        one.count progress (pair_from P P key origin one.node (own h.0).0.0 (own h.0).1 h.1.0)
+        h.1.1.0
         (all h.0))))
     done_gives_all (action.Run chain) part fills H frame region progress used own from all =
         used_then U (ProgressFrom P R) (ProgressFrom P R) H used
@@ -318,8 +355,8 @@ module _ (P : Origin → Type 0) (R : Place → Type 0) (U : List FileKey → Ty
     pair_gives entry fills H frame region progress used from all =
         first_then U (ActionFrom P R) (ProgressFrom P R) H used
         (key_asks entry.key frame entry.key_place progress.chain progress.count) _
-        (λ h. key_asks_from P R frame (from h) entry.key_place fills.0 entry.key progress.chain
-        progress.count)
+        (λ h. key_asks_from P R frame (from h) entry.key_place fills.0.0 entry.key fills.0.1
+        progress.chain progress.count)
         (λ asked. done_gives_all asked entry.part fills.1 (H × ActionFrom P R asked) frame region
         progress used (λ h. h.1) (λ h. from h.0) (λ h. all h.0))
 
@@ -344,7 +381,7 @@ module _ (P : Origin → Type 0) (R : Place → Type 0) (U : List FileKey → Ty
     mapping_gives :
         (manner : Manner) (fill : Filling) → FillingFrom fill → (H : Type 0) (place : Place)
         (frame : Frame) (region : Region) (count : ℕ) (progress : Progress)
-        (used : List FileKey) → R place → (H → FrameFrom P R frame) →
+        (used : List FileKey) → R.at place → (H → FrameFrom P R frame) →
         (H → ProgressFrom P R progress) →
         Gives U H used
         (mapping_behind manner fill place (scope_of follow frame region) (with_count count progress)
@@ -388,14 +425,14 @@ module _ (P : Origin → Type 0) (R : Place → Type 0) (U : List FileKey → Ty
 
     item_by_gives :
         (shape : Shape) → ShapeFrom shape → (H : Type 0) (place : Place) (frame : Frame)
-        (region : Region) (progress : Progress) (used : List FileKey) → R place →
+        (region : Region) (progress : Progress) (used : List FileKey) → StandsAs R place shape →
         (H → FrameFrom P R frame) → (H → ProgressFrom P R progress) →
         Gives U H used (item_by shape place (scope_of follow frame region) progress used)
         (ProgressFrom P R)
     item_by_gives (scalar text) fills H place frame region progress used stands from all =
         first_then U (SeenOne P R) (ProgressFrom P R) H used
         (given_value text frame place progress.count (of_item region) None) _
-        (λ h. given_value_from P R frame (from h) place stands text progress.count
+        (λ h. given_value_from P R frame (from h) place stands.0 text stands.1 progress.count
         (of_item region) None)
         (λ given. used_then U (OneFrom P R) (ProgressFrom P R) (H × SeenOne P R given) used
         (node_settling given.node (scope_of follow frame region) given.count used) _
@@ -409,13 +446,13 @@ module _ (P : Origin → Type 0) (R : Place → Type 0) (U : List FileKey → Ty
         (collected kind.Items fill place (scope_of follow frame (inside region)) progress.count
         used) _
         (collected_gives kind.Items fill fills H place frame (inside region) progress.count used
-        stands from)
+        stands.0 from)
         (λ one later. add_item_gives P R U follow follows frame region (H × OneFrom P R one)
         one.node
         (with_chain Closed (with_count one.count progress)) later (λ h. h.1.0) (λ h. all h.0))
     item_by_gives (mapping manner fill) fills H place frame region progress used stands from all =
         plain_then U (ProgressFrom P R) H used (entered place progress.count) _
-        (λ count. mapping_gives manner fill fills H place frame region count progress used stands
+        (λ count. mapping_gives manner fill fills H place frame region count progress used stands.0
         from all)
 
     items_give :
@@ -486,6 +523,36 @@ module _ (P : Origin → Type 0) (R : Place → Type 0) (U : List FileKey → Ty
       (FrameFrom P R frame × ProgressFrom P R progress) frame region progress used (λ h. h.0)
       (λ h. h.1))
 
+  -- what is said there
+  layer_says :
+      (place : Place) (layer : Body) → Each (R.says place) (said_in layer) →
+      ShapeSays R place (shape_of (roll-NodeBody layer))
+  layer_says place (Scalar text) says =
+      let is : scalar text ≡ shape_of (roll-NodeBody (Scalar text)) =
+      search (rules, the_lemmas) in
+      subst (ShapeSays R place) is says.0
+  layer_says place (Seq items) says =
+      let is :
+      sequence (items_behind (map part_of items)) ≡ shape_of (roll-NodeBody (Seq items)) =
+      search (rules, the_lemmas) in
+      subst (ShapeSays R place) is tt
+  layer_says place (Map pairs) says =
+      let is :
+      mapping (manner_of (map facet_of (map entry_of pairs))) (pairs_behind (map entry_of pairs))
+      ≡ shape_of (roll-NodeBody (Map pairs)) =
+      search (rules, the_lemmas) in
+      subst (ShapeSays R place) is tt
+
+  rolled : (body : NodeBody) → roll-NodeBody (out-NodeBody body) ≡ body
+  rolled body = search (rules, the_lemmas)
+
+  shape_says :
+      (place : Place) (one : NodeBody) → Each (R.says place) (said_in (out-NodeBody one)) →
+      ShapeSays R place (shape_of one)
+  shape_says place one says =
+      subst (λ (body : NodeBody). ShapeSays R place (shape_of body)) (rolled one)
+      (layer_says place (out-NodeBody one) says)
+
   of_layer :
       (layer : Body) → BodyParts NodeClaim PairClaim layer → BodyClaim (roll-NodeBody layer)
   of_layer layer claims within =
@@ -499,7 +566,8 @@ module _ (P : Origin → Type 0) (R : Place → Type 0) (U : List FileKey → Ty
       let is : record { place = place; shape = shape_of one } ≡ part_of node =
       search (rules, the_lemmas) in
       let parts = node_in R node within in
-      subst PartFrom is (parts.0, claim parts.1)
+      subst PartFrom is
+      ((parts.0, shape_says place one (node_says R node within)), claim parts.1)
 
   of_pair :
       (key : List ℕ) (key_place : Place) (item : Node) → NodeClaim item →
@@ -509,7 +577,7 @@ module _ (P : Origin → Type 0) (R : Place → Type 0) (U : List FileKey → Ty
       let is : record { key = key; key_place = key_place; part = part_of item } ≡ entry_of pair =
       search (rules, the_lemmas) in
       let parts = pair_in R pair within in
-      subst EntryFrom is (parts.0, claim parts.1)
+      subst EntryFrom is ((parts.0, pair_says R pair within), claim parts.1)
 
   pub part_from : (node : Node) → NodeIn R node → PartFrom (part_of node)
   part_from = written_induction BodyClaim NodeClaim PairClaim of_layer of_node of_pair

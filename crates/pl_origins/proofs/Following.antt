@@ -20,21 +20,24 @@ use Rattle.pl_directives.specs.declared.region.Form.{Form}
 use Rattle.pl_directives.specs.declared.region.Region.{Region}
 use Rattle.pl_directives.specs.Contents.{with_count, object_of}
 use Rattle.pl_directives.specs.Regions.{call_form, inside, under}
-use Rattle.pl_expanding.specs.declared.followed.Followed.{Followed}
-use Rattle.pl_expanding.specs.declared.followed.SettledPairs.{SettledPairs}
-use Rattle.pl_expanding.specs.declared.followed.SettledValue.{SettledValue}
+use Rattle.pl_recursion.specs.declared.followed.Followed.{Followed}
+use Rattle.pl_recursion.specs.declared.followed.SettledPairs.{SettledPairs}
+use Rattle.pl_recursion.specs.declared.followed.SettledValue.{SettledValue}
 use Rattle.pl_directives.specs.declared.progress.Counted.{Counted}
-use Rattle.pl_expanding.specs.Following.{Follow, scope_of}
-use Rattle.pl_expanding.specs.Putting.{add_by, add_item, splice, spread_of, spread}
-use Rattle.pl_expanding.specs.Settling.{Settling, ValueSeen, NodeSeen, PairSeen, items_and}
-use Rattle.pl_expanding.specs.Settling.{items_with, item_settled, item_behind, items_behind}
-use Rattle.pl_expanding.specs.Settling.{pairs_and, pair_behind, pairs_behind, array_settled}
-use Rattle.pl_expanding.specs.Settling.{object_settled, node_settled, value_seen, node_seen}
-use Rattle.pl_expanding.specs.Settling.{atom_settled, pair_seen, node_settling}
-use Rattle.pl_expanding.proofs.Itself.{node_itself}
+use Rattle.pl_recursion.specs.Following.{Follow, scope_of}
+use Rattle.pl_recursion.specs.Putting.{add_by, add_item, splice, spread_of, spread}
+use Rattle.pl_recursion.specs.Settling.{Settling, ValueSeen, NodeSeen, PairSeen, items_and}
+use Rattle.pl_recursion.specs.Settling.{items_with, item_settled, item_behind, items_behind}
+use Rattle.pl_recursion.specs.Settling.{pairs_and, pair_behind, pairs_behind, array_settled}
+use Rattle.pl_recursion.specs.Settling.{object_settled, node_settled, value_seen, node_seen}
+use Rattle.pl_recursion.specs.Settling.{atom_settled, pair_seen, node_settling}
+use Rattle.pl_recursion.proofs.Itself.{node_itself}
 use Rattle.pl_eval_laws.proofs.Leads.{Opened, head_in, head_of, object_head, array_head}
 use Rattle.pl_eval_laws.proofs.Leads.{opened_array, opened_object}
+use Rattle.pl_eval_laws.specs.Marks.{key as key_said}
+use Rattle.pl_eval_laws.proofs.Marks.{atom_of, array_atom, object_atom}
 use Rattle.pl_eval_laws.proofs.Lists.{each_append}
+use Rattle.pl_eval_laws.proofs.Trees.{Asked, Told, Atom, node_told, pair_told}
 use Rattle.pl_eval_laws.proofs.Trees.{NodeFrom, ValueFrom, PairFrom, OpenedFrom, Led, node_from}
 use Rattle.pl_eval_laws.proofs.Trees.{pair_from, array_from, object_from, node_parts, pair_parts}
 use Rattle.pl_eval_laws.proofs.Trees.{value_parts, node_led, null_from, truth_from, number_from}
@@ -42,20 +45,21 @@ use Rattle.pl_eval_laws.proofs.Trees.{version_from, text_from}
 use Rattle.pl_origins.proofs.Contents.{ContentFrom, ProgressFrom, add_items_from, object_of_from}
 use Rattle.pl_origins.proofs.Frames.{Seen}
 use Rattle.pl_origins.proofs.Induction.{Parts, node_induction}
+use Rattle.pl_origins.proofs.Nodes.{Site}
 use Rattle.pl_origins.proofs.Scalars.{HeldFrom}
 use Rattle.pl_origins.proofs.Steps.{Used, Gives, given, done_gives, alone_gives, used_then}
 use Rattle.pl_origins.proofs.Steps.{first_then}
 
-abbrev pub FollowedFrom : (Origin → Type 0) → Followed → Type 0
+abbrev pub FollowedFrom : Asked → Followed → Type 0
 FollowedFrom P more = Each (NodeFrom P P) more.items
 
 -- a call gives what the predicate holds of, where it holds of the call's item
-abbrev pub FollowFrom : (Origin → Type 0) → (List FileKey → Type 0) → Follow → Type 0
+abbrev pub FollowFrom : Asked → (List FileKey → Type 0) → Follow → Type 0
 FollowFrom P U follow =
     (frame : Frame) (form : Form) (item : MarkedNode) (count : ℕ) (used : List FileKey) →
     Gives U (NodeFrom P P item) used (follow frame form item count used) (FollowedFrom P)
 
-module _ (P : Origin → Type 0) (R : Place → Type 0) (U : List FileKey → Type 0) (follow : Follow)
+module _ (P : Asked) (R : Site) (U : List FileKey → Type 0) (follow : Follow)
     (follows : FollowFrom P U follow) (frame : Frame) (region : Region) where
   -- ---- items that are put into a list
 
@@ -86,7 +90,7 @@ module _ (P : Origin → Type 0) (R : Place → Type 0) (U : List FileKey → Ty
 
   pub splice_gives :
       (H : Type 0) (origin : Origin) (content : Content) (progress : Progress)
-      (used : List FileKey) → R origin.source → (H → Seen P R origin) →
+      (used : List FileKey) → R.at origin.source → (H → (Seen P R).own origin) →
       (H → ContentFrom P R content) →
       (H → ProgressFrom P R progress) →
       Gives U H used (splice (scope_of follow frame region) origin content progress used)
@@ -137,19 +141,21 @@ module _ (P : Origin → Type 0) (R : Place → Type 0) (U : List FileKey → Ty
 -- ---- a value that an expression gave, once it stands in its place
 
 -- it comes from where it came from, and so does its first value
-abbrev pub KeptFrom : (Origin → Type 0) → MarkedNode → Counted → Type 0
+abbrev pub KeptFrom : Asked → MarkedNode → Counted → Type 0
 KeptFrom P node one =
     NodeFrom P P one.node
     × ((one.node.origin ≡ node.origin) × (head_of one.node.value ≡ head_of node.value))
 
-module _ (P : Origin → Type 0) (U : List FileKey → Type 0) where
+module _ (P : Asked) (U : List FileKey → Type 0) where
   abbrev Settles : {X : Type 0} → Type 0 → Settling X → (X → Type 0) → Type 0
   Settles H settling Q =
       (follow : Follow) (frame : Frame) (region : Region) (count : ℕ) (used : List FileKey) →
       FollowFrom P U follow → Gives U H used (settling (scope_of follow frame region) count used) Q
 
   abbrev SettledFrom : Value → SettledValue → Type 0
-  SettledFrom before one = ValueFrom P P one.value × (head_of one.value ≡ head_of before)
+  SettledFrom before one =
+      ValueFrom P P one.value
+      × ((head_of one.value ≡ head_of before) × (atom_of one.value ≡ atom_of before))
 
   abbrev PairsSettled : SettledPairs → Option Origin → SettledPairs → Type 0
   PairsSettled before head all =
@@ -172,6 +178,22 @@ module _ (P : Origin → Type 0) (U : List FileKey → Type 0) where
           (pair_seen (record { key = key; key_origin = key_origin; item = item })).itself.key_origin
           ≡ key_origin
       by key key_origin item = search (rules, the_lemmas)
+
+  key_text : (pair : MarkedPair) → (pair_seen pair).itself.key ≡ pair.key
+  key_text pair = by pair.key pair.key_origin pair.item
+    where
+      by : (key : List ℕ) (key_origin : Origin) (item : MarkedNode) →
+          (pair_seen (record { key = key; key_origin = key_origin; item = item })).itself.key
+          ≡ key
+      by key key_origin item = search (rules, the_lemmas)
+
+  key_told : (pair : MarkedPair) → PairFrom P P pair →
+      Told P (pair_seen pair).itself.key_origin (key_said (pair_seen pair).itself.key)
+  key_told pair own =
+      subst (λ (origin : Origin). Told P origin (key_said (pair_seen pair).itself.key))
+      (sym (key_itself pair))
+      (subst (λ (key : List ℕ). Told P pair.key_origin (key_said key)) (sym (key_text pair))
+      (pair_told P P pair own))
 
   nothing_or : (head : Option Origin) → head ≡ option_or head None
   nothing_or None = refl
@@ -253,7 +275,8 @@ module _ (P : Origin → Type 0) (U : List FileKey → Type 0) where
           (λ h. (
             each_append (PairFrom P P) before.pairs _ (all h.0) (
               pair_from P P seen.itself.key seen.itself.key_origin one.node
-                  (subst P (sym (key_itself pair)) (pair_parts P P pair (own h.0)).0) h.1.0,
+                  (subst P.own (sym (key_itself pair)) (pair_parts P P pair (own h.0)).0)
+                  (key_told pair (own h.0)) h.1.0,
               tt,
             ),
             put_behind before.pairs _ pair.item.origin h.1.1.0,
@@ -304,7 +327,7 @@ module _ (P : Origin → Type 0) (U : List FileKey → Type 0) where
       Settles H (atom_settled atom) (SettledFrom atom)
   atom_claim H atom holds follow frame region count used follows =
       done_gives U (SettledFrom atom) H used (record { value = atom; count = count })
-      (λ h. (holds, refl))
+      (λ h. (holds, (refl, refl)))
 
   array_claim :
       (H : Type 0) (items : List MarkedNode) → Each NodeClaim items →
@@ -318,7 +341,13 @@ module _ (P : Origin → Type 0) (U : List FileKey → Type 0) where
       claims own (λ h. tt))
       (λ all later. done_gives U (SettledFrom (value.Array items)) (H × FollowedFrom P all) later
       (record { value = value.Array all.items; count = all.count })
-      (λ h. (array_from P P all.items h.1, array_head all.items ∙ sym (array_head items))))
+      (λ h. (
+        array_from P P all.items h.1,
+        (
+          array_head all.items ∙ sym (array_head items),
+          array_atom all.items ∙ sym (array_atom items),
+        ),
+      )))
 
   object_claim :
       (H : Type 0) (pairs : List MarkedPair) → Each PairClaim pairs →
@@ -334,7 +363,10 @@ module _ (P : Origin → Type 0) (U : List FileKey → Type 0) where
       (record { value = value.Object all.pairs; count = all.count })
       (λ h. (
         object_from P P all.pairs h.1.0,
-        object_head all.pairs ∙ (h.1.1 ∙ sym (object_head pairs)),
+        (
+          object_head all.pairs ∙ (h.1.1 ∙ sym (object_head pairs)),
+          object_atom all.pairs ∙ sym (object_atom pairs),
+        ),
       )))
 
   abbrev Claim : Value → ValueSeen → Type 0
@@ -410,9 +442,10 @@ module _ (P : Origin → Type 0) (U : List FileKey → Type 0) where
         count = settled.count;
       })
       (λ h. (
-        node_from P P origin settled.value (node_parts P P node h.0).0 h.1.0
-            (subst (Led P origin) (sym h.1.1) (node_led P P node h.0)),
-        (refl, h.1.1),
+        node_from P P origin settled.value (node_parts P P node h.0).0
+            (subst (Atom P origin) (sym h.1.1.1) (node_told P P node h.0)) h.1.0
+            (subst (Led P origin) (sym h.1.1.0) (node_led P P node h.0)),
+        (refl, h.1.1.0),
       ))))
 
   of_pair :

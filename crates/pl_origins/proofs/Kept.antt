@@ -15,21 +15,22 @@ use Rattle.pl_frame.specs.declared.frame.Parameter.{Parameter}
 use Rattle.pl_frame.specs.Names.{taken}
 use Rattle.pl_frame.specs.Origins.{across}
 use Rattle.pl_calls.specs.Reaching.{Opens, node_in as file_node}
-use Rattle.pl_expanding.specs.Expanding.{expanded}
-use Rattle.pl_expanding.specs.Following.{scope_of}
-use Rattle.pl_expanding.specs.Levels.{followed}
-use Rattle.pl_eval_laws.proofs.Lists.{each_implies}
+use Rattle.pl_recursion.specs.Expanding.{expanded}
+use Rattle.pl_recursion.specs.Following.{scope_of}
+use Rattle.pl_recursion.specs.Levels.{followed}
+use Rattle.pl_eval_laws.specs.Marks.{Said, marks_of}
+use Rattle.pl_eval_laws.proofs.Lists.{each_implies, each_of}
 use Rattle.pl_eval_laws.specs.Trees.{origins_of}
-use Rattle.pl_eval_laws.proofs.Trees.{NodeFrom, node_implies}
+use Rattle.pl_eval_laws.proofs.Trees.{Asked, Marked, NodeFrom, node_implies, only}
 use Rattle.pl_origins.specs.Behind.{IsTreeThrough, KeepsWhatWasExtended}
 use Rattle.pl_origins.specs.Through.{extended_in, IsThrough}
 use Rattle.pl_origins.proofs.Called.{Borders, FileIn, OpensFrom, followed_gives}
 use Rattle.pl_origins.proofs.Expanded.{expanded_gives}
 use Rattle.pl_origins.proofs.Following.{FollowFrom}
-use Rattle.pl_origins.proofs.Frames.{Seen, SeenFrom, FrameFrom, ParameterFrom}
+use Rattle.pl_origins.proofs.Frames.{Seen, SeenFrom, Keeps, Reads, FrameFrom, ParameterFrom}
 use Rattle.pl_origins.proofs.Leading.{leads_follow}
 use Rattle.pl_origins.proofs.Moved.{moved_from}
-use Rattle.pl_origins.proofs.Nodes.{NodeIn, anywhere}
+use Rattle.pl_origins.proofs.Nodes.{Site, site, NodeIn, anywhere}
 use Rattle.pl_origins.proofs.Scalars.{OneFrom}
 use Rattle.pl_origins.proofs.Steps.{Used, Gives, implied}
 
@@ -40,11 +41,31 @@ pub any_ok :
 any_ok Q all (Ok x) = all x
 any_ok Q all (Err fault) = tt
 
-abbrev pub NoPlace : FileKey → Place → Type 0
-NoPlace key place = Unit {0}
+-- of places nothing is known, and nothing of what is said there
+abbrev pub NoPlace : FileKey → Site
+NoPlace key = site (λ place. Unit {0})
 
-abbrev pub NoFile : Place → FileKey → Type 0
-NoFile at key = Unit {0}
+abbrev pub NoFile : Place → List ℕ → FileKey → Type 0
+NoFile at path key = Unit {0}
+
+-- of origins alone nothing is asked of what is said
+abbrev pub Silent : Place → Said → Type 0
+Silent place said = Unit {0}
+
+pub silent_keeps : Keeps Silent
+silent_keeps = record {
+  cast = λ place one says. tt;
+  text = λ place name says. tt;
+  name = λ place name says. tt;
+  value = λ place name says. tt;
+}
+
+pub silent_reads : (R : Site) (own : Origin → Type 0) → Reads R (only own)
+silent_reads R own = record {
+  says = λ place said says. tt;
+  default = λ place of before after says is. tt;
+  keeps = silent_keeps;
+}
 
 abbrev pub NoFiles : List FileKey → Type 0
 NoFiles used = Unit {0}
@@ -59,12 +80,17 @@ pub opens_anything : (opens : Opens) → OpensFrom NoPlace NoFile NoFiles opens
 opens_anything opens = record {
   file =
       λ at path used. any_ok (λ both. FileIn NoPlace both.0)
-      (λ both. any_ok (NodeIn (NoPlace both.0.key)) (anywhere (NoPlace both.0.key) (λ place. tt))
+      (λ both. any_ok (NodeIn (NoPlace both.0.key)) (anywhere (NoPlace both.0.key) (λ place. tt)
+      (λ place said. tt))
       (file_node both.0.file))
       (opens at path used);
   used =
       λ at path used. any_ok (λ both. (NoFiles both.1 → NoFiles used)
-      × (NoFiles both.1 → Unit {0} → NoFile at both.0.key)) (λ both. (λ ends. tt, λ ends h. tt))
+      × (NoFiles both.1 → Unit {0} → NoFile at path both.0.key)) (λ both. (
+        λ ends. tt,
+        λ ends h.
+            tt,
+      ))
       (opens at path used);
 }
 
@@ -86,8 +112,11 @@ extended_last (Made ∷ crossings) crossing other = extended_last crossings cros
 
 -- with a list of extended files that stays
 module _ (files : List FileKey) where
-  abbrev pub Extending : Origin → Type 0
-  Extending origin = extended_in origin.crossings ≡ files
+  abbrev pub IsExtending : Origin → Type 0
+  IsExtending origin = extended_in origin.crossings ≡ files
+
+  abbrev pub Extending : Asked
+  Extending = only IsExtending
 
   more :
       (crossings : List Crossing) (crossing : Crossing) → IsOther crossing →
@@ -95,42 +124,45 @@ module _ (files : List FileKey) where
   more crossings crossing other is = extended_last crossings crossing other ∙ is
 
   pub argument_kept :
-      (name : List ℕ) (place : Place) (origin : Origin) → Extending origin →
-      Extending (across (Argument name place) origin)
+      (name : List ℕ) (place : Place) (origin : Origin) → IsExtending origin →
+      IsExtending (across (Argument name place) origin)
   argument_kept name place origin is = more origin.crossings (Argument name place) refl is
 
   pub kept : Borders Extending NoPlace NoFile
   kept = record {
     literal =
-        λ key call place known from_call stands.
-        more call.crossings (Include key call.source) refl from_call;
+        λ key call place known from_call path stands.
+        more call.crossings (Include key call.at) refl from_call;
     made =
-        λ key call place known from_call stands.
-        more (call.crossings ++ Include key call.source ∷ []) Made refl
-        (more call.crossings (Include key call.source) refl from_call);
+        λ key call place known from_call path stands.
+        more (call.crossings ++ Include key call.at ∷ []) Made refl
+        (more call.crossings (Include key call.at) refl from_call);
     argument =
         λ key call given name place known from_call from_given stands.
         let is =
-        more (given.crossings ++ Include key call.source ∷ []) (Argument name place) refl
-        (more given.crossings (Include key call.source) refl from_given) in
+        more (given.crossings ++ Include key call.at ∷ []) (Argument name place) refl
+        (more given.crossings (Include key call.at) refl from_given) in
         (is, λ at stands. is);
+    reads = λ key. silent_reads (NoPlace key) IsExtending;
+    keeps = silent_keeps;
   }
 
   module _ (file : FileKey) where
     -- no place is asked, so it holds of each call whose path it holds of
-    abbrev SeenThere : Origin → Type 0
+    abbrev SeenThere : Asked
     SeenThere = Seen Extending (NoPlace file)
 
-    seen_kept : (node : MarkedNode) → Each Extending (origins_of node) →
+    seen_kept : (node : MarkedNode) → Each IsExtending (origins_of node) →
         SeenFrom Extending (NoPlace file) node
     seen_kept node all =
         node_implies Extending SeenThere Extending Extending
-        (λ origin is. (is, λ place stands. is)) (λ origin is. is) node
-        (leads_follow Extending Extending (λ item path is_item is_path. is_path) node all)
+        (λ origin is. (is, λ place stands. is)) (λ origin is. is) (λ origin said told. told) node
+        (leads_follow Extending Extending (λ item path is_item is_path. is_path) node all
+        (each_of (Marked Extending) (λ one files. tt) (marks_of node)))
 
     taken_kept :
         (given : Bool) (name : List ℕ) (at place : Place) (one : MarkedNode) →
-        Each Extending (origins_of one) →
+        Each IsExtending (origins_of one) →
         SeenFrom Extending (NoPlace file) (taken place (record {
           name = name;
           place = at;
@@ -143,28 +175,30 @@ module _ (files : List FileKey) where
           argument_kept name place origin seen.0,
           λ at stands. argument_kept name place origin seen.0,
         ))
-        (argument_kept name place) (λ item path. refl) one (seen_kept one all)
+        (argument_kept name place) (λ item path. refl) (λ origin said own told files. tt) one
+        (seen_kept one all)
     taken_kept false name at place one all = seen_kept one all
 
     pub frame_kept :
         (frame : Frame) → extended_in frame.crossings ≡ files →
-        Each (λ (one : Parameter). Each Extending (origins_of one.value)) frame.parameters →
-        Each (λ (one : Loop). Each Extending (origins_of one.item)) frame.loops →
+        Each (λ (one : Parameter). Each IsExtending (origins_of one.value)) frame.parameters →
+        Each (λ (one : Loop). Each IsExtending (origins_of one.item)) frame.loops →
         FrameFrom Extending (NoPlace file) frame
     frame_kept frame crossed parameters loops = record {
       literal = λ place stands. crossed;
       made = λ place stands. more frame.crossings Made refl crossed;
+      reads = silent_reads (NoPlace file) IsExtending;
       parameters =
-          each_implies (λ (one : Parameter). Each Extending (origins_of one.value))
+          each_implies (λ (one : Parameter). Each IsExtending (origins_of one.value))
           (ParameterFrom Extending (NoPlace file))
           (λ one all. (
-            tt,
+            (tt, tt),
             λ place stands. taken_kept one.given one.name one.place place one.value
                 all,
           ))
           frame.parameters parameters;
       loops =
-          each_implies (λ (one : Loop). Each Extending (origins_of one.item))
+          each_implies (λ (one : Loop). Each IsExtending (origins_of one.item))
           (λ (one : Loop). SeenFrom Extending (NoPlace file) one.item)
           (λ one all. seen_kept one.item all) frame.loops loops;
     }
@@ -181,9 +215,10 @@ unfolding NodeFrom
 keeps file levels opens frame node region count used behind =
     let step = expanded node (scope_of (followed levels opens) frame region) count used in
     plainly (λ one. IsTreeThrough file one.node) (Unit {0}) used step tt
-    (implied NoFiles (OneFrom (IsThrough file) (NoPlace file))
+    (implied NoFiles (OneFrom (Extending (file ∷ [])) (NoPlace file))
     (λ one. IsTreeThrough file one.node) (Unit {0}) used step (λ one h held. held.0.0)
-    (expanded_gives (IsThrough file) (NoPlace file) NoFiles node
-    (anywhere (NoPlace file) (λ place. tt) node) (Unit {0}) (followed levels opens) frame region
+    (expanded_gives (Extending (file ∷ [])) (NoPlace file) NoFiles node
+    (anywhere (NoPlace file) (λ place. tt) (λ place said. tt) node) (Unit {0}) (followed levels
+    opens) frame region
     count used (follow_kept (file ∷ []) levels opens)
     (λ h. frame_kept (file ∷ []) file frame behind.crossings behind.parameters behind.loops)))

@@ -9,13 +9,15 @@ use Rattle.pl_base.specs.declared.value.MarkedPair.{MarkedPair}
 use Rattle.pl_eval_laws.specs.Trees.{origins_of}
 use Rattle.pl_eval_laws.proofs.Leads.{Opened, lead, head_of, leads_of, opened_is}
 use Rattle.pl_eval_laws.proofs.Lists.{each_of}
+use Rattle.pl_eval_laws.specs.Marks.{marks_of}
+use Rattle.pl_eval_laws.proofs.Trees.{Asked, Marked, node_told, pair_told}
 use Rattle.pl_eval_laws.proofs.Trees.{NodeFrom, ValueFrom, PairFrom, OpenedFrom, Any, node_from}
 use Rattle.pl_eval_laws.proofs.Trees.{pair_from, layer_from, node_parts, pair_parts, value_parts}
 use Rattle.pl_eval_laws.proofs.Trees.{head_from, led_from}
 use Rattle.pl_origins.proofs.Induction.{Parts, node_induction}
 
-module _ (P M : Origin → Type 0)
-    (leads : (item path : Origin) → P item → P path → M (lead item path)) where
+module _ (P M : Asked)
+    (leads : (item path : Origin) → P.own item → P.own path → M.own (lead item path)) where
   abbrev ValueClaim : Value → Type 0
   ValueClaim one = ValueFrom P Any one → ValueFrom P M one
 
@@ -48,10 +50,11 @@ module _ (P M : Origin → Type 0)
       (origin : Origin) (one : Value) → ValueClaim one →
       NodeClaim (record { origin = origin; value = one })
   of_node origin one claim all =
-      let parts = node_parts P Any (record { origin = origin; value = one }) all in
+      let node : MarkedNode = record { origin = origin; value = one } in
+      let parts = node_parts P Any node all in
       let below = claim parts.1 in
-      node_from P M origin one parts.0 below
-      (led_from P M origin (λ path is. leads origin path parts.0 is) (head_of one)
+      node_from P M origin one parts.0 (node_told P Any node all) below
+      (led_from P.own M.own origin (λ path is. leads origin path parts.0 is) (head_of one)
       (head_from P M one below))
 
   of_pair :
@@ -60,10 +63,11 @@ module _ (P M : Origin → Type 0)
   of_pair key key_origin item claim all =
       let pair : MarkedPair = record { key = key; key_origin = key_origin; item = item } in
       let parts = pair_parts P Any pair all in
-      pair_from P M key key_origin item parts.0 (claim parts.1)
+      pair_from P M key key_origin item parts.0 (pair_told P Any pair all) (claim parts.1)
 
-  pub leads_follow : (node : MarkedNode) → Each P (origins_of node) → NodeFrom P M node
+  pub leads_follow : (node : MarkedNode) → Each P.own (origins_of node) →
+      Each (Marked P) (marks_of node) → NodeFrom P M node
   unfolding NodeFrom
-  leads_follow node all =
+  leads_follow node all marks =
       node_induction ValueClaim NodeClaim PairClaim of_layer of_node of_pair node
-      (all, each_of Any (λ origin. tt) (leads_of node))
+      (all, (each_of Any.own (λ origin. tt) (leads_of node), marks))

@@ -1,4 +1,4 @@
--- Trees whose origins are moved.
+-- Trees whose origins are moved: what their scalars and keys say stays.
 use Rattle.std.proofs.Common.{◌≡◌, ℕ, Option, Some, None, List, [], ◌∷◌, map, refl, ap, sym}
 use Rattle.std.proofs.Common.{subst, ◌∙◌, rules}
 use Rattle.std.specs.Option.{option_map}
@@ -12,6 +12,9 @@ use Rattle.pl_base.specs.declared.value.MarkedNode.{MarkedNode}
 use Rattle.pl_base.specs.declared.value.MarkedPair.{MarkedPair, fold-MarkedPair}
 use Rattle.pl_frame.specs.Trees.{moved, all_moved, moved_value, moved_node, moved_pair}
 use Rattle.pl_eval_laws.proofs.Leads.{Opened, lead, head_in, head_by, head_of, opened_is, rolled}
+use Rattle.pl_eval_laws.specs.Marks.{Said, key as key_said, scalar}
+use Rattle.pl_eval_laws.proofs.Marks.{atom_by, atom_of}
+use Rattle.pl_eval_laws.proofs.Trees.{Asked, Told, Atom, node_told, pair_told}
 use Rattle.pl_eval_laws.proofs.Trees.{NodeFrom, ValueFrom, PairFrom, Led, node_from, pair_from}
 use Rattle.pl_eval_laws.proofs.Trees.{node_parts, node_led, pair_parts, value_parts, array_from}
 use Rattle.pl_eval_laws.proofs.Trees.{object_from, null_from, truth_from, number_from, text_from}
@@ -63,11 +66,26 @@ module _ (move : Origin → Origin) where
   head_moves one =
       ap (λ one. head_of (all_moved move one)) (sym (rolled one)) ∙ layer_head (out-Value one)
 
+  layer_atom : (layer : Opened) → atom_of (all_moved move (roll-Value layer)) ≡ atom_by layer
+  layer_atom Null = search (rules, the_lemmas)
+  layer_atom (Truth truth) = search (rules, the_lemmas)
+  layer_atom (Number number) = search (rules, the_lemmas)
+  layer_atom (Version segments) = search (rules, the_lemmas)
+  layer_atom (Str text) = search (rules, the_lemmas)
+  layer_atom (Array items) = search (rules, the_lemmas)
+  layer_atom (Object pairs) = search (rules, the_lemmas)
+
+  atom_moves : (one : Value) → atom_of (all_moved move one) ≡ atom_of one
+  atom_moves one =
+      ap (λ one. atom_of (all_moved move one)) (sym (rolled one)) ∙ layer_atom (out-Value one)
+
 -- P and Q are asked of origins, L and M of the calls that mappings would be
-module _ (P Q L M : Origin → Type 0) (move : Origin → Origin)
-    (moves : (origin : Origin) → P origin → Q (move origin))
-    (leads : (origin : Origin) → L origin → M (move origin))
-    (apart : (item path : Origin) → move (lead item path) ≡ lead (move item) (move path)) where
+module _ (P Q L M : Asked) (move : Origin → Origin)
+    (moves : (origin : Origin) → P.own origin → Q.own (move origin))
+    (leads : (origin : Origin) → L.own origin → M.own (move origin))
+    (apart : (item path : Origin) → move (lead item path) ≡ lead (move item) (move path))
+    (tells : (origin : Origin) (said : Said) → P.own origin → Told P origin said →
+    Told Q (move origin) said) where
   abbrev ValueMoves : Value → Type 0
   ValueMoves one = ValueFrom P L one → ValueFrom Q M (all_moved move one)
 
@@ -86,7 +104,12 @@ module _ (P Q L M : Origin → Type 0) (move : Origin → Origin)
   led_moves : (origin : Origin) (head : Option Origin) → Led L origin head →
       Led M (move origin) (option_map move head)
   led_moves origin None led = tt
-  led_moves origin (Some path) led = subst M (apart origin path) (leads (lead origin path) led)
+  led_moves origin (Some path) led = subst M.own (apart origin path) (leads (lead origin path) led)
+
+  atom_told : (origin : Origin) (atom : Option Value) → P.own origin → Atom P origin atom →
+      Atom Q (move origin) atom
+  atom_told origin None own told = tt
+  atom_told origin (Some one) own told = tells origin (scalar one) own told
 
   of_layer : (layer : Opened) → Parts NodeMoves PairMoves layer → ValueMoves (roll-Value layer)
   of_layer Null parts from =
@@ -131,7 +154,9 @@ module _ (P Q L M : Origin → Type 0) (move : Origin → Origin)
   whole_moves origin one goes from =
       let node : MarkedNode = record { origin = origin; value = one } in
       let parts = node_parts P L node from in
-      node_from Q M (move origin) (all_moved move one) (moves origin parts.0) (goes parts.1)
+      node_from Q M (move origin) (all_moved move one) (moves origin parts.0)
+      (subst (Atom Q (move origin)) (sym (atom_moves move one))
+      (atom_told origin (atom_of one) parts.0 (node_told P L node from))) (goes parts.1)
       (subst (Led M (move origin)) (sym (head_moves move one))
       (led_moves origin (head_of one) (node_led P L node from)))
 
@@ -157,7 +182,7 @@ module _ (P Q L M : Origin → Type 0) (move : Origin → Origin)
       let parts = pair_parts P L pair from in
       subst (PairFrom Q M) is
       (pair_from Q M key (move key_origin) (moved move item) (moves key_origin parts.0)
-      (goes parts.1))
+      (tells key_origin (key_said key) parts.0 (pair_told P L pair from)) (goes parts.1))
 
   pub moved_from : (node : MarkedNode) → NodeFrom P L node → NodeFrom Q M (moved move node)
   moved_from = node_induction ValueMoves NodeMoves PairMoves of_layer of_node of_pair

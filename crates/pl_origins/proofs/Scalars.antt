@@ -1,13 +1,14 @@
 -- Scalars, keys and what keys ask for, in a frame.
-use Rattle.std.proofs.Common.{ℕ, Bool, true, false, Option, List, []}
-use Rattle.std.specs.Prelude.{IfOk}
+use Rattle.std.proofs.Common.{◌≡◌, ℕ, Bool, true, false, Option, Some, None, List, [], subst}
+use Rattle.std.specs.Prelude.{IfOk, codes}
 use Rattle.std.specs.List.{AllByRecursion as Each}
 use Rattle.pl_base.specs.declared.origin.Origin.{Origin}
 use Rattle.pl_base.specs.declared.place.Place.{Place}
-use Rattle.pl_base.specs.declared.value.Value.{Str, out-Value}
+use Rattle.pl_base.specs.declared.value.Value.{Value, Str, out-Value}
 use Rattle.pl_base.specs.declared.value.Value.TheOpen as layer
 use Rattle.pl_base.specs.declared.value.MarkedNode.{MarkedNode}
 use Rattle.pl_base.specs.declared.value.MarkedPair.{MarkedPair}
+use Rattle.pl_expr.specs.Conversions.{cast_text}
 use Rattle.pl_eval.specs.LookUps.{made}
 use Rattle.pl_frame.specs.declared.frame.Frame.{Frame}
 use Rattle.pl_frame.specs.Names.{pair_object}
@@ -34,39 +35,45 @@ use Rattle.pl_directives.specs.Scalars.{value_at, truth_at, one_more, counted_va
 use Rattle.pl_directives.specs.Scalars.{pieces_behind, scalar_by, scalar_value}
 use Rattle.pl_directives.specs.Strays.{given_stray, unless_stray, given_value}
 use Rattle.pl_eval_laws.proofs.Leads.{Opened, head_of}
+use Rattle.pl_eval_laws.specs.Marks.{key as key_said, scalar}
+use Rattle.pl_eval_laws.proofs.Marks.{atom_by, atom_of, atom_value}
 use Rattle.pl_eval_laws.proofs.Lists.{Has, each_map}
+use Rattle.pl_eval_laws.proofs.Trees.{Asked, Told, Atom, node_told, pair_told}
 use Rattle.pl_eval_laws.proofs.Trees.{NodeFrom, PairFrom, OpenedFrom, pair_from, text_node}
 use Rattle.pl_eval_laws.proofs.Trees.{node_parts, pair_parts, value_parts, head_from, node_implies}
 use Rattle.pl_origins.proofs.Frames.{Seen, SeenFrom, FrameFrom, literal_seen, made_seen}
-use Rattle.pl_origins.proofs.Frames.{made_object, value_from}
+use Rattle.pl_origins.proofs.Frames.{made_object, value_from, made_told, Keeps}
+use Rattle.pl_origins.proofs.Nodes.{Site}
 use Rattle.pl_origins.proofs.Steps.{ok_then, any_then}
 
 -- What stands in a frame's place: calls that it holds gave what isn't seen in the frame, but its
 -- own origin is, and the one of its first value.
-abbrev pub HeldFrom : (Origin → Type 0) → (Place → Type 0) → MarkedNode → Type 0
+abbrev pub HeldFrom : Asked → Site → MarkedNode → Type 0
 HeldFrom P R node =
-    NodeFrom P P node × (Seen P R node.origin × Has (Seen P R) (head_of node.value))
+    NodeFrom P P node × ((Seen P R).own node.origin × Has (Seen P R).own (head_of node.value))
 
-abbrev pub OneFrom : (Origin → Type 0) → (Place → Type 0) → Counted → Type 0
+abbrev pub OneFrom : Asked → Site → Counted → Type 0
 OneFrom P R one = HeldFrom P R one.node
 
 -- a value that an expression gave there
-abbrev pub SeenOne : (Origin → Type 0) → (Place → Type 0) → Counted → Type 0
+abbrev pub SeenOne : Asked → Site → Counted → Type 0
 SeenOne P R one = SeenFrom P R one.node
 
-abbrev pub KeyFrom : (Origin → Type 0) → (Place → Type 0) → MadeKey → Type 0
-KeyFrom P R made = Seen P R made.origin
+abbrev pub KeyFrom : Asked → Site → MadeKey → Type 0
+KeyFrom P R made = (Seen P R).own made.origin × Told P made.origin (key_said made.key)
 
-abbrev pub ActionFrom : (Origin → Type 0) → (Place → Type 0) → Action → Type 0
-ActionFrom P R (action.Put key origin) = Seen P R origin
+abbrev pub ActionFrom : Asked → Site → Action → Type 0
+ActionFrom P R (action.Put key origin) = (Seen P R).own origin × Told P origin (key_said key)
 ActionFrom P R (action.Run chain) = Unit {0}
 ActionFrom P R (action.Pass chain) = Unit {0}
 ActionFrom P R (action.Repeat loop count) = Each (SeenFrom P R) loop.items
 ActionFrom P R action.Insert = Unit {0}
 
-module _ (P : Origin → Type 0) (R : Place → Type 0) where
+module _ (P : Asked) (R : Site) where
   pub seen_tree : (node : MarkedNode) → SeenFrom P R node → NodeFrom P P node
-  seen_tree = node_implies (Seen P R) P P P (λ origin seen. seen.0) (λ origin is. is)
+  seen_tree =
+      node_implies (Seen P R) P P P (λ origin seen. seen.0) (λ origin is. is)
+      (λ origin said told. told)
 
   pub seen_held : (node : MarkedNode) → SeenFrom P R node → HeldFrom P R node
   seen_held node all =
@@ -74,15 +81,28 @@ module _ (P : Origin → Type 0) (R : Place → Type 0) where
       (seen_tree node all, (parts.0, head_from (Seen P R) P node.value parts.1))
 
   text_seen :
-      (origin : Origin) (text : List ℕ) → Seen P R origin → SeenFrom P R (made origin (Str text))
-  text_seen origin text own = text_node (Seen P R) P origin own text
+      (origin : Origin) (text : List ℕ) → (Seen P R).own origin →
+      Told P origin (scalar (Str text)) → SeenFrom P R (made origin (Str text))
+  text_seen origin text own told = text_node (Seen P R) P origin own text told
 
   pub text_held :
-      (origin : Origin) (text : List ℕ) → Seen P R origin → HeldFrom P R (made origin (Str text))
-  text_held origin text own = seen_held (made origin (Str text)) (text_seen origin text own)
+      (origin : Origin) (text : List ℕ) → (Seen P R).own origin →
+      Told P origin (scalar (Str text)) → HeldFrom P R (made origin (Str text))
+  text_held origin text own told =
+      seen_held (made origin (Str text)) (text_seen origin text own told)
 
-module _ (P : Origin → Type 0) (R : Place → Type 0) (frame : Frame) (from : FrameFrom P R frame)
-    (place : Place) (stands : R place) where
+-- the text of an atom says what the atom does
+cast_told :
+    (P : Asked) (keeps : Keeps P.says) (origin : Origin) (one : Value) (atom : Option Value) →
+    Has (λ atom. atom ≡ one) atom → Atom P origin atom →
+    Has (λ atom. Told P origin (key_said (cast_text one))) atom
+cast_told P keeps origin one None is told = tt
+cast_told P keeps origin one (Some atom) is told =
+    λ files. keeps.cast origin.source one
+    (subst (λ (one : Value). P.says origin.source (scalar one)) is (told files))
+
+module _ (P : Asked) (R : Site) (frame : Frame) (from : FrameFrom P R frame)
+    (place : Place) (stands : R.at place) where
   -- ---- scalars
 
   pub counted_value_from :
@@ -93,52 +113,59 @@ module _ (P : Origin → Type 0) (R : Place → Type 0) (frame : Frame) (from : 
       (λ node all. any_then (SeenOne P R) (counted place (nodes_in node) count) _ (λ count. all))
 
   scalar_from :
-      (form : ScalarForm) (text : List ℕ) (count : ℕ) →
+      (form : ScalarForm) (text : List ℕ) → R.says place (scalar (Str text)) → (count : ℕ) →
       IfOk (scalar_by form text frame place count) (SeenOne P R)
-  scalar_from Plain text count =
+  scalar_from Plain text says count =
       text_seen P R (literal_at frame place) text (literal_seen P R frame from place stands)
-  scalar_from (Whole inside) text count = counted_value_from inside count
-  scalar_from (Joined pieces) text count =
+      (λ files. from.reads.says place (scalar (Str text)) says)
+  scalar_from (Whole inside) text says count = counted_value_from inside count
+  scalar_from (Joined pieces) text says count =
       any_then (SeenOne P R)
       (pieces_behind frame place pieces (record { text = []; count = count }))
       _ (λ joined. text_seen P R (made_at frame place) joined.text
-      (made_seen P R frame from place stands))
-  scalar_from Unclosed text count = tt
+      (made_seen P R frame from place stands)
+      (made_told P frame place (scalar (Str joined.text))))
+  scalar_from Unclosed text says count = tt
 
   pub scalar_value_from :
-      (text : List ℕ) (count : ℕ) → IfOk (scalar_value text frame place count) (SeenOne P R)
-  scalar_value_from text count =
-      any_then (SeenOne P R) (entered place count) _ (scalar_from (form_of text) text)
+      (text : List ℕ) → R.says place (scalar (Str text)) → (count : ℕ) →
+      IfOk (scalar_value text frame place count) (SeenOne P R)
+  scalar_value_from text says count =
+      any_then (SeenOne P R) (entered place count) _ (scalar_from (form_of text) text says)
 
   pub given_value_from :
-      (text : List ℕ) (count : ℕ) (region : Region) (called : Option Bool) →
+      (text : List ℕ) → R.says place (scalar (Str text)) → (count : ℕ) (region : Region)
+      (called : Option Bool) →
       IfOk (given_value text frame place count region called) (SeenOne P R)
-  given_value_from text count region called =
+  given_value_from text says count region called =
       ok_then (SeenOne P R) (SeenOne P R) (scalar_value text frame place count) _
-      (scalar_value_from text count)
+      (scalar_value_from text says count)
       (λ one seen. any_then (SeenOne P R)
       (unless_stray (given_stray region called (out-Value one.node.value))) _ (λ none. seen))
 
   -- ---- keys
 
-  atom_key : (opened : Opened) (node : MarkedNode) → Seen P R node.origin →
+  atom_key : (opened : Opened) (node : MarkedNode) → (Seen P R).own node.origin →
+      Has (λ atom. Told P node.origin (key_said (cast_text node.value))) (atom_by opened) →
       IfOk (key_from opened place node) (KeyFrom P R)
-  atom_key (layer.Array items) node own = tt
-  atom_key (layer.Object pairs) node own = tt
-  atom_key layer.Null node own = own
-  atom_key (layer.Bool truth) node own = own
-  atom_key (layer.Number number) node own = own
-  atom_key (layer.Version segments) node own = own
-  atom_key (layer.Str text) node own = own
+  atom_key (layer.Array items) node own told = tt
+  atom_key (layer.Object pairs) node own told = tt
+  atom_key layer.Null node own told = (own, told)
+  atom_key (layer.Bool truth) node own told = (own, told)
+  atom_key (layer.Number number) node own told = (own, told)
+  atom_key (layer.Version segments) node own told = (own, told)
+  atom_key (layer.Str text) node own told = (own, told)
 
   pub key_by_from : (made : ScalarForm) → IfOk (key_by made frame place) (KeyFrom P R)
   key_by_from (Whole inside) =
       ok_then (SeenFrom P R) (KeyFrom P R) (value_at frame place inside) _
       (value_from P R frame from place stands inside)
-      (λ node all. atom_key (out-Value node.value) node (node_parts (Seen P R) P node all).0)
+      (λ node all. atom_key (out-Value node.value) node (node_parts (Seen P R) P node all).0
+      (cast_told P from.reads.keeps node.origin node.value (atom_of node.value)
+      (atom_value node.value) (node_told (Seen P R) P node all)))
   key_by_from (Joined pieces) =
       any_then (KeyFrom P R) (key_pieces_behind frame place pieces []) _
-      (λ text. made_seen P R frame from place stands)
+      (λ text. (made_seen P R frame from place stands, made_told P frame place (key_said text)))
   key_by_from Plain = tt
   key_by_from Unclosed = tt
 
@@ -166,12 +193,18 @@ module _ (P : Origin → Type 0) (R : Place → Type 0) (frame : Frame) (from : 
   turn_of_pair :
       (pair : MarkedPair) → PairFrom (Seen P R) P pair → SeenFrom P R (pair_object frame place pair)
   turn_of_pair pair all =
-      let own : Seen P R (made_at frame place) = made_seen P R frame from place stands in
+      let own : (Seen P R).own (made_at frame place) = made_seen P R frame from place stands in
       let parts = pair_parts (Seen P R) P pair all in
       made_object P R frame from place stands _ (
         pair_from (Seen P R) P _ (made_at frame place) _ own
-            (text_seen P R pair.key_origin pair.key parts.0),
-        (pair_from (Seen P R) P _ (made_at frame place) pair.item own parts.1, tt),
+            (made_told P frame place (key_said (codes "key")))
+            (text_seen P R pair.key_origin pair.key parts.0 (λ files. from.reads.keeps.text
+            pair.key_origin.source pair.key (pair_told (Seen P R) P pair all files))),
+        (
+          pair_from (Seen P R) P _ (made_at frame place) pair.item own
+              (made_told P frame place (key_said (codes "value"))) parts.1,
+          tt,
+        ),
       )
 
   items_from :
@@ -202,18 +235,21 @@ module _ (P : Origin → Type 0) (R : Place → Type 0) (frame : Frame) (from : 
       (λ made own. own)
 
   asks_from :
-      (asked : KeyForm) (key : List ℕ) (chain : Chain) (count : ℕ) →
-      IfOk (asks asked key frame place chain count) (ActionFrom P R)
-  asks_from form.Plain key chain count = literal_seen P R frame from place stands
-  asks_from (form.Computed made) key chain count = computed_from made
-  asks_from (form.If text) key chain count = if_from text
-  asks_from (form.ElseIf text) key chain count = elseif_from chain text
-  asks_from form.Else key chain count = else_from chain
-  asks_from (form.Each name text) key chain count = each_from name text count
-  asks_from form.Insert key chain count = tt
-  asks_from form.Bad key chain count = tt
+      (asked : KeyForm) (key : List ℕ) → R.says place (key_said key) → (chain : Chain)
+      (count : ℕ) → IfOk (asks asked key frame place chain count) (ActionFrom P R)
+  asks_from form.Plain key says chain count = (
+    literal_seen P R frame from place stands,
+    λ files. from.reads.says place (key_said key) says,
+  )
+  asks_from (form.Computed made) key says chain count = computed_from made
+  asks_from (form.If text) key says chain count = if_from text
+  asks_from (form.ElseIf text) key says chain count = elseif_from chain text
+  asks_from form.Else key says chain count = else_from chain
+  asks_from (form.Each name text) key says chain count = each_from name text count
+  asks_from form.Insert key says chain count = tt
+  asks_from form.Bad key says chain count = tt
 
   pub key_asks_from :
-      (key : List ℕ) (chain : Chain) (count : ℕ) →
+      (key : List ℕ) → R.says place (key_said key) → (chain : Chain) (count : ℕ) →
       IfOk (key_asks key frame place chain count) (ActionFrom P R)
-  key_asks_from key chain count = asks_from (key_form_of key) key chain count
+  key_asks_from key says chain count = asks_from (key_form_of key) key says chain count

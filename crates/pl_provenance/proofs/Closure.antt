@@ -15,17 +15,19 @@ use Rattle.pl_base.specs.declared.value.Value.{out-Value}
 use Rattle.pl_base.specs.declared.value.Value.TheOpen as layer
 use Rattle.pl_base.specs.declared.value.MarkedNode.{MarkedNode}
 use Rattle.pl_base.specs.declared.value.MarkedPair.{MarkedPair}
+use Rattle.pl_eval_laws.specs.Marks.{marks_of}
 use Rattle.pl_eval_laws.specs.Trees.{origins_of, origins_in}
 use Rattle.pl_eval_laws.proofs.Leads.{Opened, leads_of}
 use Rattle.pl_eval_laws.proofs.Lists.{each_append, each_back, each_front, each_implies, each_of}
 use Rattle.pl_eval_laws.proofs.Lists.{each_contained}
+use Rattle.pl_eval_laws.proofs.Trees.{Asked as Wanted, Marked, only}
 use Rattle.pl_eval_laws.proofs.Trees.{NodeFrom, PairFrom, OpenedFrom, Any, node_parts, value_parts}
 use Rattle.pl_origins.specs.Through.{extended_in}
 use Rattle.pl_origins.proofs.Called.{Borders}
-use Rattle.pl_origins.proofs.Kept.{NoFile, extended_last}
+use Rattle.pl_origins.proofs.Kept.{IsExtending, NoFile, extended_last, silent_keeps, silent_reads}
 use Rattle.pl_origins.proofs.Steps.{ok_then}
 use Rattle.pl_expand.specs.declared.root.RootTree.{RootTree}
-use Rattle.pl_expand.specs.Extending.{is_form}
+use Rattle.pl_extends.specs.Forms.{is_form}
 use Rattle.pl_expand.specs.Tree.{Set, tree_of}
 use Rattle.pl_provenance.specs.Roots.{pairs_of, jobs_of}
 use Rattle.pl_provenance.specs.Written.{StandsInFile, behind_extends, IsCall, IsWritten}
@@ -97,8 +99,11 @@ module _ (files : Set) where
       IsWritten origin → IsLedTo files file (behind_extends origin.crossings) origin.source
 
   -- a predicate of the origins behind the border into the template
-  abbrev pub Led : FileKey → Origin → Type 0
-  Led file origin = Behind file origin × IsLed file origin
+  abbrev pub IsBehindLed : FileKey → Origin → Type 0
+  IsBehindLed file origin = (Behind file).own origin × IsLed file origin
+
+  abbrev pub Led : FileKey → Wanted
+  Led file = only (IsBehindLed file)
 
   no_call : {X : Type 0} → ⊥ → X
   no_call none = absurd none
@@ -108,7 +113,7 @@ module _ (files : Set) where
       (file : FileKey) (crossings : List Crossing) (crossing : Crossing) →
       (IsCall crossing → ⊥) → extended_in (crossing ∷ []) ≡ [] →
       extended_in crossings ≡ file ∷ [] → (place : Place) →
-      Led file (record { source = place; crossings = crossings ++ crossing ∷ [] })
+      IsBehindLed file (record { source = place; crossings = crossings ++ crossing ∷ [] })
   given_led file crossings crossing none other extends place = (
     extended_last crossings crossing other ∙ extends,
     λ written. no_call (not_written crossings crossing file [] none extends written),
@@ -117,61 +122,66 @@ module _ (files : Set) where
   pub led_inside : (file : FileKey) → Borders (Led file) (IsIn files) NoFile
   led_inside file = record {
     literal =
-        λ key call place known own here.
-        let is = last_behind call.crossings (Include key call.source) file [] own.0 in (
-          extended_last call.crossings (Include key call.source) refl ∙ own.0,
+        λ key call place known own path here.
+        let is = last_behind call.crossings (Include key call.at) file [] own.0 in (
+          extended_last call.crossings (Include key call.at) refl ∙ own.0,
           λ written. subst (λ crossings. IsLedTo files file crossings place) (sym is)
-              (led_on file (behind_extends call.crossings) key call.source place
+              (led_on file (behind_extends call.crossings) key call.at place
               (own.1 (each_front IsCall (behind_extends call.crossings)
-              (Include key call.source ∷ []) (subst (Each IsCall) is written)))
+              (Include key call.at ∷ []) (subst (Each IsCall) is written)))
               here),
         );
     made =
-        λ key call place known own here.
-        given_led file (call.crossings ++ Include key call.source ∷ []) Made (λ none. none) refl
-        (extended_last call.crossings (Include key call.source) refl ∙ own.0) place;
+        λ key call place known own path here.
+        given_led file (call.crossings ++ Include key call.at ∷ []) Made (λ none. none) refl
+        (extended_last call.crossings (Include key call.at) refl ∙ own.0) place;
     argument =
         λ key call given name place known own from_given here.
-        let led = given_led file (given.crossings ++ Include key call.source ∷ [])
+        let led = given_led file (given.crossings ++ Include key call.at ∷ [])
         (Argument name place) (λ none. none) refl
-        (extended_last given.crossings (Include key call.source) refl ∙ from_given.0) in
+        (extended_last given.crossings (Include key call.at) refl ∙ from_given.0) in
         (led given.source, λ at stands. led at);
+    reads = λ key. silent_reads (IsIn files key) (IsBehindLed file);
+    keeps = silent_keeps;
   }
 
   pub before_inside : Borders Before (IsIn files) NoFile
   before_inside = record {
     literal =
-        λ key call place known own here.
-        extended_last call.crossings (Include key call.source) refl ∙ own;
+        λ key call place known own path here.
+        extended_last call.crossings (Include key call.at) refl ∙ own;
     made =
-        λ key call place known own here.
-        extended_last (call.crossings ++ Include key call.source ∷ []) Made refl
-        ∙ (extended_last call.crossings (Include key call.source) refl ∙ own);
+        λ key call place known own path here.
+        extended_last (call.crossings ++ Include key call.at ∷ []) Made refl
+        ∙ (extended_last call.crossings (Include key call.at) refl ∙ own);
     argument =
         λ key call given name place known own from_given here.
         let is =
-        extended_last (given.crossings ++ Include key call.source ∷ []) (Argument name place) refl
-        ∙ (extended_last given.crossings (Include key call.source) refl ∙ from_given) in
+        extended_last (given.crossings ++ Include key call.at ∷ []) (Argument name place) refl
+        ∙ (extended_last given.crossings (Include key call.at) refl ∙ from_given) in
         (is, λ at stands. is);
+    reads = λ key. silent_reads (IsIn files key) (IsExtending []);
+    keeps = silent_keeps;
   }
 
   pub led_crossing : ExtendsBorder Before Led (IsIn files) NoFile
   led_crossing = record {
     literal =
-        λ key at path place known own here. (
+        λ key at text path place known own here. (
           extends_one path.crossings key own,
           λ written. subst (λ crossings. IsLedTo files key crossings place)
               (sym (first_behind path.crossings key own)) here,
         );
     made =
-        λ key at path place known own here.
+        λ key at text path place known own here.
         given_led key (path.crossings ++ Extends key ∷ []) Made (λ none. none) refl
         (extends_one path.crossings key own) place;
     argument =
-        λ key from one name place known own here.
+        λ key from text one name place known own here.
         let led = given_led key (one.crossings ++ Extends key ∷ []) (Argument name place)
         (λ none. none) refl (extends_one one.crossings key own) in
         (led one.source, λ at stands. led at);
+    reads = λ key. silent_reads (IsIn files key) (IsBehindLed key);
   }
 
 -- ---- the closure
@@ -237,7 +247,7 @@ module _ (files : Set) (tree : MarkedNode) (template : FileKey) (origin : Origin
   reached before (Argument name at ∷ behind) caller among is extends written led = absurd led
   reached before (Made ∷ behind) caller among is extends written led = absurd led
 
-  from_closure : Led files template origin → IsFromClosure files tree template origin
+  from_closure : IsBehindLed files template origin → IsFromClosure files tree template origin
   from_closure own written =
       let parts = split origin.crossings template own.0 in
       let front = parts.front ++ Extends template ∷ [] in
@@ -275,20 +285,27 @@ abbrev AreTold : MarkedNode → MarkedPair → Type 0
 AreTold tree pair = Each (Contains (origins_of tree)) (origins_in pair)
 
 opened_told :
-    (tree : MarkedNode) (opened : Opened) → OpenedFrom (Contains (origins_of tree)) Any opened →
+    (tree : MarkedNode) (opened : Opened) → OpenedFrom (only (Contains (origins_of tree))) Any
+    opened →
     Each (AreTold tree) (pairs_of opened)
 unfolding PairFrom
 opened_told tree (layer.Object pairs) all =
-    each_implies (PairFrom (Contains (origins_of tree)) Any) (AreTold tree) (λ pair own. own.0)
+    each_implies (PairFrom (only (Contains (origins_of tree))) Any) (AreTold tree) (λ pair own.
+    own.0)
     pairs all
 opened_told tree other all = tt
 
 jobs_told : (tree : MarkedNode) → Each (AreTold tree) (jobs_of tree)
 unfolding NodeFrom
 jobs_told tree =
-    let Told : Origin → Type 0 = Contains (origins_of tree) in
-    let whole : NodeFrom Told Any tree =
-    (each_contained (origins_of tree), each_of Any (λ origin. tt) (leads_of tree)) in
+    let Told : Wanted = only (Contains (origins_of tree)) in
+    let whole : NodeFrom Told Any tree = (
+      each_contained (origins_of tree),
+      (
+        each_of Any.own (λ origin. tt) (leads_of tree),
+        each_of (Marked Told) (λ one files. tt) (marks_of tree),
+      ),
+    ) in
     each_kept (AreTold tree) (λ pair. is_form pair.key) (pairs_of (out-Value tree.value))
     (opened_told tree (out-Value tree.value)
     (value_parts Told Any tree.value (node_parts Told Any tree whole).1))
@@ -301,7 +318,7 @@ unfolding PairFrom
 pairs_from_closure files tree file all =
     each_both (AreTold tree) (PairFrom (Led files file) (Led files file))
     (λ (pair : MarkedPair). Each (IsFromClosure files tree file) (origins_in pair))
-    (λ pair told led. each_both (Contains (origins_of tree)) (Led files file)
+    (λ pair told led. each_both (Contains (origins_of tree)) (IsBehindLed files file)
     (IsFromClosure files tree file)
     (λ origin is_told own. from_closure files tree file origin is_told own) (origins_in pair) told
     led.0)

@@ -11,7 +11,7 @@ use Rattle.pl_base.specs.declared.place.Place.{Place}
 use Rattle.pl_base.specs.declared.node.Node.{Node}
 use Rattle.pl_base.specs.declared.node.NodePair.{NodePair}
 use Rattle.pl_base.specs.declared.node.NodeBody.TheOpen.{Scalar, Seq, Map}
-use Rattle.pl_base.specs.declared.value.Value.{out-Value}
+use Rattle.pl_base.specs.declared.value.Value.{Str, out-Value}
 use Rattle.pl_base.specs.declared.value.Value.TheOpen as layer
 use Rattle.pl_base.specs.declared.value.MarkedNode.{MarkedNode}
 use Rattle.pl_base.specs.declared.value.MarkedPair.{MarkedPair}
@@ -40,12 +40,14 @@ use Rattle.pl_calls.specs.Judging.{unless_at, stray, held, template_in, may_give
 use Rattle.pl_calls.specs.Parts.{Body, body_of, under}
 use Rattle.pl_calls.specs.Reaching.{Opens, node_in as file_node}
 use Rattle.pl_calls.specs.declared.reaching.Opened.{Opened as OpenedFile}
-use Rattle.pl_expanding.specs.Expanding.{part_of, entry_of, expanded, pair_behind}
-use Rattle.pl_expanding.specs.Following.{Follow, scope_of}
-use Rattle.pl_expanding.specs.Levels.{followed}
-use Rattle.pl_expanding.specs.declared.followed.SettledPairs.{SettledPairs}
+use Rattle.pl_recursion.specs.Expanding.{part_of, entry_of, expanded, pair_behind}
+use Rattle.pl_recursion.specs.Following.{Follow, scope_of}
+use Rattle.pl_recursion.specs.Levels.{followed}
+use Rattle.pl_recursion.specs.declared.followed.SettledPairs.{SettledPairs}
 use Rattle.pl_eval_laws.proofs.Leads.{Opened}
+use Rattle.pl_eval_laws.specs.Marks.{scalar}
 use Rattle.pl_eval_laws.proofs.Lists.{Has, has_map, each_found}
+use Rattle.pl_eval_laws.proofs.Trees.{Asked as Wanted}
 use Rattle.pl_eval_laws.proofs.Trees.{NodeFrom, PairFrom, OpenedFrom, node_parts, pair_parts}
 use Rattle.pl_eval_laws.proofs.Trees.{value_parts}
 use Rattle.pl_origins.proofs.Called.{Borders, FileIn, OpensFrom, followed_gives, framed_from}
@@ -53,51 +55,54 @@ use Rattle.pl_origins.proofs.Called.{template_inside, pairs_inside}
 use Rattle.pl_origins.proofs.Contents.{ContentFrom, ProgressFrom}
 use Rattle.pl_origins.proofs.Expanded.{path_from, part_from, entry_from, expanded_gives, pair_gives}
 use Rattle.pl_origins.proofs.Following.{FollowFrom}
-use Rattle.pl_origins.proofs.Frames.{Seen, FrameFrom}
-use Rattle.pl_origins.proofs.Nodes.{NodeIn, PairIn, BodyIn, node_in, pair_in, under_in}
+use Rattle.pl_origins.proofs.Frames.{Seen, Reads, FrameFrom}
+use Rattle.pl_origins.proofs.Nodes.{Site, NodeIn, PairIn, BodyIn, node_in, node_says, pair_in}
+use Rattle.pl_origins.proofs.Nodes.{said_in, under_in}
 use Rattle.pl_origins.proofs.Scalars.{OneFrom, SeenOne, scalar_value_from, seen_tree}
 use Rattle.pl_origins.proofs.Steps.{Gives, any_then, ok_then, plain_then, static_then, first_then}
 use Rattle.pl_origins.proofs.Steps.{used_then, used_static_then, alone_gives, done_gives, given}
-use Rattle.pl_expand.specs.declared.extending.Extension.{Extension}
-use Rattle.pl_expand.specs.Extending.{path_in, mapping_from, value_from, argument_behind}
-use Rattle.pl_expand.specs.Extending.{arguments_behind, may_extend, extended_pairs, body_pair}
-use Rattle.pl_expand.specs.Extending.{body_pairs, pairs_there, extension_of, body_filled}
-use Rattle.pl_expand.specs.Extending.{opened_filled, Asked, asking, shown_by, shown, reached_filled}
-use Rattle.pl_expand.specs.Extending.{mapping_extended, item_under, argument_given}
-use Rattle.pl_expand.specs.Extending.{arguments_given, path_given, pairs_asked, extended_from}
-use Rattle.pl_expand.specs.Extending.{value_extended, are_plain, pairs_extended, text_extended}
-use Rattle.pl_expand.specs.Extending.{extended_by, extended}
+use Rattle.pl_extends.specs.declared.extending.Extension.{Extension}
+use Rattle.pl_extends.specs.Extending.{path_in, mapping_from, value_from, argument_behind}
+use Rattle.pl_extends.specs.Extending.{arguments_behind, may_extend, extended_pairs, body_pair}
+use Rattle.pl_extends.specs.Extending.{body_pairs, pairs_there, extension_of, body_filled}
+use Rattle.pl_extends.specs.Extending.{opened_filled, Asked, asking, shown_by, shown}
+use Rattle.pl_extends.specs.Extending.{reached_filled}
+use Rattle.pl_extends.specs.Extending.{mapping_extended, item_under, argument_given}
+use Rattle.pl_extends.specs.Extending.{arguments_given, path_given, pairs_asked, extended_from}
+use Rattle.pl_extends.specs.Extending.{value_extended, are_plain, pairs_extended, text_extended}
+use Rattle.pl_extends.specs.Extending.{extended_by, extended}
 
 -- What must be so across the border of `extends` into a file, of which and of whose path's place K
 -- holds: P holds of the origins of the root's frame, and T of those of the template's.
-pub record ExtendsBorder (P : Origin → Type 0) (T : FileKey → Origin → Type 0)
-    (R : FileKey → Place → Type 0) (K : Place → FileKey → Type 0) : Type 0 where
+pub record ExtendsBorder (P : Wanted) (T : FileKey → Wanted) (R : FileKey → Site)
+    (K : Place → List ℕ → FileKey → Type 0) : Type 0 where
   pub literal :
-      (key : FileKey) (at : Place) (path : Origin) (place : Place) → K at key → P path →
-      R key place →
-      T key (record { source = place; crossings = path.crossings ++ Extends key ∷ [] })
+      (key : FileKey) (at : Place) (text : List ℕ) (path : Origin) (place : Place) →
+      K at text key → P.own path → (R key).at place →
+      (T key).own (record { source = place; crossings = path.crossings ++ Extends key ∷ [] })
   pub made :
-      (key : FileKey) (at : Place) (path : Origin) (place : Place) → K at key → P path →
-      R key place →
-      T key (record {
+      (key : FileKey) (at : Place) (text : List ℕ) (path : Origin) (place : Place) →
+      K at text key → P.own path → (R key).at place →
+      (T key).own (record {
         source = place;
         crossings = (path.crossings ++ Extends key ∷ []) ++ Made ∷ [];
       })
   pub argument :
-      (key : FileKey) (at : Place) (one : Origin) (name : List ℕ) (place : Place) → K at key →
-      P one →
-      R key place → Seen (T key) (R key) (across (Argument name place) (across (Extends key) one))
+      (key : FileKey) (at : Place) (text : List ℕ) (one : Origin) (name : List ℕ)
+      (place : Place) → K at text key → P.own one → (R key).at place →
+      (Seen (T key) (R key)).own (across (Argument name place) (across (Extends key) one))
+  pub reads : (key : FileKey) → Reads (R key) (T key)
 
-abbrev pub PairsFrom : (Origin → Type 0) → SettledPairs → Type 0
+abbrev pub PairsFrom : Wanted → SettledPairs → Type 0
 PairsFrom P all = Each (PairFrom P P) all.pairs
 
-abbrev pub ExtensionFrom : (FileKey → Origin → Type 0) → Extension → Type 0
+abbrev pub ExtensionFrom : (FileKey → Wanted) → Extension → Type 0
 ExtensionFrom T extension =
     Each (PairFrom (T extension.file) (T extension.file)) extension.pairs
 
 -- ---- in the root's file
 
-module _ (P : Origin → Type 0) (R : Place → Type 0) (U : List FileKey → Type 0) where
+module _ (P : Wanted) (R : Site) (U : List FileKey → Type 0) where
   held_inside :
       (place : Place) (body : Option Node) → Has (NodeIn R) body → IfOk (held place body) (NodeIn R)
   held_inside place None within = tt
@@ -111,8 +116,8 @@ module _ (P : Origin → Type 0) (R : Place → Type 0) (U : List FileKey → Ty
       ok_then (NodeIn R) (OneFrom P R) (held place (under (codes "template") pairs)) _
       (held_inside place (under (codes "template") pairs)
       (under_in R (codes "template") pairs within))
-      (λ path stands. path_from P R frame from (part_of path).place
-      (part_from P R U path stands).0 (part_of path).shape count)
+      (λ path stands. path_from P R frame from (part_of path).place (part_of path).shape
+      (part_from P R U path stands).0 count)
 
   mapping_inside : (one : Counted) → OneFrom P R one → IfOk (mapping_from one) (PairsFrom P)
   mapping_inside one all =
@@ -168,7 +173,7 @@ module _ (P : Origin → Type 0) (R : Place → Type 0) (U : List FileKey → Ty
 
 -- ---- the pairs of a template
 
-module _ (P : Origin → Type 0) (R : Place → Type 0) (U : List FileKey → Type 0) (follow : Follow)
+module _ (P : Wanted) (R : Site) (U : List FileKey → Type 0) (follow : Follow)
     (follows : FollowFrom P U follow) (frame : Frame) (region : Region) where
   pair_put :
       (H : Type 0) (pair : NodePair) (progress : Progress) (used : List FileKey) →
@@ -202,7 +207,7 @@ module _ (P : Origin → Type 0) (R : Place → Type 0) (U : List FileKey → Ty
       (λ h. from h.0) (λ h. h.1))
 
 there_from :
-    (P : Origin → Type 0) (R : Place → Type 0) (content : Content) → ContentFrom P R content →
+    (P : Wanted) (R : Site) (content : Content) → ContentFrom P R content →
     Each (PairFrom P P) (pairs_there content)
 there_from P R Unknown all = tt
 there_from P R (Items items) all = tt
@@ -215,7 +220,7 @@ unless_in F None x holds = holds
 unless_in F (Some place) x holds = tt
 
 pairs_inside_template :
-    (R : Place → Type 0) (node : Node) → NodeIn R node →
+    (R : Site) (node : Node) → NodeIn R node →
     IfOk (extended_pairs node) (Each (PairIn R))
 pairs_inside_template R node within =
     ok_then (Each (PairIn R)) (Each (PairIn R)) (template_in node) _
@@ -224,14 +229,14 @@ pairs_inside_template R node within =
 
 -- ---- what a value asks for
 
-abbrev pub AskedFrom : (Origin → Type 0) → Asked → Type 0
-AskedFrom P asked = P asked.shown × Each (PairFrom P P) asked.arguments
+abbrev pub AskedFrom : Wanted → Asked → Type 0
+AskedFrom P asked = P.own asked.shown × Each (PairFrom P P) asked.arguments
 
-module _ (P : Origin → Type 0) where
-  shown_from : (key path : Origin) → P key → P path → P (shown key path)
+module _ (P : Wanted) where
+  shown_from : (key path : Origin) → P.own key → P.own path → P.own (shown key path)
   shown_from key path own other = by path.crossings
     where
-      by : (crossings : List Crossing) → P (shown_by crossings key path)
+      by : (crossings : List Crossing) → P.own (shown_by crossings key path)
       by [] = own
       by (crossing ∷ crossings) = other
 
@@ -279,7 +284,7 @@ module _ (P : Origin → Type 0) where
   path_from_given at None has = tt
   path_from_given at (Some path) has = has
 
-  module _ (key : Origin) (at : Place) (own : P key) where
+  module _ (key : Origin) (at : Place) (own : P.own key) where
     pub pairs_ask :
         (pairs : List MarkedPair) → Each (PairFrom P P) pairs →
         IfOk (pairs_asked key at pairs) (AskedFrom P)
@@ -298,8 +303,9 @@ module _ (P : Origin → Type 0) where
 
 -- ---- the extension
 
-module _ (P : Origin → Type 0) (T : FileKey → Origin → Type 0) (R : FileKey → Place → Type 0)
-    (K : Place → FileKey → Type 0) (U : List FileKey → Type 0) (border : ExtendsBorder P T R K)
+module _ (P : Wanted) (T : FileKey → Wanted) (R : FileKey → Site)
+    (K : Place → List ℕ → FileKey → Type 0) (U : List FileKey → Type 0) (border : ExtendsBorder P T
+    R K)
     (inside : (file : FileKey) → Borders (T file) R K) (outside : Borders P R K) (opens : Opens)
     (opening : OpensFrom R K U opens) where
   pub levels_follow : (levels : ℕ) → FollowFrom P U (followed levels opens)
@@ -328,7 +334,7 @@ module _ (P : Origin → Type 0) (T : FileKey → Origin → Type 0) (R : FileKe
 
   opened_gives :
       (opened : OpenedFile) (asked : Asked) (H : Type 0) (frame : Frame) (count : ℕ)
-      (used : List FileKey) → FileIn R opened → (H → K asked.at opened.key) →
+      (used : List FileKey) → FileIn R opened → (H → K asked.at asked.path opened.key) →
       (H → AskedFrom P asked) →
       Gives U H used
       (opened_filled opened asked.shown asked.arguments (followed 99 opens) frame count used)
@@ -342,11 +348,13 @@ module _ (P : Origin → Type 0) (T : FileKey → Origin → Type 0) (R : FileKe
       (λ pairs stands. first_then U (FrameFrom (T key) (R key)) S H used
       (framed_by (template_of key pairs) frame.variables asked.arguments (Extends key)
       asked.shown.crossings) _
-      (λ h. framed_from P (T key) (R key) (Extends key) asked.shown.crossings
-      (λ place here. border.literal key asked.at asked.shown place (known h) (all h).0 here)
-      (λ place here. border.made key asked.at asked.shown place (known h) (all h).0 here)
+      (λ h. framed_from P (T key) (R key) (border.reads key) (Extends key) asked.shown.crossings
+      (λ place here.
+      border.literal key asked.at asked.path asked.shown place (known h) (all h).0 here)
+      (λ place here.
+      border.made key asked.at asked.path asked.shown place (known h) (all h).0 here)
       (λ origin is name place here.
-      border.argument key asked.at origin name place (known h) is here)
+      border.argument key asked.at asked.path origin name place (known h) is here)
       key pairs frame.variables asked.arguments stands (all h).1)
       (λ inner. body_gives key node.place pairs 99 (H × FrameFrom (T key) (R key) inner) inner
       count used stands (λ h. h.1))))
@@ -357,17 +365,19 @@ module _ (P : Origin → Type 0) (T : FileKey → Origin → Type 0) (R : FileKe
       Gives U H used (reached_filled opens asked frame count used) (ExtensionFrom T)
   reached_gives asked H frame count used all =
       let S = ExtensionFrom T in
-      used_static_then U (FileIn R) (λ (opened : OpenedFile). K asked.at opened.key) S H used
+      used_static_then U (FileIn R) (λ (opened : OpenedFile). K asked.at asked.path opened.key) S H
+      used
       (opens asked.at asked.path used) _ (opening.file asked.at asked.path used)
-      (given U (λ (opened : OpenedFile). K asked.at opened.key) (Unit {0}) H used
+      (given U (λ (opened : OpenedFile). K asked.at asked.path opened.key) (Unit {0}) H used
       (opens asked.at asked.path used) (λ h. tt) (opening.used asked.at asked.path used))
-      (λ opened later file. opened_gives opened asked (H × K asked.at opened.key) frame count later
+      (λ opened later file. opened_gives opened asked (H × K asked.at asked.path opened.key) frame
+      count later
       file
       (λ h. h.1) (λ h. all h.0))
 
   from_gives :
       (opened : Opened) (key : Origin) (at place : Place) (H : Type 0) (frame : Frame) (count : ℕ)
-      (used : List FileKey) → (H → P key) → (H → OpenedFrom P P opened) →
+      (used : List FileKey) → (H → P.own key) → (H → OpenedFrom P P opened) →
       Gives U H used (extended_from opened opens key at place frame count used) (ExtensionFrom T)
   from_gives (layer.Object pairs) key at place H frame count used own all =
       first_then U (AskedFrom P) (ExtensionFrom T) H used (pairs_asked key at pairs) _
@@ -382,14 +392,14 @@ module _ (P : Origin → Type 0) (T : FileKey → Origin → Type 0) (R : FileKe
 
   pub value_extends :
       (key : Origin) (place : Place) (node : MarkedNode) (H : Type 0) (frame : Frame) (count : ℕ)
-      (used : List FileKey) → (H → P key) → (H → NodeFrom P P node) →
+      (used : List FileKey) → (H → P.own key) → (H → NodeFrom P P node) →
       Gives U H used (value_extended opens key place node frame count used) (ExtensionFrom T)
   value_extends key place node H frame count used own all =
       from_gives (out-Value node.value) key node.origin.source place H frame count used own
       (λ h. value_parts P P node.value (node_parts P P node (all h)).1)
 
   module _ (root : FileKey) (key : Origin) (H : Type 0) (frame : Frame)
-      (from : H → FrameFrom P (R root) frame) (own : H → P key) where
+      (from : H → FrameFrom P (R root) frame) (own : H → P.own key) where
     mapping_gives :
         (place : Place) (pairs : List NodePair) (count : ℕ) (used : List FileKey) →
         Each (PairIn (R root)) pairs →
@@ -431,30 +441,31 @@ module _ (P : Origin → Type 0) (T : FileKey → Origin → Type 0) (R : FileKe
 
     text_extends :
         (given : Bool) (place : Place) (text : List ℕ) (count : ℕ) (used : List FileKey) →
-        R root place →
+        (R root).at place → (R root).says place (scalar (Str text)) →
         Gives U H used (text_extended given opens key place text frame count used)
         (ExtensionFrom T)
-    text_extends true place text count used here =
+    text_extends true place text count used here says =
         first_then U (SeenOne P (R root)) (ExtensionFrom T) H used
         (scalar_value text frame place count) _
-        (λ h. scalar_value_from P (R root) frame (from h) place here text count)
+        (λ h. scalar_value_from P (R root) frame (from h) place here text says count)
         (λ one. value_extends key place one.node (H × SeenOne P (R root) one) frame one.count used
         (λ h. own h.0) (λ h. seen_tree P (R root) one.node h.1))
-    text_extends false place text count used here = tt
+    text_extends false place text count used here says = tt
 
     extended_by_gives :
         (body : Body) (node : Node) (count : ℕ) (used : List FileKey) → NodeIn (R root) node →
-        BodyIn (R root) body →
+        Each ((R root).says node.place) (said_in body) → BodyIn (R root) body →
         Gives U H used (extended_by body opens key node frame count used) (ExtensionFrom T)
-    extended_by_gives (Map pairs) node count used within inside_it =
+    extended_by_gives (Map pairs) node count used within says inside_it =
         pairs_extend (are_plain pairs) node pairs count used within inside_it
-    extended_by_gives (Scalar text) node count used within inside_it =
+    extended_by_gives (Scalar text) node count used within says inside_it =
         text_extends (may_give (form_of text)) node.place text count used
-        (node_in (R root) node within).0
-    extended_by_gives (Seq items) node count used within inside_it = tt
+        (node_in (R root) node within).0 says.0
+    extended_by_gives (Seq items) node count used within says inside_it = tt
 
     pub extended_gives :
         (node : Node) (count : ℕ) (used : List FileKey) → NodeIn (R root) node →
         Gives U H used (extended opens key node frame count used) (ExtensionFrom T)
     extended_gives node count used within =
-        extended_by_gives (body_of node) node count used within (node_in (R root) node within).1
+        extended_by_gives (body_of node) node count used within (node_says (R root) node within)
+        (node_in (R root) node within).1

@@ -14,26 +14,33 @@ use Rattle.pl_calls.specs.declared.reaching.Home.{Home}
 use Rattle.pl_calls.specs.declared.reaching.Opened.{Opened as OpenedFile}
 use Rattle.pl_yaml.specs.declared.fault.YamlFault.TheVariants as yaml_faults
 use Rattle.pl_origins.specs.Places.{places_of}
+use Rattle.pl_origins.specs.Spots.{spots_of}
 use Rattle.pl_eval_laws.proofs.Lists.{each_implies, each_contained}
 use Rattle.pl_origins.proofs.Called.{FileIn, OpensFrom}
 use Rattle.pl_origins.proofs.Kept.{any_ok, NoFile, NoFiles}
-use Rattle.pl_origins.proofs.Nodes.{NodeIn}
+use Rattle.pl_origins.proofs.Nodes.{Site, Spotted, NodeIn}
 use Rattle.pl_origins.proofs.Steps.{Used, any_then}
 use Rattle.pl_expand.specs.Tree.{Set, root_node}
+use Rattle.pl_provenance.specs.Texts.{IsSpot}
 use Rattle.pl_provenance.specs.Written.{StandsInFile}
 
-abbrev pub IsIn : Set → FileKey → Place → Type 0
-IsIn = StandsInFile
+-- what stands in a file, and what it says there
+abbrev pub IsIn : Set → FileKey → Site
+IsIn files key = record { at = StandsInFile files key; says = IsSpot files }
 
 module _ (files : Set) where
   node_stands :
       (key : FileKey) (file : Parsed) → finite.get files key ≡ Some file →
       IfOk (file_node file) (NodeIn (IsIn files key))
   unfolding NodeIn
-  node_stands key (Good node) is =
-      each_implies (Contains (places_of node)) (IsIn files key)
-      (λ place stands. record { node = node; file = is; stands = stands }) (places_of node)
-      (each_contained (places_of node))
+  node_stands key (Good node) is = (
+    each_implies (Contains (places_of node)) (StandsInFile files key)
+        (λ place stands. record { node = node; file = is; stands = stands }) (places_of node)
+        (each_contained (places_of node)),
+    each_implies (Contains (spots_of node)) (Spotted (IsIn files key))
+        (λ one says. record { key = key; node = node; file = is; says = says }) (spots_of node)
+        (each_contained (spots_of node)),
+  )
   node_stands key (Bad (yaml_faults.Refused code place)) is = tt
   node_stands key (Bad yaml_faults.Memory) is = tt
 
@@ -69,7 +76,11 @@ module _ (files : Set) where
     file = files_stand home;
     used =
         λ at path used. any_ok (λ both. (NoFiles both.1 → NoFiles used)
-        × (NoFiles both.1 → Unit {0} → NoFile at both.0.key)) (λ both. (λ ends. tt, λ ends h. tt))
+        × (NoFiles both.1 → Unit {0} → NoFile at path both.0.key)) (λ both. (
+          λ ends. tt,
+          λ ends h.
+              tt,
+        ))
         (opens_of files home at path used);
   }
 

@@ -16,11 +16,12 @@ use Rattle.pl_directives.specs.declared.progress.Content.{Content}
 use Rattle.pl_directives.specs.declared.progress.Content.TheVariants.{Unknown, Items, Pairs}
 use Rattle.pl_calls.specs.Judging.{unless_at}
 use Rattle.pl_eval_laws.proofs.Lists.{each_append, each_implies}
-use Rattle.pl_eval_laws.proofs.Trees.{PairFrom}
+use Rattle.pl_eval_laws.proofs.Trees.{Asked as Wanted, PairFrom}
 use Rattle.pl_origins.proofs.Steps.{ok_then, any_then}
-use Rattle.pl_expand.specs.declared.extending.Extension.{Extension}
-use Rattle.pl_expand.specs.Extending.{is_form, form_place, is_replaced, with_items, root_side}
-use Rattle.pl_expand.specs.Extending.{template_side, joined_pairs, shared_variables, merged_with}
+use Rattle.pl_extends.specs.declared.extending.Extension.{Extension}
+use Rattle.pl_extends.specs.Forms.{is_form, form_place}
+use Rattle.pl_expand.specs.Merging.{is_replaced, with_items, root_side}
+use Rattle.pl_expand.specs.Merging.{template_side, joined_pairs, shared_variables, merged_with}
 use Rattle.pl_expand.specs.Tree.{stands, object_pairs, root_object}
 use Rattle.pl_provenance.specs.Roots.{pairs_of, jobs_of}
 
@@ -88,7 +89,7 @@ module _ (joined : Option (List MarkedNode)) (more : List MarkedPair) where
 
 -- ---- the pairs of jobs
 
-module _ (P : Origin → Type 0) where
+module _ (P : Wanted) where
   abbrev WhereForm : MarkedPair → Type 0
   WhereForm pair = is_form pair.key ≡ true → PairFrom P P pair
 

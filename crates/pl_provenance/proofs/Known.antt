@@ -19,6 +19,7 @@ use Rattle.pl_base.specs.declared.origin.Crossing.TheVariants.{Extends, Include,
 use Rattle.pl_base.specs.declared.origin.Origin.{Origin}
 use Rattle.pl_base.specs.declared.place.FileKey.{FileKey}
 use Rattle.pl_base.specs.declared.place.Place.{Place}
+use Rattle.pl_base.specs.declared.value.Value.{Str}
 use Rattle.pl_line.specs.declared.code.YamlCode.{YamlCode}
 use Rattle.pl_literal.specs.Items.{is}
 use Rattle.pl_paths.specs.Paths.{cut_path}
@@ -35,23 +36,26 @@ use Rattle.pl_calls.specs.Reaching.{called_then, found_at, opened_at}
 use Rattle.pl_calls.specs.declared.files.Parsed.{Parsed}
 use Rattle.pl_calls.specs.declared.reaching.Home.{Home}
 use Rattle.pl_calls.specs.declared.reaching.Opened.{Opened as OpenedFile}
-use Rattle.pl_expanding.specs.Expanding.{expanded}
-use Rattle.pl_expanding.specs.Following.{scope_of}
-use Rattle.pl_expanding.specs.Levels.{followed}
+use Rattle.pl_recursion.specs.Expanding.{expanded}
+use Rattle.pl_recursion.specs.Following.{scope_of}
+use Rattle.pl_recursion.specs.Levels.{followed}
 use Rattle.pl_eval_laws.proofs.Lists.{Has, each_append, each_front, each_back, each_implies}
-use Rattle.pl_eval_laws.proofs.Lists.{each_contained}
+use Rattle.pl_eval_laws.proofs.Lists.{each_contained, each_of}
+use Rattle.pl_eval_laws.specs.Marks.{IsOfFiles, marks_of, scalar}
 use Rattle.pl_eval_laws.specs.Trees.{origins_of}
-use Rattle.pl_eval_laws.proofs.Trees.{NodeFrom, Any, node_implies}
+use Rattle.pl_eval_laws.proofs.Trees.{Asked as Wanted, NodeFrom, Any, node_implies}
 use Rattle.pl_origins.specs.Places.{places_of}
+use Rattle.pl_origins.specs.Spots.{spots_of}
 use Rattle.pl_origins.proofs.Called.{Borders, OpensFrom, followed_gives}
 use Rattle.pl_origins.proofs.Contents.{ProgressFrom}
 use Rattle.pl_origins.proofs.Expanded.{expanded_gives}
-use Rattle.pl_origins.proofs.Frames.{Seen, ParameterFrom}
-use Rattle.pl_origins.proofs.Nodes.{NodeIn, PairIn, BodyIn, node_in, under_in}
+use Rattle.pl_origins.proofs.Frames.{Seen, Keeps, Reads, ParameterFrom}
+use Rattle.pl_origins.proofs.Nodes.{Site, site, Spotted, NodeIn, PairIn, BodyIn, node_in}
+use Rattle.pl_origins.proofs.Nodes.{under_in}
 use Rattle.pl_origins.proofs.Scalars.{OneFrom}
 use Rattle.pl_origins.proofs.Steps.{Used, Gives, ok_then, static_then, used_then}
 use Rattle.pl_origins.proofs.Steps.{done_gives}
-use Rattle.pl_expand.specs.declared.rooting.RootFilling.{RootFilling}
+use Rattle.pl_extends.specs.declared.rooting.RootFilling.{RootFilling}
 use Rattle.pl_expand.specs.declared.root.RootNode.{RootNode}
 use Rattle.pl_expand.specs.declared.root.RootTree.{RootTree}
 use Rattle.pl_root.specs.Resources.{earliest}
@@ -63,7 +67,9 @@ use Rattle.pl_expand.specs.Tree.{root_from, root_object, root_mapping, pairs_exp
 use Rattle.pl_expand.specs.Tree.{bare_home, used_files, mapping_expanded, bare_expanded}
 use Rattle.pl_expand.specs.Tree.{other_expanded, body_expanded_by, root_node, tree_of}
 use Rattle.pl_provenance.specs.Known.{IsUsed, IsGiven, IsPlace, IsUsedFile, IsReached, IsBorder}
-use Rattle.pl_provenance.specs.Known.{Leads, IsOfFiles, home_in, IsKnown, OriginsAreKnown}
+use Rattle.pl_provenance.specs.Known.{Leads, home_in, IsKnown, OriginsAreKnown}
+use Rattle.pl_provenance.specs.Texts.{Says, IsSaid, TextsAreWritten}
+use Rattle.pl_provenance.proofs.Saying.{saying_keeps, saying_reads}
 use Rattle.pl_provenance.specs.Written.{StandsInFile}
 use Rattle.pl_provenance.proofs.Extended.{ExtendsBorder, ExtensionFrom}
 use Rattle.pl_provenance.proofs.Merged.{object_from_root}
@@ -147,30 +153,32 @@ module _ (final : List FileKey) where
 
   module _ (files : Set) (home : Home) where
     -- of which is known where the item of a call stands
-    abbrev IsCalledFrom : Place → FileKey → Type 0
-    IsCalledFrom at key = IsUsedFile files final key × IsReached home at key
+    abbrev IsCalledFrom : Place → List ℕ → FileKey → Type 0
+    IsCalledFrom at path key =
+        IsUsedFile files final key × (target at (cut_path path) home ≡ Ok (Some key))
 
-    abbrev IsFinal : Place → OpenedFile → Type 0
-    IsFinal at opened = IsCalledFrom at opened.key
+    abbrev IsFinal : Place → List ℕ → OpenedFile → Type 0
+    IsFinal at path opened = IsCalledFrom at path opened.key
 
     found_gives :
-        (at : Place) (key : FileKey) (found : Option Parsed) (used : List FileKey) →
-        finite.get files key ≡ found → IsReached home at key →
-        Gives AreUsed (Unit {0}) used (found_at at key found used) (IsFinal at)
-    found_gives at key None used there reached = tt
-    found_gives at key (Some file) used there reached =
-        used_then AreUsed (λ none. Contains final key) (IsFinal at) (Unit {0}) used
+        (at : Place) (path : List ℕ) (key : FileKey) (found : Option Parsed)
+        (used : List FileKey) → finite.get files key ≡ found →
+        target at (cut_path path) home ≡ Ok (Some key) →
+        Gives AreUsed (Unit {0}) used (found_at at key found used) (IsFinal at path)
+    found_gives at path key None used there reached = tt
+    found_gives at path key (Some file) used there reached =
+        used_then AreUsed (λ none. Contains final key) (IsFinal at path) (Unit {0}) used
         (called_then at key used) _ (then_gives at key used)
-        (λ none later. done_gives AreUsed (IsFinal at) (Unit {0} × Contains final key) later
+        (λ none later. done_gives AreUsed (IsFinal at path) (Unit {0} × Contains final key) later
         (record { key = key; file = file }) (λ h. ((h.1, (file, there)), reached)))
 
     opened_gives :
         (at : Place) (path : List ℕ) (key : Option FileKey) (used : List FileKey) →
         target at (cut_path path) home ≡ Ok key →
-        Gives AreUsed (Unit {0}) used (opened_at files at key used) (IsFinal at)
+        Gives AreUsed (Unit {0}) used (opened_at files at key used) (IsFinal at path)
     opened_gives at path None used leads = tt
     opened_gives at path (Some key) used leads =
-        found_gives at key (finite.get files key) used refl (path, leads)
+        found_gives at path key (finite.get files key) used refl leads
 
     itself :
         {X : Type 0} (step : Result X ExpandFault) → IfOk step (λ x. step ≡ Ok x)
@@ -182,51 +190,74 @@ module _ (final : List FileKey) where
       file = files_stand files home;
       used =
           λ at path used. static_then AreUsed (λ key. target at (cut_path path) home ≡ Ok key)
-          (IsFinal at) (Unit {0}) used (target at (cut_path path) home) _
+          (IsFinal at path) (Unit {0}) used (target at (cut_path path) home) _
           (itself (target at (cut_path path) home))
           (λ key leads. opened_gives at path key used leads);
     }
 
 -- ---- one border more leads on
 
-module _ (files : Set) where
+module _ (files : Set) (home : Home) where
+  -- the path of the call stands where the item does
   called_on :
-      (file : FileKey) (crossings : List Crossing) (key : FileKey) (at place : Place) →
-      Leads files file crossings at → StandsInFile files key place →
-      Leads files file (crossings ++ Include key at ∷ []) place
-  called_on file [] key at place leads stands = (leads, stands)
-  called_on file (Extends other ∷ crossings) key at place leads stands =
-      called_on other crossings key at place leads stands
-  called_on file (Include other there ∷ crossings) key at place leads stands =
-      (leads.0, called_on other crossings key at place leads.1 stands)
-  called_on file (Argument name there ∷ crossings) key at place leads stands = leads
-  called_on file (Made ∷ crossings) key at place leads stands = leads
+      (file : FileKey) (crossings : List Crossing) (key : FileKey) (at from place : Place)
+      (path : List ℕ) → Leads files home file crossings at →
+      Leads files home file crossings from → Says files from (scalar (Str path)) →
+      target at (cut_path path) home ≡ Ok (Some key) → StandsInFile files key place →
+      Leads files home file (crossings ++ Include key at ∷ []) place
+  called_on file [] key at from place path leads stands says reached here = (
+    leads,
+    (
+      record { place = from; path = path; stands = stands; says = says; leads = reached },
+      here,
+    ),
+  )
+  called_on file (Extends other ∷ crossings) key at from place path leads stands says reached
+      here =
+      called_on other crossings key at from place path leads stands says reached here
+  called_on file (Include other there ∷ crossings) key at from place path leads stands says
+      reached here = (
+        leads.0,
+        (
+          leads.1.0,
+          called_on other crossings key at from place path leads.1.1 stands.1.1 says reached here,
+        ),
+      )
+  called_on file (Argument name there ∷ crossings) key at from place path leads stands says
+      reached here = leads
+  called_on file (Made ∷ crossings) key at from place path leads stands says reached here = leads
 
   extended_on :
       (file : FileKey) (crossings : List Crossing) (key : FileKey) (there place : Place) →
-      Leads files file crossings there → StandsInFile files key place →
-      Leads files file (crossings ++ Extends key ∷ []) place
+      Leads files home file crossings there → StandsInFile files key place →
+      Leads files home file (crossings ++ Extends key ∷ []) place
   extended_on file [] key there place leads stands = stands
   extended_on file (Extends other ∷ crossings) key there place leads stands =
       extended_on other crossings key there place leads stands
   extended_on file (Include other at ∷ crossings) key there place leads stands =
-      (leads.0, extended_on other crossings key there place leads.1 stands)
+      (leads.0, (leads.1.0, extended_on other crossings key there place leads.1.1 stands))
   extended_on file (Argument name at ∷ crossings) key there place leads stands = leads
   extended_on file (Made ∷ crossings) key there place leads stands = leads
 
 -- ---- what is known is kept across borders
 
 module _ (files : Set) (home : Home) (final : List FileKey) (arguments : List RunArgument) where
-  abbrev Known : Origin → Type 0
-  Known = IsKnown files home final arguments
+  abbrev IsSo : Origin → Type 0
+  IsSo = IsKnown files home final arguments
+
+  abbrev Known : Wanted
+  Known = record { own = IsSo; says = Says files }
+
+  known_reads : (key : FileKey) → Reads (IsIn files key) Known
+  known_reads = saying_reads files Known (λ place said says. says) (saying_keeps files)
 
   abbrev Border : Crossing → Type 0
   Border = IsBorder files home final arguments
 
   abbrev Led : List Crossing → Place → Type 0
-  Led crossings place = Each IsOfFiles crossings → Leads files home.root crossings place
+  Led crossings place = Each IsOfFiles crossings → Leads files home home.root crossings place
 
-  in_file : (key : FileKey) (place : Place) → Contains final key → IsIn files key place →
+  in_file : (key : FileKey) (place : Place) → Contains final key → StandsInFile files key place →
       IsUsed files final place
   in_file key place known here = record { key = key; is_used = known; stands = here }
 
@@ -248,9 +279,9 @@ module _ (files : Set) (home : Home) (final : List FileKey) (arguments : List Ru
   -- what an argument gave keeps its borders wherever it stands in the frame's file
   given_seen :
       (key : FileKey) (source : Place) (crossings : List Crossing) (name : List ℕ)
-      (place : Place) → Contains final key → IsIn files key place →
+      (place : Place) → Contains final key → StandsInFile files key place →
       IsPlace files final arguments source → Each Border crossings →
-      Seen Known (IsIn files key)
+      (Seen Known (IsIn files key)).own
       (record { source = source; crossings = crossings ++ Argument name place ∷ [] })
   given_seen key source crossings name place known here own all =
       let borders = behind crossings (Argument name place) all (in_file key place known here) in (
@@ -262,55 +293,62 @@ module _ (files : Set) (home : Home) (final : List FileKey) (arguments : List Ru
         ),
       )
 
-  abbrev Called : Place → FileKey → Type 0
+  abbrev Called : Place → List ℕ → FileKey → Type 0
   Called = IsCalledFrom final files home
 
   known_inside : Borders Known (IsIn files) Called
   known_inside = record {
     literal =
-        λ key call place known own here. (
+        λ key call place known own path here. (
           inl (in_file key place known.0.0 here),
-          behind call.crossings (Include key call.source) own.1 (known.0, own.0, known.1),
-          λ all. called_on files home.root call.crossings key call.source place
-              (own.2 (before call.crossings (Include key call.source) all)) here,
+          behind call.crossings (Include key call.at) own.1
+              (known.0, own.0, (call.path, known.1)),
+          λ all. let files_before = before call.crossings (Include key call.at) all in
+              called_on files home home.root call.crossings key call.at path.0 place call.path
+              (own.2 files_before) (path.1.0.2 files_before) (path.1.1 files_before) known.1 here,
         );
     made =
-        λ key call place known own here. (
+        λ key call place known own path here. (
           inl (in_file key place known.0.0 here),
-          behind (call.crossings ++ Include key call.source ∷ []) Made
-              (behind call.crossings (Include key call.source) own.1 (known.0, own.0, known.1)) tt,
-          given_led (call.crossings ++ Include key call.source ∷ []) Made place (λ none. none),
+          behind (call.crossings ++ Include key call.at ∷ []) Made
+              (behind call.crossings (Include key call.at) own.1
+              (known.0, own.0, (call.path, known.1))) tt,
+          given_led (call.crossings ++ Include key call.at ∷ []) Made place (λ none. none),
         );
     argument =
         λ key call given name place known own from_given here.
-        given_seen key given.source (given.crossings ++ Include key call.source ∷ []) name place
+        given_seen key given.source (given.crossings ++ Include key call.at ∷ []) name place
         known.0.0 here from_given.0
-        (behind given.crossings (Include key call.source) from_given.1 (known.0, own.0, known.1));
+        (behind given.crossings (Include key call.at) from_given.1
+        (known.0, own.0, (call.path, known.1)));
+    reads = known_reads;
+    keeps = saying_keeps files;
   }
 
-  abbrev AnyFile : FileKey → Origin → Type 0
+  abbrev AnyFile : FileKey → Wanted
   AnyFile file = Known
 
   known_crossing : ExtendsBorder Known AnyFile (IsIn files) Called
   known_crossing = record {
     literal =
-        λ key from path place known own here. (
+        λ key from words path place known own here. (
           inl (in_file key place known.0.0 here),
           behind path.crossings (Extends key) own.1 known.0,
-          λ all. extended_on files home.root path.crossings key path.source place
+          λ all. extended_on files home home.root path.crossings key path.source place
               (own.2 (before path.crossings (Extends key) all)) here,
         );
     made =
-        λ key from path place known own here. (
+        λ key from words path place known own here. (
           inl (in_file key place known.0.0 here),
           behind (path.crossings ++ Extends key ∷ []) Made
               (behind path.crossings (Extends key) own.1 known.0) tt,
           given_led (path.crossings ++ Extends key ∷ []) Made place (λ none. none),
         );
     argument =
-        λ key from one name place known own here.
+        λ key from words one name place known own here.
         given_seen key one.source (one.crossings ++ Extends key ∷ []) name place known.0.0 here
         own.0 (behind one.crossings (Extends key) own.1 known.0);
+    reads = known_reads;
   }
 
   abbrev OfArguments : RunArgument → Place → Type 0
@@ -328,6 +366,7 @@ module _ (files : Set) (home : Home) (final : List FileKey) (arguments : List Ru
     argument =
         λ argument source stands parameter place here.
         given_seen home.root source [] parameter place known here (inr stands) tt;
+    reads = known_reads home.root;
   }
 
 -- ---- the places of run arguments
@@ -337,15 +376,17 @@ module _ (arguments : List RunArgument) where
       (argument : RunArgument) → Contains arguments argument →
       (read : Result Node (YamlCode × Place)) →
       yaml.spells (argument_file argument.name) argument.text ≡ read →
-      IfOk read (NodeIn (λ place. IsGiven arguments place))
+      IfOk read (NodeIn (site (λ place. IsGiven arguments place)))
   unfolding NodeIn
-  spelled_in argument among (Ok node) is =
-      each_implies (Contains (places_of node)) (λ place. IsGiven arguments place)
-      (λ place stands. record {
-        argument = argument;
-        is_given = among;
-        stands = inr (record { node = node; spelled = is; stands = stands });
-      }) (places_of node) (each_contained (places_of node))
+  spelled_in argument among (Ok node) is = (
+    each_implies (Contains (places_of node)) (λ place. IsGiven arguments place)
+        (λ place stands. record {
+          argument = argument;
+          is_given = among;
+          stands = inr (record { node = node; spelled = is; stands = stands });
+        }) (places_of node) (each_contained (places_of node)),
+    each_of (Spotted (site (λ place. IsGiven arguments place))) (λ one. tt) (spots_of node),
+  )
   spelled_in argument among (Err told) is = tt
 
   arguments_known : Each (ArgumentIn (λ argument place. IsGiven arguments place)) arguments
@@ -398,10 +439,10 @@ if_all Q (Ok x) all = all
 if_all Q (Err fault) all = tt
 
 module _ (files : Set) (root : FileKey) (arguments : List RunArgument) where
-  abbrev In : Home → List FileKey → Origin → Type 0
-  In home ends = IsKnown files home (used_files root ends) arguments
+  abbrev In : Home → List FileKey → Wanted
+  In home ends = Known files home (used_files root ends) arguments
 
-  abbrev R : Place → Type 0
+  abbrev R : Site
   R = IsIn files root
 
   abbrev U : List FileKey → List FileKey → Type 0
@@ -409,7 +450,7 @@ module _ (files : Set) (root : FileKey) (arguments : List RunArgument) where
 
   abbrev TreeKnown : RootTree → Type 0
   TreeKnown one =
-      NodeFrom (IsKnown files (home_in root one.expanded) one.expanded.used arguments) Any
+      NodeFrom (Known files (home_in root one.expanded) one.expanded.used arguments) Any
       one.expanded.tree
 
   ends_then :
@@ -427,7 +468,7 @@ module _ (files : Set) (root : FileKey) (arguments : List RunArgument) where
 
   finishes :
       (home : Home) (ends : List FileKey) (origin : Origin) (filling : RootFilling) →
-      In home ends origin →
+      (In home ends).own origin →
       ProgressFrom (In home ends) R filling.progress
       × Has (ExtensionFrom (λ file. In home ends)) filling.extension →
       IfOk (root_from origin filling) (λ one. NodeFrom (In home ends) Any one.node)
@@ -435,12 +476,13 @@ module _ (files : Set) (root : FileKey) (arguments : List RunArgument) where
       ok_then (NodeFrom (In home ends) Any)
       (λ (one : RootNode). NodeFrom (In home ends) Any one.node)
       (root_object filling.extension origin filling.progress.content) _
-      (object_from_root (In home ends) R filling.extension origin filling.progress.content own all.1
+      (object_from_root (In home ends) (saying_keeps files) R
+      filling.extension origin filling.progress.content own all.1
       all.0)
       (λ node is. is)
 
   mapping_known :
-      (place : Place) (pairs : List NodePair) → R place → Each (PairIn R) pairs →
+      (place : Place) (pairs : List NodePair) → R.at place → Each (PairIn R) pairs →
       IfOk (mapping_expanded files root place pairs arguments) TreeKnown
   mapping_known place pairs here within =
       ok_then (Each (PairIn R)) TreeKnown (unless (earliest (root_complaints pairs)) pairs) _
@@ -473,7 +515,7 @@ module _ (files : Set) (root : FileKey) (arguments : List RunArgument) where
       (λ one ends is. is)))
 
   -- a root that is no mapping has no resources
-  abbrev Bare : List FileKey → Origin → Type 0
+  abbrev Bare : List FileKey → Wanted
   Bare ends = In (bare_home root) ends
 
   begins_bare : (ends : List FileKey) →
@@ -499,7 +541,7 @@ module _ (files : Set) (root : FileKey) (arguments : List RunArgument) where
       (OfArguments files (bare_home root) (used_files root ends) arguments) (begins_bare ends) root
       parameters _ (are ends)))
       (λ one ends is. node_implies (Bare ends) (Bare ends) (Bare ends) Any (λ origin own. own)
-      (λ origin own. tt) one.node is.0)
+      (λ origin own. tt) (λ origin said told. told) one.node is.0)
 
   other_known : (node : Node) → NodeIn R node →
       IfOk (other_expanded files root node arguments) TreeKnown
@@ -534,3 +576,11 @@ known files root arguments =
     Each (IsKnown files (home_in root one) one.used arguments) (origins_of one.tree))
     (tree_of files root arguments) _ (tree_known files root arguments)
     (λ one is. is.0)
+
+pub texts : TextsAreWritten
+unfolding NodeFrom
+texts files root arguments =
+    ok_then (TreeKnown files root arguments)
+    (λ (one : Expanded). Each (IsSaid files) (marks_of one.tree))
+    (tree_of files root arguments) _ (tree_known files root arguments)
+    (λ one is. is.1.1)

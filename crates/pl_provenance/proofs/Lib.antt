@@ -7,6 +7,7 @@ pub mod Known
 pub mod Merged
 pub mod Reader
 pub mod Rooted
+pub mod Saying
 pub mod Through
 pub mod Whole
 pub mod Written

@@ -17,21 +17,26 @@ use Rattle.pl_calls.specs.Judging.{unless_at}
 use Rattle.pl_eval_laws.proofs.Leads.{Opened, head_in}
 use Rattle.pl_eval_laws.proofs.Lists.{Has, each_append, each_filter_map}
 use Rattle.pl_eval_laws.proofs.Lists.{each_implies}
+use Rattle.pl_eval_laws.proofs.Trees.{Asked as Wanted, pair_told}
 use Rattle.pl_eval_laws.proofs.Trees.{NodeFrom, PairFrom, OpenedFrom, Any, pair_from, array_node}
 use Rattle.pl_eval_laws.proofs.Trees.{object_node, node_parts, pair_parts, value_parts, led_from}
 use Rattle.pl_eval_laws.proofs.Trees.{first_from, pair_implies}
 use Rattle.pl_origins.proofs.Called.{variables_from}
 use Rattle.pl_origins.proofs.Contents.{ContentFrom}
+use Rattle.pl_origins.proofs.Frames.{Keeps}
+use Rattle.pl_origins.proofs.Nodes.{Site}
 use Rattle.pl_origins.proofs.Steps.{ok_then, any_then}
-use Rattle.pl_expand.specs.declared.extending.Extension.{Extension}
-use Rattle.pl_expand.specs.Extending.{item_under, variables_from as variables_there, variables_in}
-use Rattle.pl_expand.specs.Extending.{joined_variables, both_variables, with_items, is_replaced}
-use Rattle.pl_expand.specs.Extending.{root_side, template_side, form_place, joined_pairs}
-use Rattle.pl_expand.specs.Extending.{shared_variables, merged}
+use Rattle.pl_extends.specs.declared.extending.Extension.{Extension}
+use Rattle.pl_extends.specs.Extending.{item_under}
+use Rattle.pl_expand.specs.Merging.{variables_from as variables_there, variables_in}
+use Rattle.pl_expand.specs.Merging.{joined_variables, both_variables, with_items, is_replaced}
+use Rattle.pl_extends.specs.Forms.{form_place}
+use Rattle.pl_expand.specs.Merging.{root_side, template_side, joined_pairs}
+use Rattle.pl_expand.specs.Merging.{shared_variables, merged}
 use Rattle.pl_expand.specs.Tree.{stands, object_pairs, root_object}
 use Rattle.pl_provenance.proofs.Extended.{under_from}
 
-module _ (P : Origin → Type 0) where
+module _ (P : Wanted) (keeps : Keeps P.says) where
   each_kept :
       (test : MarkedPair → Bool) (pairs : List MarkedPair) → Each (PairFrom P P) pairs →
       Each (PairFrom P P) (filter test pairs)
@@ -49,7 +54,7 @@ module _ (P : Origin → Type 0) where
       (opened : Opened) (place : Place) → OpenedFrom P P opened →
       IfOk (variables_there opened place) (Each (NodeFrom P P))
   there_from (layer.Array items) place all = all
-  there_from (layer.Object pairs) place all = variables_from P pairs all
+  there_from (layer.Object pairs) place all = variables_from P keeps pairs all
   there_from (layer.Str []) place all = tt
   there_from (layer.Str (byte ∷ bytes)) place all = tt
   there_from layer.Null place all = tt
@@ -85,7 +90,7 @@ module _ (P : Origin → Type 0) where
   items_from None pair shared own = own
   items_from (Some items) pair shared own =
       let parts = pair_parts P P pair own in
-      pair_from P P pair.key pair.key_origin _ parts.0
+      pair_from P P pair.key pair.key_origin _ parts.0 (pair_told P P pair own)
       (array_node P P pair.item.origin (node_parts P P pair.item parts.1).0 items shared)
 
   side_from :
@@ -132,17 +137,17 @@ module _ (P : Origin → Type 0) where
   weaker : (pairs : List MarkedPair) → Each (PairFrom P P) pairs → Each (PairFrom P Any) pairs
   weaker =
       each_implies (PairFrom P P) (PairFrom P Any)
-      (pair_implies P P P Any (λ origin is. is) (λ origin is. tt))
+      (pair_implies P P P Any (λ origin is. is) (λ origin is. tt) (λ origin said told. told))
 
   pub object_from_root :
-      (R : Place → Type 0) (extension : Option Extension) (origin : Origin) (content : Content) →
-      P origin → Has (λ (one : Extension). Each (PairFrom P P) one.pairs) extension →
+      (R : Site) (extension : Option Extension) (origin : Origin) (content : Content) →
+      P.own origin → Has (λ (one : Extension). Each (PairFrom P P) one.pairs) extension →
       ContentFrom P R content → IfOk (root_object extension origin content) (NodeFrom P Any)
   object_from_root R extension origin (Pairs pairs) own more all =
       ok_then (Each (PairFrom P P)) (NodeFrom P Any) (object_pairs extension pairs) _
       (any_then (Each (PairFrom P P)) (unless_at {X = Unit {0}} _ (first_double pairs) tt) _
       (λ none. merged_from extension (filter stands pairs) more (each_kept stands pairs all.0)))
       (λ pairs are. object_node P Any origin own pairs (weaker pairs are)
-      (led_from P Any origin (λ path is. tt) (head_in pairs) (first_from P P pairs are)))
+      (led_from P.own Any.own origin (λ path is. tt) (head_in pairs) (first_from P P pairs are)))
   object_from_root R extension origin Unknown own more all = tt
   object_from_root R extension origin (Items items) own more all = tt

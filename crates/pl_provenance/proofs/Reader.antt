@@ -30,7 +30,9 @@ use Rattle.pl_yaml.specs.Nodes.{Values, Holder}
 use Rattle.pl_yaml.specs.Plain.{behind_line, word}
 use Rattle.pl_yaml.specs.Reading.{Read, many_step, many}
 use Rattle.pl_yaml.specs.Spells.{whole_text, nothing_left, document, placed, spells}
-use Rattle.pl_origins.proofs.Nodes.{NodeIn, PairIn, scalar_made, seq_made, map_made, pair_made}
+use Rattle.pl_origins.specs.Places.{places_of}
+use Rattle.pl_origins.proofs.Nodes.{site, NodeIn, PairIn, scalar_made, seq_made, map_made}
+use Rattle.pl_origins.proofs.Nodes.{pair_made}
 use Rattle.pl_eval_laws.proofs.Lists.{each_append}
 use Rattle.pl_provenance.specs.Reader.{NamesFile, ReadersNameTheirFile}
 
@@ -67,10 +69,10 @@ module _ (file : FileKey) where
   Here = NamesFile file
 
   abbrev NodeHere : Node → Type 0
-  NodeHere = NodeIn Here
+  NodeHere = NodeIn (site Here)
 
   abbrev PairHere : NodePair → Type 0
-  PairHere = PairIn Here
+  PairHere = PairIn (site Here)
 
   -- a node, and what is left behind it
   abbrev ReadHere : {X : Type 0} → Node × X → Type 0
@@ -426,6 +428,12 @@ module _ (file : FileKey) where
       (either NodeHere (not (is_utf8 text)) (Err _) _ tt
       (placed_here (document file (rows_of (chars text))) (document_here (rows_of (chars text)))))
 
-pub named : ReadersNameTheirFile
+places_here :
+    {E : Type 0} (file : FileKey) (step : Result Node E) → IfOk step (NodeHere file) →
+    IfOk step (λ node. Each (NamesFile file) (places_of node))
 unfolding NodeIn
-named file text = spelled_here file text
+places_here file (Ok node) here = here.0
+places_here file (Err told) here = tt
+
+pub named : ReadersNameTheirFile
+named file text = places_here file (spells file text) (spelled_here file text)

@@ -14,7 +14,7 @@ use Rattle.pl_base.specs.declared.node.Node.{Node}
 use Rattle.pl_base.specs.declared.node.NodeBody.{NodeBody, out-NodeBody, roll-NodeBody, the_lemmas}
 use Rattle.pl_base.specs.declared.node.NodeBody.TheOpen.{Scalar, Seq, Map}
 use Rattle.pl_base.specs.declared.node.NodePair.{NodePair}
-use Rattle.pl_base.specs.declared.value.Value.{out-Value}
+use Rattle.pl_base.specs.declared.value.Value.{Str, out-Value}
 use Rattle.pl_base.specs.declared.value.Value.TheOpen as layer
 use Rattle.pl_base.specs.declared.value.MarkedNode.{MarkedNode}
 use Rattle.pl_base.specs.declared.value.MarkedPair.{MarkedPair}
@@ -48,41 +48,44 @@ use Rattle.pl_directives.specs.Scalars.{scalar_value}
 use Rattle.pl_calls.specs.Parameters.{declared_by}
 use Rattle.pl_calls.specs.Parts.{Body, under}
 use Rattle.pl_calls.specs.Reaching.{Opens}
-use Rattle.pl_expanding.specs.Expanding.{expanded, part_of, done}
-use Rattle.pl_expanding.specs.Following.{scope_of}
-use Rattle.pl_expanding.specs.Levels.{followed}
-use Rattle.pl_expanding.specs.Settling.{node_settling}
+use Rattle.pl_recursion.specs.Expanding.{expanded, part_of, done}
+use Rattle.pl_recursion.specs.Following.{scope_of}
+use Rattle.pl_recursion.specs.Levels.{followed}
+use Rattle.pl_recursion.specs.Settling.{node_settling}
 use Rattle.pl_eval_laws.proofs.Leads.{Opened}
+use Rattle.pl_eval_laws.specs.Marks.{key as key_said, scalar}
 use Rattle.pl_eval_laws.proofs.Lists.{Has, each_append}
+use Rattle.pl_eval_laws.proofs.Trees.{Asked as Wanted, Told, pair_told}
 use Rattle.pl_eval_laws.proofs.Trees.{NodeFrom, PairFrom, OpenedFrom, pair_from, text_node}
 use Rattle.pl_eval_laws.proofs.Trees.{node_implies, node_parts, pair_parts, value_parts}
-use Rattle.pl_origins.proofs.Bound.{ParamIn, BoundFrom, Takeable, declared_in, bound_to_from}
+use Rattle.pl_origins.proofs.Bound.{ParamIn, AreBound, Takeable, declared_in, bound_to_from}
 use Rattle.pl_origins.proofs.Bound.{parameters_from, literal_from, Stands}
 use Rattle.pl_origins.proofs.Called.{Borders, OpensFrom}
 use Rattle.pl_origins.proofs.Contents.{ProgressFrom, put_pair_from}
 use Rattle.pl_origins.proofs.Expanded.{part_from, expanded_gives, done_gives_all, settled_gives}
 use Rattle.pl_origins.proofs.Following.{FollowFrom}
-use Rattle.pl_origins.proofs.Frames.{Seen, SeenFrom, FrameFrom, ParameterFrom, turn_from}
+use Rattle.pl_origins.proofs.Frames.{Seen, SeenFrom, Reads, FrameFrom, ParameterFrom, turn_from}
 use Rattle.pl_origins.proofs.Induction.{BodyParts, written_induction}
-use Rattle.pl_origins.proofs.Nodes.{NodeIn, PairIn, BodyIn, node_in, pair_in, under_in}
+use Rattle.pl_origins.proofs.Nodes.{Site, site, NodeIn, PairIn, BodyIn, node_in, node_says}
+use Rattle.pl_origins.proofs.Nodes.{pair_in, pair_says, said_in, under_in}
 use Rattle.pl_origins.proofs.Scalars.{HeldFrom, OneFrom, SeenOne, ActionFrom, key_asks_from}
 use Rattle.pl_origins.proofs.Scalars.{scalar_value_from, seen_tree}
 use Rattle.pl_origins.proofs.Steps.{Gives, ok_then, any_then, plain_then, first_then}
 use Rattle.pl_origins.proofs.Steps.{used_then, alone_gives, done_gives, given}
-use Rattle.pl_expand.specs.declared.extending.Extension.{Extension}
+use Rattle.pl_extends.specs.declared.extending.Extension.{Extension}
 use Rattle.pl_expand.specs.declared.filling.Early.{Early}
-use Rattle.pl_expand.specs.declared.rooting.RootFilling.{RootFilling}
+use Rattle.pl_extends.specs.declared.rooting.RootFilling.{RootFilling}
 use Rattle.pl_expand.specs.declared.root.RootNode.{RootNode}
 use Rattle.pl_root.specs.declared.root_key.RootKey.{RootKey}
 use Rattle.pl_root.specs.declared.root_key.RootKey.TheVariants as key
-use Rattle.pl_expand.specs.Extending.{extended, value_extended}
-use Rattle.pl_expand.specs.Rooting.{Rooting, filled_with, chained, counting, misplaced}
-use Rattle.pl_expand.specs.Rooting.{unless_misplaced, extended_behind, key_put, named_put}
-use Rattle.pl_expand.specs.Rooting.{with_item, item_put, given_by, given_put, all_given_put}
-use Rattle.pl_expand.specs.Rooting.{value_put, text_put, list_put, pairs_put, mapping_put}
-use Rattle.pl_expand.specs.Rooting.{node_put, turns_put, asked_put, pair_put, node_seen}
-use Rattle.pl_expand.specs.Rooting.{body_seen, pair_seen}
-use Rattle.pl_expand.proofs.Itself.{node_itself}
+use Rattle.pl_extends.specs.Extending.{extended, value_extended}
+use Rattle.pl_extends.specs.Rooting.{Rooting, filled_with, chained, counting, misplaced}
+use Rattle.pl_extends.specs.Rooting.{unless_misplaced, extended_behind, key_put, named_put}
+use Rattle.pl_extends.specs.Rooting.{with_item, item_put, given_by, given_put, all_given_put}
+use Rattle.pl_extends.specs.Rooting.{value_put, text_put, list_put, pairs_put, mapping_put}
+use Rattle.pl_extends.specs.Rooting.{node_put, turns_put, asked_put, pair_put, node_seen}
+use Rattle.pl_extends.specs.Rooting.{body_seen, pair_seen}
+use Rattle.pl_extends.proofs.Itself.{node_itself}
 use Rattle.pl_root.specs.Arguments.{argument_file, whole_text, read_told, is_text}
 use Rattle.pl_root.specs.Arguments.{argument_value, kind_for, argument_given, arguments_given}
 use Rattle.pl_root.specs.Arguments.{bound_by}
@@ -101,36 +104,37 @@ use Rattle.pl_provenance.proofs.Extended.{levels_follow, value_extends}
 use Rattle.pl_provenance.proofs.Joined.{tree_from}
 
 -- What must be so in the root's own frame. A holds of the places of a run argument.
-pub record RootBorder (P : Origin → Type 0) (R : Place → Type 0)
-    (A : RunArgument → Place → Type 0) : Type 0 where
-  pub literal : (place : Place) → R place → P (record { source = place; crossings = [] })
-  pub made : (place : Place) → R place → P (record { source = place; crossings = Made ∷ [] })
+pub record RootBorder (P : Wanted) (R : Site) (A : RunArgument → Place → Type 0) : Type 0 where
+  pub literal : (place : Place) → R.at place → P.own (record { source = place; crossings = [] })
+  pub made :
+      (place : Place) → R.at place → P.own (record { source = place; crossings = Made ∷ [] })
   pub argument :
       (argument : RunArgument) (source : Place) → A argument source → (parameter : List ℕ)
-      (place : Place) → R place →
-      Seen P R (record { source = source; crossings = Argument parameter place ∷ [] })
+      (place : Place) → R.at place →
+      (Seen P R).own (record { source = source; crossings = Argument parameter place ∷ [] })
+  pub reads : Reads R P
 
 -- the places of a run argument: the whole text's, and those of what it spells
 abbrev pub ArgumentIn : (RunArgument → Place → Type 0) → RunArgument → Type 0
 ArgumentIn A argument =
     A argument (place_at (argument_file argument.name) 1 1)
-    × IfOk (yaml.spells (argument_file argument.name) argument.text) (NodeIn (A argument))
+    × IfOk (yaml.spells (argument_file argument.name) argument.text) (NodeIn (site (A argument)))
 
 -- ---- the root's parameters
 
-module _ (P : Origin → Type 0) (R : Place → Type 0) (A : RunArgument → Place → Type 0)
+module _ (P : Wanted) (R : Site) (A : RunArgument → Place → Type 0)
     (border : RootBorder P R A) where
-  abbrev G : Origin → Type 0
+  abbrev G : Wanted
   G = Takeable (Seen P R) R
 
-  abbrev M : Origin → Type 0
+  abbrev M : Wanted
   M = Takeable P R
 
   takes_argument :
       (argument : RunArgument) (origin : Origin) → A argument origin.source →
-      origin.crossings ≡ [] → G origin
+      origin.crossings ≡ [] → G.own origin
   takes_argument argument origin stands none parameter place here =
-      subst (λ (crossings : List Crossing). Seen P R (record {
+      subst (λ (crossings : List Crossing). (Seen P R).own (record {
         source = origin.source;
         crossings = crossings ++ Argument parameter place ∷ [];
       })) (sym none) (border.argument argument origin.source stands parameter place here)
@@ -138,20 +142,21 @@ module _ (P : Origin → Type 0) (R : Place → Type 0) (A : RunArgument → Pla
   whole_from : (argument : RunArgument) → ArgumentIn A argument → NodeFrom G M (whole_text argument)
   whole_from argument within =
       text_node G M (origin_at [] (place_at (argument_file argument.name) 1 1))
-      (takes_argument argument _ within.0 refl) argument.text
+      (takes_argument argument _ within.0 refl) argument.text (λ files. tt)
 
-  written_from : (argument : RunArgument) (node : Node) → NodeIn (A argument) node →
+  written_from : (argument : RunArgument) (node : Node) → NodeIn (site (A argument)) node →
       NodeFrom G M (literal [] node)
   written_from argument node within =
-      node_implies (Stands (A argument) []) G (Stands (A argument) []) M
+      node_implies (Stands (site (A argument)) []) G (Stands (site (A argument)) []) M
       (λ origin stands. takes_argument argument origin stands.0 stands.1)
       (λ origin stands parameter place here.
       (takes_argument argument origin stands.0 stands.1 parameter place here).0)
-      (literal [] node) (literal_from (A argument) [] node within)
+      (λ origin said told files. tt) (literal [] node)
+      (literal_from (site (A argument)) [] node within)
 
   read_from :
       (argument : RunArgument) (told : Result Node (YamlCode × Place)) →
-      IfOk told (NodeIn (A argument)) → IfOk (read_told told) (NodeFrom G M)
+      IfOk told (NodeIn (site (A argument))) → IfOk (read_told told) (NodeFrom G M)
   read_from argument (Ok node) within = written_from argument node within
   read_from argument (Err told) within = tt
 
@@ -190,11 +195,13 @@ module _ (P : Origin → Type 0) (R : Place → Type 0) (A : RunArgument → Pla
 
   bound_from : (declared : List Param) (arguments : List RunArgument) →
       Each (ArgumentIn A) arguments → Each (ParamIn R) declared →
-      IfOk (bound_by declared arguments) (Each (BoundFrom G M R))
+      IfOk (bound_by declared arguments) (AreBound P R border.reads declared)
   bound_from declared arguments given_in within =
-      ok_then (Each GivenFrom) (Each (BoundFrom G M R)) (arguments_given declared arguments []) _
+      ok_then (Each GivenFrom) (AreBound P R border.reads declared) (arguments_given declared
+      arguments
+      []) _
       (all_given declared arguments [] given_in tt)
-      (λ given all. bound_to_from G M R declared given within all)
+      (λ given all. bound_to_from P R border.reads declared given within all)
 
   pub parameters_are :
       (node : Option Node) (arguments : List RunArgument) → Each (ArgumentIn A) arguments →
@@ -202,9 +209,9 @@ module _ (P : Origin → Type 0) (R : Place → Type 0) (A : RunArgument → Pla
   parameters_are node arguments given_in within =
       ok_then (Each (ParamIn R)) (Each (ParameterFrom P R)) (declared_by node) _
       (declared_in R node within)
-      (λ declared stands. ok_then (Each (BoundFrom G M R)) (Each (ParameterFrom P R))
+      (λ declared stands. ok_then (AreBound P R border.reads declared) (Each (ParameterFrom P R))
       (bound_by declared arguments) _ (bound_from declared arguments given_in stands)
-      (λ bound are. parameters_from P R [] border.literal declared bound stands are))
+      (λ bound are. parameters_from P R border.reads [] border.literal declared bound stands are))
 
   pub root_frame_from :
       (root : FileKey) (parameters : List Parameter) (variables : List Variable) →
@@ -212,14 +219,16 @@ module _ (P : Origin → Type 0) (R : Place → Type 0) (A : RunArgument → Pla
   root_frame_from root parameters variables are = record {
     literal = border.literal;
     made = border.made;
+    reads = border.reads;
     parameters = are;
     loops = tt;
   }
 
 -- ---- the root's pairs
 
-module _ (P : Origin → Type 0) (T : FileKey → Origin → Type 0) (R : FileKey → Place → Type 0)
-    (K : Place → FileKey → Type 0) (U : List FileKey → Type 0) (border : ExtendsBorder P T R K)
+module _ (P : Wanted) (T : FileKey → Wanted) (R : FileKey → Site)
+    (K : Place → List ℕ → FileKey → Type 0) (U : List FileKey → Type 0) (border : ExtendsBorder P T
+    R K)
     (inside : (file : FileKey) → Borders (T file) R K) (outside : Borders P R K) (opens : Opens)
     (opening : OpensFrom R K U opens) (root : FileKey) where
   abbrev pub FillingFrom : RootFilling → Type 0
@@ -234,14 +243,14 @@ module _ (P : Origin → Type 0) (T : FileKey → Origin → Type 0) (R : FileKe
   key_gives :
       (extends : Bool) (key : List ℕ) (origin : Origin) (node : Node) (H : Type 0) (frame : Frame)
       (filling : RootFilling) (used : List FileKey) → NodeIn (R root) node →
-      (H → Seen P (R root) origin) → (H → FrameFrom P (R root) frame) →
+      (H → ActionFrom P (R root) (Put key origin)) → (H → FrameFrom P (R root) frame) →
       (H → FillingFrom filling) →
       Gives U H used (key_put extends key origin node opens frame filling used) FillingFrom
   key_gives true key origin node H frame filling used within own from all =
       used_then U (ExtensionFrom T) FillingFrom H used
       (extended opens origin node frame filling.progress.count used) _
       (extended_gives P T R K U border inside outside opens opening root origin H frame from
-      (λ h. (own h).0) node filling.progress.count used within)
+      (λ h. (own h).0.0) node filling.progress.count used within)
       (λ extension later. done_gives U FillingFrom (H × ExtensionFrom T extension) later
       (extended_behind filling extension) (λ h. ((all h.0).0, h.1)))
   key_gives false key origin node H frame filling used within own from all =
@@ -257,7 +266,7 @@ module _ (P : Origin → Type 0) (T : FileKey → Origin → Type 0) (R : FileKe
   named_gives :
       (key : List ℕ) (origin : Origin) (node : Node) (H : Type 0) (frame : Frame)
       (filling : RootFilling) (used : List FileKey) → NodeIn (R root) node →
-      (H → Seen P (R root) origin) → (H → FrameFrom P (R root) frame) →
+      (H → ActionFrom P (R root) (Put key origin)) → (H → FrameFrom P (R root) frame) →
       (H → FillingFrom filling) →
       Gives U H used (named_put key origin node opens frame filling used) FillingFrom
   named_gives key origin node H frame filling used within own from all =
@@ -269,7 +278,9 @@ module _ (P : Origin → Type 0) (T : FileKey → Origin → Type 0) (R : FileKe
   -- ---- pairs that an expression gave
 
   abbrev GivenSeen : MarkedPair → Type 0
-  GivenSeen pair = Seen P (R root) pair.key_origin × SeenFrom P (R root) pair.item
+  GivenSeen pair =
+      ((Seen P (R root)).own pair.key_origin × Told P pair.key_origin (key_said pair.key))
+      × SeenFrom P (R root) pair.item
 
   given_gives :
       (extends : Bool) (pair : MarkedPair) (H : Type 0) (frame : Frame) (filling : RootFilling)
@@ -282,7 +293,7 @@ module _ (P : Origin → Type 0) (T : FileKey → Origin → Type 0) (R : FileKe
       filling.progress.count used) _
       (value_extends P T R K U border inside outside opens opening pair.key_origin
       pair.item.origin.source pair.item H frame filling.progress.count used
-      (λ h. (seen h).0.0) (λ h. seen_tree P (R root) pair.item (seen h).1))
+      (λ h. (seen h).0.0.0) (λ h. seen_tree P (R root) pair.item (seen h).1))
       (λ extension later. done_gives U FillingFrom (H × ExtensionFrom T extension) later
       (extended_behind filling extension) (λ h. ((all h.0).0, h.1)))
   given_gives false pair H frame filling used seen from all =
@@ -298,7 +309,8 @@ module _ (P : Origin → Type 0) (T : FileKey → Origin → Type 0) (R : FileKe
       (λ h. ok_then (ProgressFrom P (R root)) FillingFrom
       (put_pair (with_item pair one.node) one.count filling.progress) _
       (put_pair_from P (R root) (with_item pair one.node) one.count filling.progress
-      (pair_from P P pair.key pair.key_origin one.node (seen h.0).0.0 h.1.0) h.1.1.0 (all h.0).0)
+      (pair_from P P pair.key pair.key_origin one.node (seen h.0).0.0.0 (seen h.0).0.1 h.1.0)
+      h.1.1.0 (all h.0).0)
       (λ after is_from. (is_from, (all h.0).1))))
 
   all_given_gives :
@@ -323,7 +335,8 @@ module _ (P : Origin → Type 0) (T : FileKey → Origin → Type 0) (R : FileKe
       Each GivenSeen pairs
   each_seen [] all = tt
   each_seen (pair ∷ pairs) all =
-      (pair_parts (Seen P (R root)) P pair all.0, each_seen pairs all.1)
+      let parts = pair_parts (Seen P (R root)) P pair all.0 in
+      (((parts.0, pair_told (Seen P (R root)) P pair all.0), parts.1), each_seen pairs all.1)
 
   value_puts :
       (opened : Opened) (problem : ExpandProblem) (place : Place) (H : Type 0) (frame : Frame)
@@ -342,13 +355,15 @@ module _ (P : Origin → Type 0) (T : FileKey → Origin → Type 0) (R : FileKe
 
   text_puts :
       (text : List ℕ) (problem : ExpandProblem) (place : Place) (H : Type 0) (frame : Frame)
-      (filling : RootFilling) (used : List FileKey) → R root place →
+      (filling : RootFilling) (used : List FileKey) → (R root).at place →
+      (R root).says place (scalar (Str text)) →
       (H → FrameFrom P (R root) frame) → (H → FillingFrom filling) →
       Gives U H used (text_put text problem place opens frame filling used) FillingFrom
-  text_puts text problem place H frame filling used here from all =
+  text_puts text problem place H frame filling used here says from all =
       first_then U (SeenOne P (R root)) FillingFrom H used
       (scalar_value text frame place filling.progress.count) _
-      (λ h. scalar_value_from P (R root) frame (from h) place here text filling.progress.count)
+      (λ h. scalar_value_from P (R root) frame (from h) place here text says
+      filling.progress.count)
       (λ one. value_puts (out-Value one.node.value) problem place
       (H × SeenOne P (R root) one) frame (counting one.count filling) used
       (λ h. value_parts (Seen P (R root)) P one.node.value
@@ -376,7 +391,8 @@ module _ (P : Origin → Type 0) (T : FileKey → Origin → Type 0) (R : FileKe
   abbrev BodyClaim : NodeBody → Type 0
   BodyClaim one =
       BodyIn (R root) (out-NodeBody one) → (problem : ExpandProblem) (place : Place) →
-      R root place → RootingFrom ((body_seen one).put problem place)
+      (R root).at place → Each ((R root).says place) (said_in (out-NodeBody one)) →
+      RootingFrom ((body_seen one).put problem place)
 
   abbrev NodeClaim : Node → Type 0
   NodeClaim one =
@@ -402,40 +418,44 @@ module _ (P : Origin → Type 0) (T : FileKey → Origin → Type 0) (R : FileKe
   opened_body : (layer : Body) → out-NodeBody (roll-NodeBody layer) ≡ layer
   opened_body layer = search (rules, the_lemmas)
 
-  abbrev PutFrom : (ExpandProblem → Place → Rooting) → Type 0
-  PutFrom put =
-      (problem : ExpandProblem) (place : Place) → R root place → RootingFrom (put problem place)
+  abbrev PutFrom : Body → (ExpandProblem → Place → Rooting) → Type 0
+  PutFrom layer put =
+      (problem : ExpandProblem) (place : Place) → (R root).at place →
+      Each ((R root).says place) (said_in layer) → RootingFrom (put problem place)
 
   layer_claim :
       (layer : Body) → BodyParts NodeClaim PairClaim layer → BodyIn (R root) layer →
-      PutFrom (body_seen (roll-NodeBody layer)).put
+      PutFrom layer (body_seen (roll-NodeBody layer)).put
   layer_claim (Scalar text) claims within =
       let seen : text_put text ≡ (body_seen (roll-NodeBody (Scalar text))).put =
       search (rules, the_lemmas) in
-      subst PutFrom seen
-      (λ problem place here frame filling used.
-      text_puts text problem place (Held frame filling) frame filling used here (λ h. h.0)
+      subst (PutFrom (Scalar text)) seen
+      (λ problem place here says frame filling used.
+      text_puts text problem place (Held frame filling) frame filling used here says.0 (λ h. h.0)
       (λ h. h.1))
   layer_claim (Seq items) claims within =
       let seen : list_put ≡ (body_seen (roll-NodeBody (Seq items))).put =
       search (rules, the_lemmas) in
-      subst PutFrom seen
-      (λ problem place here frame filling used.
+      subst (PutFrom (Seq items)) seen
+      (λ problem place here says frame filling used.
       plain_then U FillingFrom (Held frame filling) used (entered place filling.progress.count) _
       (λ count. tt))
   layer_claim (Map pairs) claims within =
       let seen : mapping_put (map pair_seen pairs) ≡ (body_seen (roll-NodeBody (Map pairs))).put =
       search (rules, the_lemmas) in
-      subst PutFrom seen
-      (λ problem place here frame filling used.
+      subst (PutFrom (Map pairs)) seen
+      (λ problem place here says frame filling used.
       plain_then U FillingFrom (Held frame filling) used (entered place filling.progress.count) _
       (λ count. pairs_puts pairs claims within (Held frame filling) frame (counting count filling)
       used (λ h. h.0) (λ h. h.1)))
 
   of_layer :
       (layer : Body) → BodyParts NodeClaim PairClaim layer → BodyClaim (roll-NodeBody layer)
-  of_layer layer claims within =
-      layer_claim layer claims (subst (BodyIn (R root)) (opened_body layer) within)
+  of_layer layer claims within problem place here says =
+      layer_claim layer claims (subst (BodyIn (R root)) (opened_body layer) within) problem place
+      here
+      (subst (λ (layer : Body). Each ((R root).says place) (said_in layer)) (opened_body layer)
+      says)
 
   of_node :
       (place : Place) (one : NodeBody) → BodyClaim one →
@@ -448,7 +468,8 @@ module _ (P : Origin → Type 0) (T : FileKey → Origin → Type 0) (R : FileKe
       subst (λ (put : ExpandProblem → Rooting). RootingFrom (put problem)) seen
       (λ frame filling used. used_then U FillingFrom FillingFrom (Held frame filling) used
       ((body_seen one).put problem place opens frame (chained Closed filling) used) _
-      (rooted ((body_seen one).put problem place) (claim parts.1 problem place parts.0)
+      (rooted ((body_seen one).put problem place)
+      (claim parts.1 problem place parts.0 (node_says (R root) node within))
       (Held frame filling) frame (chained Closed filling) used (λ h. h.0) (λ h. h.1))
       (λ after later. done_gives U FillingFrom (Held frame filling × FillingFrom after) later
       (chained Closed after) (λ h. h.1)))
@@ -510,8 +531,8 @@ module _ (P : Origin → Type 0) (T : FileKey → Origin → Type 0) (R : FileKe
       subst RootingFrom seen
       (λ frame filling used. first_then U (ActionFrom P (R root)) FillingFrom (Held frame filling)
       used (key_asks key frame key_place filling.progress.chain filling.progress.count) _
-      (λ h. key_asks_from P (R root) frame h.0 key_place parts.0 key filling.progress.chain
-      filling.progress.count)
+      (λ h. key_asks_from P (R root) frame h.0 key_place parts.0 key
+      (pair_says (R root) pair within) filling.progress.chain filling.progress.count)
       (λ asked. asked_puts item parts.1 claim asked
       (Held frame filling × ActionFrom P (R root) asked) frame filling used (λ h. h.1)
       (λ h. h.0.0) (λ h. h.0.1)))
@@ -532,7 +553,9 @@ module _ (P : Origin → Type 0) (T : FileKey → Origin → Type 0) (R : FileKe
       ok_then (ProgressFrom P (R root)) FillingFrom (put_variables node pair frame filling.progress)
       _ (put_pair_from P (R root) _ filling.progress.count filling.progress
       (pair_from P P pair.key (literal_at frame pair.key_place) node
-      (from.literal pair.key_place (pair_in (R root) pair within).0) own.0) own.1.0 all.0)
+      (from.literal pair.key_place (pair_in (R root) pair within).0)
+      (λ files. from.reads.says pair.key_place (key_said pair.key)
+      (pair_says (R root) pair within)) own.0) own.1.0 all.0)
       (λ after is. (is, all.1))
 
   pair_gives_root :
@@ -641,11 +664,11 @@ module _ (P : Origin → Type 0) (T : FileKey → Origin → Type 0) (R : FileKe
 
   module _ (A : RunArgument → Place → Type 0) (own : RootBorder P (R root) A)
       (N : RootNode → Type 0)
-      (finishes : (origin : Origin) (filling : RootFilling) → P origin → FillingFrom filling →
+      (finishes : (origin : Origin) (filling : RootFilling) → P.own origin → FillingFrom filling →
       IfOk (root_from origin filling) N) where
     filled_gives :
         (place : Place) (pairs : List NodePair) (parameters : List Parameter) (H : Type 0)
-        (early : Early) (used : List FileKey) → R root place → Each (PairIn (R root)) pairs →
+        (early : Early) (used : List FileKey) → (R root).at place → Each (PairIn (R root)) pairs →
         Each (ParameterFrom P (R root)) parameters → (H → EarlyFrom early) →
         Gives U H used (filled_root (root_mapping root place pairs parameters) opens early used) N
     filled_gives place pairs parameters H early used here within are known =
@@ -660,7 +683,7 @@ module _ (P : Origin → Type 0) (T : FileKey → Origin → Type 0) (R : FileKe
         (λ h. finishes (literal_at frame place) filling (own.literal place here) h.1))
 
     pub pairs_expanded_give :
-        (place : Place) (pairs : List NodePair) (parameters : List Parameter) → R root place →
+        (place : Place) (pairs : List NodePair) (parameters : List Parameter) → (R root).at place →
         Each (PairIn (R root)) pairs → Each (ParameterFrom P (R root)) parameters →
         Gives U (Unit {0}) [] (pairs_expanded (root_mapping root place pairs parameters) opens) N
     pairs_expanded_give place pairs parameters here within are =

@@ -1,5 +1,5 @@
 -- The jobs of the whole tree, where what is asked of origins is kept across all borders.
-use Rattle.std.proofs.Common.{◌≡◌, Option, Some, None, Result, Ok, Err, List, []}
+use Rattle.std.proofs.Common.{◌≡◌, ℕ, Option, Some, None, Result, Ok, Err, List, []}
 use Rattle.std.specs.Prelude.{IfOk, codes}
 use Rattle.std.specs.FinMap as finite
 use Rattle.std.specs.List.{AllByRecursion as Each}
@@ -18,18 +18,18 @@ use Rattle.pl_calls.specs.Meant.{◌>>>◌}
 use Rattle.pl_calls.specs.Parts.{Body, body_of, under}
 use Rattle.pl_calls.specs.Reaching.{Opens, opens as opens_of}
 use Rattle.pl_calls.specs.declared.reaching.Home.{Home}
-use Rattle.pl_expanding.specs.Expanding.{expanded}
-use Rattle.pl_expanding.specs.Following.{scope_of}
-use Rattle.pl_expanding.specs.Levels.{followed}
+use Rattle.pl_recursion.specs.Expanding.{expanded}
+use Rattle.pl_recursion.specs.Following.{scope_of}
+use Rattle.pl_recursion.specs.Levels.{followed}
 use Rattle.pl_eval_laws.proofs.Lists.{Has}
-use Rattle.pl_eval_laws.proofs.Trees.{PairFrom}
+use Rattle.pl_eval_laws.proofs.Trees.{Asked as Wanted, PairFrom}
 use Rattle.pl_origins.proofs.Called.{Borders, OpensFrom}
 use Rattle.pl_origins.proofs.Contents.{ProgressFrom}
 use Rattle.pl_origins.proofs.Frames.{ParameterFrom}
 use Rattle.pl_origins.proofs.Kept.{any_ok, NoFiles, plainly}
-use Rattle.pl_origins.proofs.Nodes.{NodeIn, PairIn, BodyIn, node_in, under_in}
+use Rattle.pl_origins.proofs.Nodes.{Site, NodeIn, PairIn, BodyIn, node_in, under_in}
 use Rattle.pl_origins.proofs.Steps.{Used, ok_then, any_then}
-use Rattle.pl_expand.specs.declared.rooting.RootFilling.{RootFilling}
+use Rattle.pl_extends.specs.declared.rooting.RootFilling.{RootFilling}
 use Rattle.pl_expand.specs.declared.root.RootNode.{RootNode}
 use Rattle.pl_expand.specs.declared.root.RootTree.{RootTree}
 use Rattle.pl_root.specs.Resources.{earliest}
@@ -59,8 +59,8 @@ pub unless_kept :
 unless_kept Q None x holds = holds
 unless_kept Q (Some complaint) x holds = tt
 
-module _ (P : Origin → Type 0) (T : FileKey → Origin → Type 0) (R : FileKey → Place → Type 0)
-    (K : Place → FileKey → Type 0) (border : ExtendsBorder P T R K)
+module _ (P : Wanted) (T : FileKey → Wanted) (R : FileKey → Site)
+    (K : Place → List ℕ → FileKey → Type 0) (border : ExtendsBorder P T R K)
     (inside : (file : FileKey) → Borders (T file) R K) (outside : Borders P R K) (files : Set)
     (opening : (home : Home) → OpensFrom R K NoFiles (opens_of files home)) (root : FileKey)
     (A : RunArgument → Place → Type 0) (own : RootBorder P (R root) A) where
@@ -76,15 +76,15 @@ module _ (P : Origin → Type 0) (T : FileKey → Origin → Type 0) (R : FileKe
 
   finishes :
       (opens : Opens) → OpensFrom R K NoFiles opens → (origin : Origin) (filling : RootFilling) →
-      P origin → ProgressFrom P (R root) filling.progress × Has (ExtensionFrom T) filling.extension
-      →
+      P.own origin →
+      ProgressFrom P (R root) filling.progress × Has (ExtensionFrom T) filling.extension →
       IfOk (root_from origin filling) NodeFrom
   finishes opens opening origin filling is all =
       root_by P T R K NoFiles border inside outside opens opening root origin filling.progress
       filling.extension all.1
 
   mapping_from :
-      (place : Place) (pairs : List NodePair) (arguments : List RunArgument) → R root place →
+      (place : Place) (pairs : List NodePair) (arguments : List RunArgument) → (R root).at place →
       Each (ArgumentIn A) arguments → Each (PairIn (R root)) pairs →
       IfOk (mapping_expanded files root place pairs arguments) TreeFrom
   mapping_from place pairs arguments here given_in within =
@@ -125,7 +125,7 @@ module _ (P : Origin → Type 0) (T : FileKey → Origin → Type 0) (R : FileKe
       (λ parameters. bare_from node (first_frame root parameters))
 
   body_from :
-      (body : Body) (node : Node) (arguments : List RunArgument) → R root node.place →
+      (body : Body) (node : Node) (arguments : List RunArgument) → (R root).at node.place →
       Each (ArgumentIn A) arguments → BodyIn (R root) body →
       IfOk (body_expanded_by body files root node arguments) TreeFrom
   body_from (Map pairs) node arguments here given_in within =

@@ -20,7 +20,7 @@ use Rattle.pl_provenance.specs.Roots.{jobs_of}
 use Rattle.pl_provenance.specs.Written.{behind_extends, file_of, last_file}
 use Rattle.pl_provenance.specs.Written.{IsWhereTold, StandsInFile, ArePairsWhereTold}
 use Rattle.pl_provenance.specs.Written.{WrittenWhereTold}
-use Rattle.pl_provenance.proofs.Closure.{Led, LedTree, led_tree}
+use Rattle.pl_provenance.proofs.Closure.{IsBehindLed, Led, LedTree, led_tree}
 
 module _ (files : Set) where
   record Last (last : Option FileKey) (place : Place) : Type 0 where
@@ -67,7 +67,7 @@ module _ (files : Set) where
       in_front (last_file crossings) (file_of Made) place
       (last_told crossings file place extends led)
 
-  where_told : (file : FileKey) (origin : Origin) → Led files file origin →
+  where_told : (file : FileKey) (origin : Origin) → IsBehindLed files file origin →
       IsWhereTold files origin
   where_told file origin own written =
       let last = last_told origin.crossings file origin.source own.0 (own.1 written) in
@@ -80,7 +80,7 @@ module _ (files : Set) where
   pairs_told file pairs all =
       each_implies (PairFrom (Led files file) (Led files file))
       (λ (pair : MarkedPair). Each (IsWhereTold files) (origins_in pair))
-      (λ pair led. each_implies (Led files file) (IsWhereTold files) (where_told file)
+      (λ pair led. each_implies (IsBehindLed files file) (IsWhereTold files) (where_told file)
       (origins_in pair) led.0) pairs all
 
 pub written : WrittenWhereTold

@@ -17,10 +17,13 @@ use Rattle.pl_calls.specs.declared.reaching.Home.{Home}
 use Rattle.pl_calls.specs.Reaching.{target}
 use Rattle.pl_paths.specs.Paths.{cut_path}
 use Rattle.pl_yaml.specs.Spells as yaml
+use Rattle.pl_base.specs.declared.value.Value.{Str}
+use Rattle.pl_eval_laws.specs.Marks.{IsOfFiles, scalar}
 use Rattle.pl_eval_laws.specs.Trees.{origins_of}
 use Rattle.pl_origins.specs.Places.{places_of}
 use Rattle.pl_expand.specs.Tree.{Set, expansion}
 use Rattle.pl_root.specs.Arguments.{argument_file}
+use Rattle.pl_provenance.specs.Texts.{Says}
 use Rattle.pl_provenance.specs.Written.{StandsInFile}
 
 -- a node or a key of a used file stands there
@@ -70,25 +73,31 @@ IsBorder files home used arguments Made = Unit {0}
 
 -- ---- where borders lead
 
--- From a file on: `extends` leads into its template, the item of each call stands in the file
--- before it, and what is told stands in the last file.
-abbrev pub Leads : Set → FileKey → List Crossing → Place → Type 0
-Leads files file [] place = StandsInFile files file place
-Leads files file (Extends key ∷ crossings) place = Leads files key crossings place
-Leads files file (Include key at ∷ crossings) place =
-    StandsInFile files file at × Leads files key crossings place
-Leads files file (other ∷ crossings) place = ⊥
+-- A path that a file says, at a place of its own, leads to another file from where an item stands.
+pub record IsNamed (files : Set) (home : Home) (file : FileKey) (at : Place) (key : FileKey)
+    : Type 0 where
+  pub place : Place
+  pub path : List ℕ
+  pub stands : StandsInFile files file place
+  pub says : Says files place (scalar (Str path))
+  pub leads : target at (cut_path path) home ≡ Ok (Some key)
 
--- a border between files: no argument and no expression
-abbrev pub IsOfFiles : Crossing → Type 0
-IsOfFiles (Extends file) = Unit {0}
-IsOfFiles (Include file at) = Unit {0}
-IsOfFiles other = ⊥
+-- From a file on: `extends` leads into its template, the item of each call stands in the file
+-- before it, which says the path that leads to the called file, and what is told stands in the last
+-- file.
+abbrev pub Leads : Set → Home → FileKey → List Crossing → Place → Type 0
+Leads files home file [] place = StandsInFile files file place
+Leads files home file (Extends key ∷ crossings) place = Leads files home key crossings place
+Leads files home file (Include key at ∷ crossings) place =
+    StandsInFile files file at
+    × (IsNamed files home file at key × Leads files home key crossings place)
+Leads files home file (other ∷ crossings) place = ⊥
 
 -- what no argument and no expression gave stands where its borders lead from the root file
-abbrev pub IsLedFrom : Set → FileKey → Origin → Type 0
-IsLedFrom files root origin =
-    AllByRecursion IsOfFiles origin.crossings → Leads files root origin.crossings origin.source
+abbrev pub IsLedFrom : Set → Home → Origin → Type 0
+IsLedFrom files home origin =
+    AllByRecursion IsOfFiles origin.crossings →
+    Leads files home home.root origin.crossings origin.source
 
 -- ---- what an origin tells
 
@@ -100,7 +109,7 @@ abbrev pub IsKnown : Set → Home → List FileKey → List RunArgument → Orig
 IsKnown files home used arguments origin =
     IsPlace files used arguments origin.source
     × AllByRecursion (IsBorder files home used arguments) origin.crossings
-    × IsLedFrom files home.root origin
+    × IsLedFrom files home origin
 
 -- This is so of each node and each key of every expanded tree.
 abbrev pub OriginsAreKnown : Type 0

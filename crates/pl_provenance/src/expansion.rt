@@ -2,11 +2,13 @@ ghost use Rattle.std.specs.Prelude.{◌≡◌, Some, IfOk};
 ghost use Rattle.std.specs.List.{AllByRecursion};
 ghost use Rattle.pl_base.specs.declared.place.FileKey.{FileKey as Key};
 ghost use Rattle.pl_directives.specs.Gives.{Gives};
+ghost use Rattle.pl_eval_laws.specs.Marks.{marks_of};
 ghost use Rattle.pl_eval_laws.specs.Trees.{origins_of};
 ghost use Rattle.pl_expand.specs.Tree.{expansion};
 ghost use Rattle.pl_provenance.specs.Closure.{ArePairsFromClosure};
 ghost use Rattle.pl_provenance.specs.Known.{IsKnown, home_in};
 ghost use Rattle.pl_provenance.specs.Roots.{IsPairThrough, jobs_of};
+ghost use Rattle.pl_provenance.specs.Texts.{IsSaid};
 ghost use Rattle.pl_provenance.specs.Written.{ArePairsWhereTold};
 
 use pl_base::{Argument, Expanded, FileKey, List};
@@ -23,9 +25,9 @@ use std::alloc::Global;
 /// origin tells, which is the template or a file that it calls, itself or by files that it calls.
 /// Each origin in the whole tree tells places of used files or of run arguments, its borders lead
 /// into used files that are there, and what no argument and no expression gave stands where its
-/// borders lead from the root file (Microsoft Learn, Azure Pipelines, "Security through
-/// templates"). The files stay as they are, and a fault is the
-/// one that `pl_expand::expand` gives.
+/// borders lead from the root file, along paths that these files say; and each scalar and key of it
+/// says what is written where it stands (Microsoft Learn, Azure Pipelines, "Security through
+/// templates"). The files stay as they are, and a fault is the one that `pl_expand::expand` gives.
 pub fn expand<F: Files>(
     alloc: Global,
     files: &mut F,
@@ -44,6 +46,8 @@ pub fn expand<F: Files>(
         AllByRecursion
         (IsKnown (F.files files.old) (home_in root.now whole) whole.used arguments.now)
         (origins_of whole.tree)) }
+    ensures texts { IfOk result (λ whole.
+        AllByRecursion (IsSaid (F.files files.old)) (marks_of whole.tree)) }
 {
     pl_expand::expand(alloc, files, root, arguments)
 }

@@ -2,6 +2,7 @@ ghost use Rattle.pl_provenance.specs.Closure.{WrittenInClosure};
 ghost use Rattle.pl_provenance.specs.Known.{OriginsAreKnown};
 ghost use Rattle.pl_provenance.specs.Reader.{ReadersNameTheirFile};
 ghost use Rattle.pl_provenance.specs.Roots.{StepsComeThrough};
+ghost use Rattle.pl_provenance.specs.Texts.{TextsAreWritten};
 ghost use Rattle.pl_provenance.specs.Written.{WrittenWhereTold};
 
 /// Where the root file extends a template, all jobs and steps of the expanded pipeline came through
@@ -41,11 +42,25 @@ pub fn written_jobs_come_from_the_template_and_its_calls()
 /// file that is there, and each expression that took a parameter stands in a used file. The used
 /// files are those that the expansion tells, the root file among them. And what no argument and no
 /// expression gave stands where its borders lead: from the root file on, `extends` leads into its
-/// template, the item of each call stands in the file before it, and what is told in the last file.
+/// template, the item of each call stands in the file before it, that file says a path that leads
+/// from the item to the called file, and what is told stands in the last file.
 ///
 /// It speaks of every node and key of the whole tree, whatever the root file is.
 pub fn origins_tell_used_files()
     ensures { OriginsAreKnown }
+{}
+
+/// Each scalar and each key of an expanded tree that no argument gave and no expression made says
+/// what is written at its place in a file: a scalar its text there, or what a parameter's type
+/// reads of it, where it is a default; a key its own there. Where one expression stands in a key,
+/// or goes over the pairs of an object, the text of a default may be a key and the text of a key a
+/// scalar; a parameter's name is said where it is declared, and the keys `name` and `value` where a
+/// variable is written as a pair (Microsoft Learn, Azure Pipelines, "Security through templates").
+/// So no two texts change places, and none is another than its file's.
+///
+/// It speaks of every scalar and key of the whole tree, whatever the root file is.
+pub fn texts_are_those_of_their_places()
+    ensures { TextsAreWritten }
 {}
 
 /// Each place of what a file's text spells, of a node or of a key, is one in that file: reading

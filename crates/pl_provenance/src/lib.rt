@@ -9,6 +9,6 @@ mod tests;
 pub use expansion::expand;
 pub use laws::{
     origins_tell_used_files, readers_name_their_file, steps_come_through_the_template,
-    what_no_argument_gave_is_written_where_it_is_told,
+    texts_are_those_of_their_places, what_no_argument_gave_is_written_where_it_is_told,
     written_jobs_come_from_the_template_and_its_calls,
 };

@@ -1,6 +1,6 @@
 use crate::{
     expand, origins_tell_used_files, readers_name_their_file, steps_come_through_the_template,
-    what_no_argument_gave_is_written_where_it_is_told,
+    texts_are_those_of_their_places, what_no_argument_gave_is_written_where_it_is_told,
     written_jobs_come_from_the_template_and_its_calls,
 };
 use pl_base::{FileKey, List, Memory, Text};
@@ -19,6 +19,7 @@ fn laws_are_called(_rt: HostRuntime) -> Result<(), Fail> {
     what_no_argument_gave_is_written_where_it_is_told();
     written_jobs_come_from_the_template_and_its_calls();
     origins_tell_used_files();
+    texts_are_those_of_their_places();
     readers_name_their_file();
     Ok(())
 }

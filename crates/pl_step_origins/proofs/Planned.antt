@@ -13,13 +13,15 @@ use Rattle.pl_base.specs.declared.value.MarkedNode.{MarkedNode}
 use Rattle.pl_base.specs.declared.value.MarkedPair.{MarkedPair}
 use Rattle.pl_depends.specs.Graph.{job_waits}
 use Rattle.pl_depends.specs.Places.{Finding, leg_entries, places_under, stage_entries}
+use Rattle.pl_eval_laws.specs.Marks.{Mark, Said, IsTold, marks_in, marks_of}
 use Rattle.pl_eval_laws.specs.Trees.{origins_in, origins_of}
 use Rattle.pl_eval_laws.proofs.Lists.{each_append, each_back, each_contained, each_front}
 use Rattle.pl_eval_laws.proofs.Lists.{each_implies, each_map, each_of}
 use Rattle.pl_eval_laws.proofs.Leads.{Opened, leads_in, leads_of}
-use Rattle.pl_eval_laws.proofs.Trees.{Any, NodeFrom, OpenedFrom, PairFrom, node_parts}
+use Rattle.pl_eval_laws.proofs.Trees.{Any, Asked, Marked, NodeFrom, OpenedFrom, PairFrom}
+use Rattle.pl_eval_laws.proofs.Trees.{node_parts, only}
 use Rattle.pl_eval_laws.proofs.Trees.{pair_parts, value_parts}
-use Rattle.pl_expand.specs.Extending.{is_form}
+use Rattle.pl_extends.specs.Forms.{is_form}
 use Rattle.pl_literal.specs.Items.{is}
 use Rattle.pl_plan.specs.Legs.{legs_of}
 use Rattle.pl_plan.specs.Plans.{IsPlanOf, plan_from, plan_job, plan_leg}
@@ -50,7 +52,9 @@ use Rattle.pl_schema_parts.specs.Steps.{steps_in}
 use Rattle.pl_schema_parts.specs.Variables.{variables_in}
 use Rattle.pl_schema_parts.specs.declared.fault.SchemaCode.TheVariants.{TwoForms}
 use Rattle.pl_uses.specs.Pools.{pool_of}
-use Rattle.pl_step_origins.specs.Steps.{AreStepsFrom, IsJobFrom, IsStageFrom, IsStepFrom}
+use Rattle.pl_plan.specs.declared.plan.PlanStep.{PlanStep}
+use Rattle.pl_step_origins.specs.Steps.{AreStepsFrom, AreStepsOf, AreStepsSaying, IsJobOf}
+use Rattle.pl_step_origins.specs.Steps.{IsStageOf, IsStepFrom, IsStepSaying}
 use Rattle.pl_step_origins.specs.Steps.{PlansExtendTheSame, StepsStandInTheTree, job_origins}
 use Rattle.pl_step_origins.proofs.Reading.{◌also◌, KeepsAt, alone_keeps, object_keeps, only_keeps}
 use Rattle.pl_step_origins.proofs.Reading.{passed_keeps, plain, taken, then_any}
@@ -60,7 +64,8 @@ use Rattle.pl_step_origins.proofs.Schema.{steps_give}
 
 -- ---- the root
 
-pub asked : {X : Type 0} (Q : X → Type 0) (test : X → Bool) (xs : List X) → Each Q (filter test xs) →
+pub asked : {X : Type 0} (Q : X → Type 0) (test : X → Bool) (xs : List X) → Each Q (filter test xs)
+    →
     Each (λ x. test x ≡ true → Q x) xs
 asked Q test [] all = tt
 asked Q test (x ∷ xs) all = by (test x) refl all (asked Q test xs)
@@ -94,7 +99,7 @@ third_form key is_so = by (is key (codes "stages")) (is key (codes "jobs"))
     by false true = refl
     by false false = ap (λ test. test || false) is_so
 
-module _ (P : Origin → Type 0) where
+module _ (P : Asked) where
   -- of the forms alone P is asked
   abbrev FormFrom : MarkedPair → Type 0
   FormFrom pair = is_form pair.key ≡ true → PairFrom P Any pair
@@ -130,7 +135,8 @@ module _ (P : Origin → Type 0) where
       (λ pair is_so. second_form pair.key is_so) (jobs_give P) (λ jobs all. all)
       also form_keeps (Each (StepFrom P)) (codes "steps") steps_in Steps
       (λ pair is_so. third_form pair.key is_so) (steps_give P) (λ steps all. all)
-      also plain RootFrom FormFrom (codes "variables") variables_in root_variables (λ root x all. all)
+      also plain RootFrom FormFrom (codes "variables") variables_in root_variables (λ root x all.
+      all)
       also plain RootFrom FormFrom (codes "pool") pool_in _ (λ root x all. all)
       also plain RootFrom FormFrom (codes "lockBehavior") behaviour_in _ (λ root x all. all)
       also only_keeps RootFrom FormFrom (codes "strategy") steps _
@@ -191,49 +197,51 @@ module _ (P : Origin → Type 0) where
 
   -- ---- the plan
 
+  abbrev pub IsStep : PlanStep → Type 0
+  IsStep step = NodeFrom P Any step.body
+
   steps_are : (steps : List StepSpec) → Each (StepFrom P) steps →
-      Each (IsStepFrom P) (map plan_step steps)
-  unfolding NodeFrom
-  steps_are steps all =
-      each_map (StepFrom P) (IsStepFrom P) plan_step (λ step from. from.0) steps all
+      Each IsStep (map plan_step steps)
+  steps_are steps all = each_map (StepFrom P) IsStep plan_step (λ step from. from) steps all
 
   module _ (pipeline : Pipeline) (stage : StageSpec) (find : Finding) where
     legs_are :
         (pool : Option PoolSpec) (depends : List ℕ) (job : JobSpec) (legs : List Leg) →
         JobFrom P job →
-        Each (IsJobFrom P) (map (plan_leg pool depends (map plan_step job.steps) job) legs)
+        Each (IsJobOf IsStep) (map (plan_leg pool depends (map plan_step job.steps) job) legs)
     legs_are pool depends job [] from = tt
     legs_are pool depends job (leg ∷ legs) from =
         (steps_are job.steps from, legs_are pool depends job legs from)
 
     jobs_are : (jobs : List JobSpec) → Each (JobFrom P) jobs →
-        Each (IsJobFrom P) (flat_map (plan_job pipeline stage find) jobs)
+        Each (IsJobOf IsStep) (flat_map (plan_job pipeline stage find) jobs)
     jobs_are [] all = tt
     jobs_are (job ∷ jobs) all =
-        each_append (IsJobFrom P) (plan_job pipeline stage find job)
+        each_append (IsJobOf IsStep) (plan_job pipeline stage find job)
         (flat_map (plan_job pipeline stage find) jobs)
         (legs_are (pool_of pipeline stage job) (job_waits find job.depends) job
         (legs_of job.legs) all.0)
         (jobs_are jobs all.1)
 
   stages_are : (pipeline : Pipeline) (find : Finding) (at : ℕ) (stages : List StageSpec) →
-      Each (StageFrom P) stages → Each (IsStageFrom P) (plan_stages pipeline find at stages)
+      Each (StageFrom P) stages → Each (IsStageOf IsStep) (plan_stages pipeline find at stages)
   stages_are pipeline find at [] all = tt
   stages_are pipeline find at (stage ∷ stages) all = (
     jobs_are pipeline stage (places_under (leg_entries 0 stage.jobs)) stage.jobs all.0,
     stages_are pipeline find (at + 1) stages all.1,
   )
 
-  planned : (pipeline : Pipeline) → PipelineFrom pipeline → AreStepsFrom P (plan_from pipeline)
+  planned : (pipeline : Pipeline) → PipelineFrom pipeline → AreStepsOf IsStep (plan_from pipeline)
   unfolding plan_from
   planned pipeline all =
       stages_are pipeline (places_under (stage_entries 0 pipeline.stages)) 0 pipeline.stages all
 
   pub steps_from :
       (whole : Expanded) (pipeline : Pipeline) (plan : Plan) → pipeline_of whole ≡ Ok pipeline →
-      IsPlanOf pipeline (Ok plan) → Each (PairFrom P Any) (jobs_of whole.tree) → AreStepsFrom P plan
+      IsPlanOf pipeline (Ok plan) → Each (PairFrom P Any) (jobs_of whole.tree) → AreStepsOf IsStep
+      plan
   steps_from whole pipeline plan reads plans all =
-      subst (AreStepsFrom P) (sym plans.2)
+      subst (AreStepsOf IsStep) (sym plans.2)
       (planned pipeline (subst (λ read. IfOk read PipelineFrom) reads (pipeline_gives whole all)))
 
   -- ---- the jobs of a tree, where P holds of all of it
@@ -260,29 +268,74 @@ module _ (P : Origin → Type 0) where
   pub jobs_parts : (node : MarkedNode) → NodeFrom P Any node → Each (PairFrom P Any) (jobs_of node)
   jobs_parts node all =
       kept (λ pair. is_form pair.key) (pairs_of (out-Value node.value))
-      (opened_jobs (out-Value node.value) (value_parts P Any node.value (node_parts P Any node all).1))
+      (opened_jobs (out-Value node.value) (value_parts P Any node.value (node_parts P Any node
+      all).1))
 
--- ---- the same, said of origins
+-- ---- the same of each step, in other words
+
+step_by_step :
+    (Q S : PlanStep → Type 0) → ((step : PlanStep) → Q step → S step) → (plan : Plan) →
+    AreStepsOf Q plan → AreStepsOf S plan
+step_by_step Q S implies plan =
+    each_implies (IsStageOf Q) (IsStageOf S)
+    (λ stage. each_implies (IsJobOf Q) (IsJobOf S)
+    (λ job. each_implies Q S implies job.steps) stage.jobs)
+    plan.stages
+
+-- of origins
 
 pub steps_hold :
     (P : Origin → Type 0) (whole : Expanded) (pipeline : Pipeline) (plan : Plan) →
     pipeline_of whole ≡ Ok pipeline → IsPlanOf pipeline (Ok plan) →
     Each (λ (pair : MarkedPair). Each P (origins_in pair)) (jobs_of whole.tree) →
     AreStepsFrom P plan
-unfolding PairFrom
+unfolding NodeFrom PairFrom
 steps_hold P whole pipeline plan reads plans all =
-    steps_from P whole pipeline plan reads plans
-    (each_implies (λ (pair : MarkedPair). Each P (origins_in pair)) (PairFrom P Any)
-    (λ pair own. (own, each_of Any (λ origin. tt) (leads_in pair))) (jobs_of whole.tree) all)
+    step_by_step (IsStep (only P)) (IsStepFrom P) (λ step from. from.0) plan
+    (steps_from (only P) whole pipeline plan reads plans
+    (each_implies (λ (pair : MarkedPair). Each P (origins_in pair)) (PairFrom (only P) Any)
+    (λ pair own. (
+      own,
+      (
+        each_of Any.own (λ origin. tt) (leads_in pair),
+        each_of (Marked (only P)) (λ one files. tt) (marks_in pair),
+      ),
+    )) (jobs_of whole.tree) all))
 
 pub jobs_hold :
     (P : Origin → Type 0) (tree : MarkedNode) → Each P (origins_of tree) →
     Each (λ (pair : MarkedPair). Each P (origins_in pair)) (jobs_of tree)
 unfolding NodeFrom PairFrom
 jobs_hold P tree all =
-    each_implies (PairFrom P Any) (λ (pair : MarkedPair). Each P (origins_in pair))
+    each_implies (PairFrom (only P) Any) (λ (pair : MarkedPair). Each P (origins_in pair))
     (λ pair from. from.0) (jobs_of tree)
-    (jobs_parts P tree (all, each_of Any (λ origin. tt) (leads_of tree)))
+    (jobs_parts (only P) tree (
+      all,
+      (
+        each_of Any.own (λ origin. tt) (leads_of tree),
+        each_of (Marked (only P)) (λ one files. tt) (marks_of tree),
+      ),
+    ))
+
+-- of what is said
+
+abbrev Saying : (Place → Said → Type 0) → Asked
+Saying says = record { own = λ origin. Unit {0}; says = says }
+
+pub steps_say :
+    (says : Place → Said → Type 0) (whole : Expanded) (pipeline : Pipeline) (plan : Plan) →
+    pipeline_of whole ≡ Ok pipeline → IsPlanOf pipeline (Ok plan) →
+    Each (λ (mark : Mark). IsTold says mark.origin mark.said) (marks_of whole.tree) →
+    AreStepsSaying (λ mark. IsTold says mark.origin mark.said) plan
+unfolding NodeFrom
+steps_say says whole pipeline plan reads plans all =
+    step_by_step (IsStep (Saying says))
+    (IsStepSaying (λ mark. IsTold says mark.origin mark.said)) (λ step from. from.1.1) plan
+    (steps_from (Saying says) whole pipeline plan reads plans
+    (jobs_parts (Saying says) whole.tree (
+      each_of (Saying says).own (λ origin. tt) (origins_of whole.tree),
+      (each_of Any.own (λ origin. tt) (leads_of whole.tree), all),
+    )))
 
 -- ---- what the plan extends
 

@@ -3,14 +3,13 @@ use Rattle.std.proofs.Common.{◌≡◌, ℕ, Bool, true, false, cond, Result, O
 use Rattle.std.proofs.Common.{List, [], ◌∷◌, ◌++◌}
 use Rattle.std.specs.Prelude.{IfOk}
 use Rattle.std.specs.List.{AllByRecursion as Each}
-use Rattle.pl_base.specs.declared.origin.Origin.{Origin}
 use Rattle.pl_base.specs.declared.value.Value.{out-Value}
 use Rattle.pl_base.specs.declared.value.Value.TheOpen as layer
 use Rattle.pl_base.specs.declared.value.MarkedNode.{MarkedNode}
 use Rattle.pl_base.specs.declared.value.MarkedPair.{MarkedPair}
 use Rattle.pl_eval_laws.proofs.Lists.{each_append}
 use Rattle.pl_eval_laws.proofs.Leads.{Opened}
-use Rattle.pl_eval_laws.proofs.Trees.{Any, NodeFrom, OpenedFrom, PairFrom}
+use Rattle.pl_eval_laws.proofs.Trees.{Any, Asked, NodeFrom, OpenedFrom, PairFrom}
 use Rattle.pl_eval_laws.proofs.Trees.{node_parts}
 use Rattle.pl_eval_laws.proofs.Trees.{value_parts}
 use Rattle.pl_literal.specs.Items.{is}
@@ -130,7 +129,7 @@ module _ {S : Type 0} (I : S → Type 0) (R : MarkedPair → Type 0) where
 
 -- ---- the parts of a node
 
-module _ (P : Origin → Type 0) where
+module _ (P : Asked) where
   -- what is read is of what P holds
   pub taken :
       {S X : Type 0} (I : S → Type 0) (R : MarkedPair → Type 0) (Q : X → Type 0) (key : List ℕ)

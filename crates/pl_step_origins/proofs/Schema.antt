@@ -3,10 +3,9 @@ use Rattle.std.proofs.Common.{◌≡◌, ℕ, Bool, true, false, Option, Some, N
 use Rattle.std.proofs.Common.{List, [], ◌∷◌}
 use Rattle.std.specs.Prelude.{codes, IfOk}
 use Rattle.std.specs.List.{AllByRecursion as Each}
-use Rattle.pl_base.specs.declared.origin.Origin.{Origin}
 use Rattle.pl_base.specs.declared.value.MarkedNode.{MarkedNode}
 use Rattle.pl_base.specs.declared.value.MarkedPair.{MarkedPair}
-use Rattle.pl_eval_laws.proofs.Trees.{Any, NodeFrom, PairFrom, pair_parts}
+use Rattle.pl_eval_laws.proofs.Trees.{Any, Asked, NodeFrom, PairFrom, pair_parts}
 use Rattle.pl_literal.specs.declared.items.ItemKind.{ItemKind}
 use Rattle.pl_literal.specs.declared.items.ItemKind.TheVariants as item
 use Rattle.pl_literal.specs.Items.{is, kind_of_key}
@@ -23,17 +22,19 @@ use Rattle.pl_schema_parts.specs.Names.{is_taken, name_in}
 use Rattle.pl_schema_parts.specs.Pools.{environment_in, pool_in}
 use Rattle.pl_schema_parts.specs.Rows.{has, in_order, some_items}
 use Rattle.pl_reading.specs.Steps.{◌>>=◌}
-use Rattle.pl_schema_parts.specs.Scalars.{behaviour_in, condition_in, depends_in, items_in, pairs_in}
+use Rattle.pl_schema_parts.specs.Scalars.{behaviour_in, condition_in, depends_in, items_in}
+use Rattle.pl_schema_parts.specs.Scalars.{pairs_in}
 use Rattle.pl_schema_parts.specs.Scalars.{truth_in}
 use Rattle.pl_schema.specs.Stages.{new_stage, stage_from, stage_in, stage_names, stage_of}
 use Rattle.pl_schema.specs.Stages.{stage_row, stage_variables, stages_in}
-use Rattle.pl_schema_parts.specs.Steps.{is_step_key, step_from, step_in, step_names, step_pair, steps_in}
+use Rattle.pl_schema_parts.specs.Steps.{is_step_key, step_from, step_in, step_names, step_pair}
+use Rattle.pl_schema_parts.specs.Steps.{steps_in}
 use Rattle.pl_schema_parts.specs.Variables.{variables_in}
 use Rattle.pl_step_origins.proofs.Reading.{◌also◌, KeepsAt, chosen, items_give}
 use Rattle.pl_step_origins.proofs.Reading.{object_keeps, pairs_give, passed_keeps, plain}
 use Rattle.pl_step_origins.proofs.Reading.{some_give, taken, then_any, then_ok, turn_gives}
 
-module _ (P : Origin → Type 0) where
+module _ (P : Asked) where
   abbrev pub StepFrom : StepSpec → Type 0
   StepFrom step = NodeFrom P Any step.body
 
@@ -103,7 +104,8 @@ module _ (P : Origin → Type 0) where
       also plain JobFrom (PairFrom P Any) (codes "continueOnError") truth_in _ (λ job x all. all)
       also plain JobFrom (PairFrom P Any) (codes "pool") pool_in _ (λ job x all. all)
       also plain JobFrom (PairFrom P Any) (codes "timeoutInMinutes") minutes_in _ (λ job x all. all)
-      also plain JobFrom (PairFrom P Any) (codes "variables") variables_in job_variables (λ job x all. all)
+      also plain JobFrom (PairFrom P Any) (codes "variables") variables_in job_variables (λ job x
+      all. all)
       also passed_keeps JobFrom (PairFrom P Any) (codes "displayName")
       also passed_keeps JobFrom (PairFrom P Any) (codes "workspace")
       also passed_keeps JobFrom (PairFrom P Any) (codes "cancelTimeoutInMinutes")
@@ -114,7 +116,8 @@ module _ (P : Origin → Type 0) where
   job_rows names =
       plain JobFrom (PairFrom P Any) (codes "job") (name_in names) _ (λ job x all. all)
       also plain JobFrom (PairFrom P Any) (codes "strategy") legs_in job_legs (λ job x all. all)
-      also taken P JobFrom (PairFrom P Any) (Each StepFrom) (codes "steps") steps_in _ (own (codes "steps"))
+      also taken P JobFrom (PairFrom P Any) (Each StepFrom) (codes "steps") steps_in _ (own (codes
+      "steps"))
       steps_give (λ job steps before all. all)
       also shared_rows
 
@@ -176,10 +179,12 @@ module _ (P : Origin → Type 0) where
       also plain StageFrom (PairFrom P Any) (codes "condition") condition_in _ (λ stage x all. all)
       also plain StageFrom (PairFrom P Any) (codes "variables") variables_in stage_variables
       (λ stage x all. all)
-      also taken P StageFrom (PairFrom P Any) (Each JobFrom) (codes "jobs") jobs_in _ (own (codes "jobs"))
+      also taken P StageFrom (PairFrom P Any) (Each JobFrom) (codes "jobs") jobs_in _ (own (codes
+      "jobs"))
       jobs_give (λ stage jobs before all. all)
       also plain StageFrom (PairFrom P Any) (codes "pool") pool_in _ (λ stage x all. all)
-      also plain StageFrom (PairFrom P Any) (codes "lockBehavior") behaviour_in _ (λ stage x all. all)
+      also plain StageFrom (PairFrom P Any) (codes "lockBehavior") behaviour_in _ (λ stage x all.
+      all)
       also passed_keeps StageFrom (PairFrom P Any) (codes "displayName")
       also passed_keeps StageFrom (PairFrom P Any) (codes "templateContext")
       also tt
@@ -201,7 +206,8 @@ module _ (P : Origin → Type 0) where
       then_ok (Each (PairFrom P Any)) StageFrom (pairs_in node) (stage_from names node)
       (pairs_give P node all) (stage_is names node)
 
-  pub stages_give : (node : MarkedNode) → NodeFrom P Any node → IfOk (stages_in node) (Each StageFrom)
+  pub stages_give : (node : MarkedNode) → NodeFrom P Any node → IfOk (stages_in node) (Each
+      StageFrom)
   unfolding stages_in
   stages_give node all =
       then_ok (Each (NodeFrom P Any)) (Each StageFrom) (items_in node >>= some_items node) _

@@ -1,6 +1,7 @@
 use Rattle.std.proofs.Common.{ap}
 use Rattle.pl_plan.specs.declared.plan.Sources.{Sources}
-use Rattle.pl_compile.proofs.Tracing.{are_known, are_written, come_from_closure, come_through}
+use Rattle.pl_compile.proofs.Tracing.{are_known, are_said, are_written, come_from_closure}
+use Rattle.pl_compile.proofs.Tracing.{come_through}
 use Rattle.pl_compile.proofs.Whole.{unplanned}
 use Rattle.pl_compile.proofs.compiling.compile.Goals as goal
 
@@ -31,6 +32,12 @@ returns-in-Ok-clause-known c =
     c.in_ok-whole.ensures.tree
     (ap (λ (sources : Sources). sources.files) c.in_ok-sources-in-Ok.ensures)
     c.in_ok-whole.ensures.known
+
+pub returns-in-Ok-clause-texts : goal.returns-in-Ok-clause-texts
+returns-in-Ok-clause-texts c =
+    are_said c.args.files.now c.in_ok-whole.whole c.in-Ok.ensures.pipeline
+    (record { plan = c.in-Ok.plan; sources = c.in_ok-sources-in-Ok.sources })
+    c.in-Ok.ensures.reads c.in-Ok.ensures.plans c.in_ok-whole.ensures.texts
 
 pub returns-clause-compiled : goal.returns-clause-compiled
 returns-clause-compiled c =

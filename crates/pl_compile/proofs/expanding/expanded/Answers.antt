@@ -1,10 +1,12 @@
 use Rattle.std.proofs.Common.{◌≡◌, Some, subst}
 use Rattle.std.specs.List.{AllByRecursion}
 use Rattle.std.specs.Prelude.{IfOk}
+use Rattle.pl_eval_laws.specs.Marks.{marks_of}
 use Rattle.pl_eval_laws.specs.Trees.{origins_of}
 use Rattle.pl_provenance.specs.Closure.{ArePairsFromClosure}
 use Rattle.pl_provenance.specs.Known.{home_in, IsKnown}
 use Rattle.pl_provenance.specs.Roots.{jobs_of}
+use Rattle.pl_provenance.specs.Texts.{IsSaid}
 use Rattle.pl_provenance.specs.Written.{ArePairsWhereTold}
 use Rattle.pl_compile.specs.Reading.{read_all}
 use Rattle.pl_compile.proofs.Handing.{handed}
@@ -43,3 +45,12 @@ returns-clause-known c =
     (IsKnown (read_all texts) (home_in c.args.root.now whole) whole.used c.args.arguments.now)
     (origins_of whole.tree)))
     c.new-read.ensures c.expand-expanded.ensures.known)
+
+pub returns-clause-texts : goal.returns-clause-texts
+returns-clause-texts c =
+    handed c.expand-expanded.result c.told.result
+    (λ whole. AllByRecursion (IsSaid (read_all c.args.files.now)) (marks_of whole.tree))
+    c.told.ensures.same
+    (subst (λ texts. IfOk c.expand-expanded.result (λ whole.
+    AllByRecursion (IsSaid (read_all texts)) (marks_of whole.tree)))
+    c.new-read.ensures c.expand-expanded.ensures.texts)

@@ -1,6 +1,7 @@
 use Rattle.std.proofs.Common.{◌≡◌, Some}
 use Rattle.std.specs.List.{AllByRecursion}
 use Rattle.pl_base.specs.declared.expanded.Expanded.{Expanded}
+use Rattle.pl_eval_laws.specs.Marks.{marks_of}
 use Rattle.pl_eval_laws.specs.Trees.{origins_of}
 use Rattle.pl_provenance.specs.Closure.{ArePairsFromClosure}
 use Rattle.pl_provenance.specs.Known.{home_in, IsKnown}
@@ -8,7 +9,8 @@ use Rattle.pl_provenance.specs.Roots.{IsPairThrough, jobs_of}
 use Rattle.pl_provenance.specs.Written.{ArePairsWhereTold}
 use Rattle.pl_provenance.proofs.Closure.{closure}
 use Rattle.pl_provenance.proofs.Given.{given_so}
-use Rattle.pl_provenance.proofs.Known.{known}
+use Rattle.pl_provenance.specs.Texts.{IsSaid}
+use Rattle.pl_provenance.proofs.Known.{known, texts}
 use Rattle.pl_provenance.proofs.Through.{steps_through}
 use Rattle.pl_provenance.proofs.Written.{written}
 use Rattle.pl_provenance.proofs.expansion.expand.Goals as goal
@@ -49,3 +51,11 @@ returns-clause-known g c =
     (origins_of whole.tree))
     c.expand.result _ c.expand.ensures.tree
     (known (g.F.Files.files c.args.files.now) c.args.root.now c.args.arguments.now)
+
+pub returns-clause-texts : goal.returns-clause-texts
+returns-clause-texts g c =
+    given_so
+    (λ (whole : Expanded).
+    AllByRecursion (IsSaid (g.F.Files.files c.args.files.now)) (marks_of whole.tree))
+    c.expand.result _ c.expand.ensures.tree
+    (texts (g.F.Files.files c.args.files.now) c.args.root.now c.args.arguments.now)

@@ -1,0 +1,12 @@
+pub mod Surviving
+pub mod Running
+pub mod Committing
+pub mod Places
+pub mod Standing
+pub mod Apart
+pub mod Meaning
+pub mod Told
+pub mod Queries
+pub mod Arranging
+pub mod Numbering
+pub mod Making

@@ -1,0 +1,15 @@
+//! The rows that the service keeps, in a table of a SQLite database.
+#![tactic(auto)]
+
+mod changes;
+mod faults;
+mod keeper;
+mod looking;
+mod numbers;
+mod opening;
+mod place;
+mod rows;
+mod schema;
+
+pub use keeper::SqlKeeper;
+pub use opening::Unopened;
