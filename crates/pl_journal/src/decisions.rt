@@ -4,6 +4,7 @@ ghost use Rattle.std.specs.Prelude.{◌≡◌, ◌++◌, ◌∷◌, [], IfOk, On
 ghost use Rattle.std.specs.Prelude.{filter_map};
 ghost use Rattle.std.specs.Option.{option_map_or};
 ghost use Rattle.pl_journal.specs.Runs as spec;
+ghost use Rattle.pl_journal.specs.Settings.{by};
 
 use crate::about::Logged;
 use crate::journal::Journal;
@@ -16,6 +17,7 @@ use std::alloc::Global;
 impl Journal {
     /// The decisions about a stage: who decided, and whether it was approved. The latest decision
     /// of each counts, and the latest of these stands in front. Memory alone is an error.
+    #[tactic(auto, using(crate::proofs::Listing::listed_more))]
     pub fn decisions(
         &self,
         alloc: Global,
@@ -32,6 +34,32 @@ impl Journal {
         }
         Ok(told)
     }
+
+    /// Whether somebody approved a stage, by the latest decision.
+    fn verdict(&self, run: u64, stage: u32, name: &Text) -> Option<bool>
+        ensures { result ≡ by spec.verdict_told
+            (spec.decision run stage name.now self.now.facts) }
+    {
+        match self.decision(run, stage, name) {
+            Some(fact) => verdict_told(&fact.event),
+            None => None,
+        }
+    }
+
+    /// Whether a decision is still its approver's.
+    fn still_decided(&self, event: &Event) -> bool
+        ensures { result ≡ spec.still_decided self.now.facts event.now }
+    {
+        match event {
+            Event::DecisionMade {
+                run,
+                stage,
+                approver,
+                approve,
+            } => is_same(self.verdict(*run, *stage, approver), *approve),
+            _ => false,
+        }
+    }
 }
 
 /// Decisions that are still those of their approvers.
@@ -44,27 +72,16 @@ impl Test<Logged> for StillDecided<'_> {
     ghost passes = { λ still fact. spec.still_decided still.journal.now.facts fact.event };
 
     fn passes(&self, logged: &Logged) -> bool {
-        match &logged.fact.event {
-            Event::DecisionMade {
-                run,
-                stage,
-                approver,
-                approve,
-            } => match self.journal.decision(*run, *stage, approver) {
-                Some(now) => is_verdict(&now.event, *approve),
-                None => false,
-            },
-            _ => false,
-        }
+        self.journal.still_decided(&logged.fact.event)
     }
 }
 
-/// Whether a decision is this one.
-fn is_verdict(event: &Event, approve: bool) -> bool
-    ensures { result ≡ option_map_or (λ now. if now then approve else not approve)
-        (spec.verdict_told event.now) false }
+/// Whether a verdict is there, and is this one.
+fn is_same(verdict: Option<bool>, approve: bool) -> bool
+    ensures { result ≡
+        option_map_or (λ now. if now then approve else not approve) verdict false }
 {
-    match verdict_told(event) {
+    match verdict {
         Some(true) => approve,
         Some(false) => !approve,
         None => false,
