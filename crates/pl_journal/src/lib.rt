@@ -3,7 +3,6 @@
 
 mod about;
 mod built_in;
-mod decisions;
 mod journal;
 mod kinds;
 mod looking;
