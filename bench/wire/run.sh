@@ -1,9 +1,9 @@
 #!/bin/sh
 # Counts by callgrind what reading one message of 262,144 bytes of content costs in `pipectl replay`: `pl_wire::asked`, which is
 # all behind the head; of it the copy of a put's content (by how the count grows with the content), and for bodies of JSON
-# `serde_json`'s own reading (`pl_bodies`' value_in: a run with long parameters, one with short ones, capabilities, approvers,
-# patterns). Prints the counts and their ratios. Needs valgrind and python3, and proves the program first where it isn't proved.
-# Not a part of the gate.
+# `serde_json`'s own reading (`pl_bodies`' value_in: a run with long parameters, one with short ones, capabilities, approvers by
+# their numbers, approvers in any order, patterns). Prints the counts and their ratios. Needs valgrind and python3, and proves
+# the program first where it isn't proved. Not a part of the gate.
 set -e
 top=$(cd "$(dirname "$0")/../.." && pwd)
 program=${1:-$top/crates/pipectl/out/pipectl}
@@ -54,6 +54,8 @@ for name, front, make in (
     ("capabilities", "PUT /agents/linux-1", lambda n: {"pool": "Default", "capabilities": {f"cap.{i}": "yes" for i in range(n)}}),
     ("approvers", "PUT /resources/pool/p", lambda n: {"pipelines": "all", "exclusive": False, "checks": [
         {"kind": "approval", "approvers": [f"a{i}" for i in range(n)], "least": 1, "requester": False}]}),
+    ("approvers in any order", "PUT /resources/pool/p", lambda n: {"pipelines": "all", "exclusive": False, "checks": [
+        {"kind": "approval", "approvers": [f"a{i * 7919 % 32749}" for i in range(n)], "least": 1, "requester": False}]}),
     ("patterns", "PUT /resources/pool/p", lambda n: {"pipelines": "all", "exclusive": False, "checks": [
         {"kind": "branch", "patterns": [f"refs/heads/{i}" for i in range(n)]}]}),
 ):

@@ -48,7 +48,8 @@ no_more (member name value more) = Err Bad
 -- each item of a list
 abbrev pub each : {X : Type 0} → Meant X → Items → Result (List X) BodyFault
 each meant no_items = Ok []
-each meant (item value more) = meant value >>= λ first. each meant more >>= λ rest. Ok (first ∷ rest)
+each meant (item value more) =
+    meant value >>= λ first. each meant more >>= λ rest. Ok (first ∷ rest)
 
 abbrev pub list_of : {X : Type 0} → Meant X → Meant (List X)
 list_of meant value = wanted (as_array value) >>= each meant

@@ -1,4 +1,5 @@
--- The bodies of the routes that have one, a definition a route: an object with exactly these fields.
+-- The bodies of the routes that have one, a definition a route: an object with exactly these
+-- fields.
 use Rattle.std.specs.Prelude.{ℕ, Bool, List, codes, Option, Some, None, Result, Ok, Err}
 use Rattle.std.specs.Prelude.{if◌then◌else◌}
 use Rattle.serde_json.specs.Data.{Data, null, boolean, number, string, array, object}

@@ -46,8 +46,7 @@ pub(crate) fn each_named<N: Named>(alloc: Global, members: Members) -> Result<Li
     ensures { Gives result (each_named N.makes (members_view members.entries)) }
 {
     let mut all = List::new(alloc);
-    let mut rest = members;
-    while let Some((name, value)) = rest.pop_first() {
+    for (name, value) in members {
         let text = Text::read(alloc, value)?;
         let item = N::named(Text::from_string(name), text);
         all.push(item)?;

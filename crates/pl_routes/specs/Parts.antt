@@ -7,7 +7,8 @@ use Rattle.percent_encoding.specs.Percent.{percent_decode}
 use Rattle.pl_reading.specs.Answers as answers
 use Rattle.pl_reading.specs.Steps.{◌>>=◌}
 use Rattle.pl_routes.specs.declared.fault.RouteFault.{RouteFault}
-use Rattle.pl_routes.specs.declared.fault.RouteFault.TheVariants.{RouteUnknown, MethodUnknown, Memory}
+use Rattle.pl_routes.specs.declared.fault.RouteFault.TheVariants.{RouteUnknown, MethodUnknown}
+use Rattle.pl_routes.specs.declared.fault.RouteFault.TheVariants.{Memory}
 
 -- the parts as they are spelled
 abbrev pub spelled_parts : List ℕ → List (List ℕ)

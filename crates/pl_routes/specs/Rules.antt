@@ -25,7 +25,8 @@ is_numeral text = nat_lt 0 (length text) && are_digits text
 
 -- the number of a run: 1 to 18 decimal digits, of which the first isn't 0
 unfoldable pub run_said : List ℕ → Result ℕ RouteFault
-run_said text = if is_plain text && is_numeral text then Ok (digits_value 10 text) else Err RouteUnknown
+run_said text =
+    if is_plain text && is_numeral text then Ok (digits_value 10 text) else Err RouteUnknown
 
 abbrev pub is_word : List ℕ → List ℕ → Bool
 is_word word text = pointwise nat_eq text word

@@ -39,7 +39,8 @@ kind_at at parts = said_at at parts >>= kind_said
 abbrev pub run_at : ℕ → List (List ℕ) → Result ℕ RouteFault
 run_at at parts = said_at at parts >>= run_said
 
--- Behind the slash in front stands part 1. Of `/files/{repo}/{ref}/{path}` the repository is part 2.
+-- Behind the slash in front stands part 1. Of `/files/{repo}/{ref}/{path}` the repository is part
+-- 2.
 abbrev pub file_in : List (List ℕ) → Result Target RouteFault
 file_in parts = do
   repo ← repository_at 2 parts

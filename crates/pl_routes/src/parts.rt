@@ -22,8 +22,8 @@ fn cut(alloc: Global, target: &str) -> Result<Vec<&str>, AllocError>
     target.split('/').collect::<Vec<_>>(alloc)
 }
 
-/// What a part says: its escapes are read, and a `%` without two hexadecimal digits stays. RouteUnknown
-/// where the bytes aren't UTF-8.
+/// What a part says: its escapes are read, and a `%` without two hexadecimal digits stays.
+/// RouteUnknown where the bytes aren't UTF-8.
 #[tactic(auto, unfolding(crate::specs::Parts::said))]
 pub fn decoded(alloc: Global, part: &str) -> Result<Text, RouteFault>
     ensures { Gives result (said part.now) }

@@ -21,8 +21,8 @@ fn is_plain(text: &[u8]) -> bool
     }
 }
 
-/// The number of a run, by its text: 1 to 18 decimal digits, of which the first isn't 0. RouteUnknown
-/// where the text is anything else. It takes no memory.
+/// The number of a run, by its text: 1 to 18 decimal digits, of which the first isn't 0.
+/// RouteUnknown where the text is anything else. It takes no memory.
 pub fn run_number(text: &str) -> Result<u64, RouteFault>
     ensures { Gives result (run_said text.now) }
 {
@@ -35,8 +35,8 @@ pub fn run_number(text: &str) -> Result<u64, RouteFault>
     }
 }
 
-/// The kind of a resource, by its word, which is compared exactly. RouteUnknown where the text is none of
-/// the five. It takes no memory.
+/// The kind of a resource, by its word, which is compared exactly. RouteUnknown where the text is
+/// none of the five. It takes no memory.
 pub fn kind_of(text: &str) -> Result<Kind, RouteFault>
     ensures { Gives result (kind_said text.now) }
 {

@@ -207,8 +207,8 @@ fn named_at(alloc: Global, place: Place, parts: &[&str]) -> Result<Target, Route
 /// What a target with this path names. Its parts are cut at the slashes and then decoded: a ref
 /// begins with `refs/` and has at most 128 bytes; a path has a `/` at its front, at most 256 bytes
 /// and no segment that is empty, `.` or `..`; a run is 1 to 18 digits, the first not 0; a kind is
-/// one of five words; a repository has from 1 to 64 bytes, a name from 1 to 100 and a job's label at
-/// least 1, none of them with control characters. RouteUnknown where a part breaks its rule.
+/// one of five words; a repository has from 1 to 64 bytes, a name from 1 to 100 and a job's label
+/// at least 1, none of them with control characters. RouteUnknown where a part breaks its rule.
 pub fn target_of(alloc: Global, place: Place, target: &str) -> Result<Target, RouteFault>
     ensures { Gives result (target_at place target.now) }
 {

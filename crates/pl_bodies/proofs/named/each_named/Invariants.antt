@@ -1,4 +1,4 @@
-use Rattle.std.proofs.Common.{◌≡◌, length}
+use Rattle.std.proofs.Common.{◌≡◌}
 use Rattle.serde_json.specs.View.{members_view}
 use Rattle.pl_bodies.specs.Fields.{each_named}
 use Rattle.pl_bodies.proofs.Steps.{behind}
@@ -7,7 +7,4 @@ use Rattle.pl_bodies.proofs.named.each_named.Given as goal
 abbrev pub invariant-loop-name : goal.invariant-loop-name
 invariant-loop-name g l =
     each_named g.N.Named.makes (members_view l.fn.members.entries) ≡
-    behind l.all (each_named g.N.Named.makes (members_view l.rest.entries))
-
-abbrev pub decreases-loop-name : goal.decreases-loop-name
-decreases-loop-name g l = length l.rest.entries
+    behind l.all (each_named g.N.Named.makes (members_view l.name-iterator))
