@@ -44,6 +44,28 @@ without_view name (e ∷ es) =
 abbrev pub behind : {X : Type 0} → List X → Result (List X) BodyFault → Result (List X) BodyFault
 behind front rest = rest >>= λ more. Ok (front ++ more)
 
+item_behind :
+    {X : Type 0} (front : List X) (item : X) (rest : Result (List X) BodyFault) →
+    behind front (rest >>= λ more. Ok (item ∷ more)) ≡ behind (front ++ item ∷ []) rest
+item_behind front item (Ok more) = ap Ok (sym (append_assoc front (item ∷ []) more))
+item_behind front item (Err fault) = refl
+
+-- one member more of an object of texts
+pub one_named :
+    {X : Type 0} (make : List ℕ → List ℕ → X) (whole : Result (List X) BodyFault)
+    (old new : List X) (here rest : List Entry) (name : String Global) (value : Value)
+    (text : List ℕ) (item : X) → here ≡ (name, value) ∷ rest → text_of (view value) ≡ Ok text →
+    item ≡ make (string_bytes name) text → new ≡ old ++ item ∷ [] →
+    whole ≡ behind old (each_named make (members_view here)) →
+    whole ≡ behind new (each_named make (members_view rest))
+one_named make whole old new here rest name value text item is told made pushed so_far =
+    so_far ∙ ap (λ (es : List Entry). behind old (each_named make (members_view es))) is
+    ∙ ap (λ t. behind old (t >>= λ said. each_named make (members_view rest) >>= λ more.
+    Ok (make (string_bytes name) said ∷ more))) told
+    ∙ item_behind old (make (string_bytes name) text) (each_named make (members_view rest))
+    ∙ ap (λ front. behind front (each_named make (members_view rest)))
+    (sym (pushed ∙ ap (λ one. old ++ one ∷ []) made))
+
 -- ---- no member is left
 
 pub none_left : (es : List Entry) → length es ≡ 0 → no_more (members_view es) ≡ Ok tt
