@@ -7,6 +7,11 @@ use Rattle.pl_facts.specs.declared.fact.Event.TheVariants as event
 use Rattle.pl_journal.specs.declared.kinds.What.{What}
 use Rattle.pl_journal.specs.declared.kinds.What.TheVariants as what
 
+abbrev pub is_file_change : Event → Bool
+is_file_change (event.FilePut file) = true
+is_file_change (event.FileRemoved key) = true
+is_file_change _ = false
+
 abbrev pub is_queueing : Event → Bool
 is_queueing (event.RunQueued told) = true
 is_queueing _ = false

@@ -1,8 +1,7 @@
 -- Runs, their stages and their jobs: the latest fact counts.
-use Rattle.std.specs.Prelude.{ℕ, Bool, true, false, List, Option, Some, None}
-use Rattle.std.specs.Prelude.{is_some}
-use Rattle.std.specs.Prelude.{is_none, if◌then◌else◌}
-use Rattle.std.specs.Option.{option_or, option_and_then, option_map}
+use Rattle.std.specs.Prelude.{ℕ, Bool, false, List, Option, Some, None, is_none, is_some}
+use Rattle.std.specs.Prelude.{if◌then◌else◌}
+use Rattle.std.specs.Option.{option_or, option_and_then}
 use Rattle.pl_base.specs.declared.outcome.Outcome.{Outcome}
 use Rattle.pl_facts.specs.declared.fact.Event.{Event}
 use Rattle.pl_facts.specs.declared.fact.Event.TheVariants as event
@@ -13,8 +12,7 @@ use Rattle.pl_journal.specs.About.{latest_also, latest_of}
 use Rattle.pl_journal.specs.Kinds.{is_queueing, is_canceling, is_start, is_stage_end}
 use Rattle.pl_journal.specs.Kinds.{is_decision_by, is_taking, is_job_end}
 use Rattle.pl_journal.specs.Settings.{by}
-use Rattle.pl_log.specs.Keys.{Run, Stage, Job, Taker, Queue}
-use Rattle.pl_log.specs.Latest.{latest}
+use Rattle.pl_log.specs.Keys.{Run, Stage, Job, Taker}
 
 -- ---- what one fact tells
 
@@ -44,6 +42,11 @@ outputs_told _ = None
 abbrev pub taker_told : Event → Option (List ℕ)
 taker_told (event.JobTaken run stage job agent) = Some agent
 taker_told _ = None
+
+-- whether the stage was approved
+abbrev pub verdict_told : Event → Option Bool
+verdict_told (event.DecisionMade run stage approver approve) = Some approve
+verdict_told _ = None
 
 -- ---- runs and stages: the facts that count
 
@@ -96,11 +99,6 @@ held_by agent facts =
     option_and_then (λ fact. if still_runs facts fact.event then Some fact else None)
     (latest_also (Taker agent) facts)
 
--- ---- numbers
-
-abbrev pub last_moment : List Fact → Option ℕ
-last_moment facts = option_map (λ fact. fact.moment) (latest (λ _. true) facts)
-
--- the number of the run that was queued last
-abbrev pub last_run : List Fact → Option ℕ
-last_run facts = by number_told (latest_also Queue facts)
+-- the outputs of a job that ended by itself
+abbrev pub outputs : ℕ → ℕ → ℕ → List Fact → Option (List (List ℕ × List ℕ))
+outputs run stage job facts = by outputs_told (job_ending run stage job facts)

@@ -1,7 +1,7 @@
 //! Kinds of facts, as tests.
 
-ghost use Rattle.std.specs.Prelude.{◌≡◌};
-ghost use Rattle.pl_journal.specs.Kinds.{is_of};
+ghost use Rattle.std.specs.Prelude.{◌≡◌, if◌then◌else◌};
+ghost use Rattle.pl_journal.specs.Kinds.{is_file_change, is_of};
 
 use crate::about::Logged;
 use pl_base::Text;
@@ -31,11 +31,23 @@ impl Test<Logged> for What<'_> {
             (What::Start, Event::StageStarted { .. }) => true,
             (What::StageEnd, Event::StageEnded { .. }) => true,
             (What::DecisionBy(name), Event::DecisionMade { approver, .. }) => {
+                let approver: &Text = approver;
                 approver.cmp(name).is_eq()
             }
             (What::Taking, Event::JobTaken { .. }) => true,
             (What::JobEnd, Event::JobEnded { .. }) => true,
             _ => false,
         }
+    }
+}
+
+/// How often a file changed by a fact: once where it was put or removed.
+pub(crate) fn file_changes(event: &Event) -> u64
+    ensures { result ≡ (if is_file_change event.now then 1 else 0) }
+{
+    match event {
+        Event::FilePut(_) => 1,
+        Event::FileRemoved(_) => 1,
+        _ => 0,
     }
 }

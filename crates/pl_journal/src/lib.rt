@@ -6,9 +6,10 @@ mod built_in;
 mod journal;
 mod kinds;
 mod looking;
+mod numbers;
 mod runs;
 mod settings;
 mod told;
 
-pub use journal::Journal;
-pub use told::{outcome_told, outputs_told, rule_told, taker_told};
+pub use journal::{Journal, Numbers};
+pub use told::{outcome_told, outputs_told, rule_told, taker_told, verdict_told};

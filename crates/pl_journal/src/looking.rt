@@ -1,6 +1,6 @@
-//! The latest fact about a key.
+//! The fact at a place, and the latest fact about a key.
 
-ghost use Rattle.std.specs.Prelude.{◌≡◌};
+ghost use Rattle.std.specs.Prelude.{◌≡◌, slice_get};
 ghost use Rattle.std.specs.Option.{option_copied};
 ghost use Rattle.pl_log.specs.Keys.{second_seen, seen};
 ghost use Rattle.pl_journal.specs.About.{latest_about, latest_also, latest_of};
@@ -13,6 +13,13 @@ use pl_facts::Fact;
 use pl_log::{Key, SecondKey};
 
 impl Journal {
+    /// The fact at a place from 0, or None where there are no more facts than that.
+    pub fn fact(&self, at: usize) -> Option<&Fact>
+        ensures { option_copied result ≡ slice_get self.now.facts at }
+    {
+        fact_of(self.log.get(at))
+    }
+
     /// The latest fact about a key.
     pub(crate) fn latest(&self, key: Key<'_>) -> Option<&Fact>
         ensures { option_copied result ≡ latest_about (seen key.entry) self.now.facts }

@@ -7,9 +7,8 @@ ghost use Rattle.pl_journal.specs.Settings.{by};
 
 use crate::journal::Journal;
 use crate::kinds::What;
-use crate::looking::fact_of;
-use crate::told::run_told;
-use pl_base::{Moment, Text};
+use crate::told::{outputs_told, run_told};
+use pl_base::{List, Shared, Text};
 use pl_facts::{Event, Fact, QueuedRun};
 use pl_log::{Key, SecondKey};
 
@@ -131,25 +130,14 @@ impl Journal {
         }
     }
 
-    /// The number of the run that was queued last, or None where none was.
-    pub fn last_run(&self) -> Option<u64>
-        ensures { result ≡ spec.last_run self.now.facts }
+    /// The outputs of a job that ended by its own end, each by its key: those of a leg are its own.
+    /// None where the job hasn't ended, or ended with its stage, which was never started.
+    pub fn outputs(&self, run: u64, stage: u32, job: u32) -> Option<&Shared<List<(Text, Text)>>>
+        ensures { option_copied result ≡ spec.outputs run stage job self.now.facts }
     {
-        match self.latest_also(SecondKey::Queue) {
-            Some(fact) => match run_told(&fact.event) {
-                Some(queued) => Some(queued.run),
-                None => None,
-            },
-            None => None,
-        }
-    }
-
-    /// The moment of the last fact, or None where there is none.
-    pub fn last_moment(&self) -> Option<Moment>
-        ensures { result ≡ spec.last_moment self.now.facts }
-    {
-        match fact_of(self.log.last()) {
-            Some(fact) => Some(fact.moment),
+        let ending = self.job_ending(run, stage, job);
+        match ending {
+            Some(fact) => outputs_told(&fact.event),
             None => None,
         }
     }

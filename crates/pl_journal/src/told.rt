@@ -70,6 +70,16 @@ pub(crate) fn run_told(event: &Event) -> Option<&QueuedRun>
     }
 }
 
+/// Whether a stage was approved.
+pub fn verdict_told(event: &Event) -> Option<bool>
+    ensures { result ≡ runs.verdict_told event.now }
+{
+    match event {
+        Event::DecisionMade { approve, .. } => Some(*approve),
+        _ => None,
+    }
+}
+
 /// How a stage or a job ended.
 pub fn outcome_told(event: &Event) -> Option<Outcome>
     ensures { result ≡ runs.outcome_told event.now }
