@@ -63,8 +63,9 @@ fn a_run_with_a_job_that_timed_out(rt: HostRuntime) -> Result<(), Fail> {
     let alloc = rt.alloc();
     let json = run_object(alloc, &queued(alloc, 3)?, &status(alloc)?)?;
     let wanted = "{\"canceled\":false,\"pipeline\":\"text\",\"ref\":\"refs/heads/text\",\
-        \"requester\":\"admin\",\"run\":3,\"stages\":[{\"jobs\":[{\"agent\":\"mac\",\"job\":\"Job\",\
-        \"result\":\"Canceled\",\"rule\":{\"rule\":\"job.timeout\"},\"state\":\"ended\"}],\
+        \"requester\":\"admin\",\"run\":3,\"stages\":[{\"jobs\":[{\"agent\":\"mac\",\
+        \"job\":\"Job\",\"result\":\"Canceled\",\
+        \"rule\":{\"rule\":\"job.timeout\"},\"state\":\"ended\"}],\
         \"name\":\"__default\",\"result\":null,\"rule\":null,\"state\":\"running\"}]}";
     assert_eq!(rt; spelled(alloc, &json)?.as_str(), wanted);
     Ok(())

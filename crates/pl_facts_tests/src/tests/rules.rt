@@ -74,8 +74,8 @@ fn a_pipeline_that_does_not_compile(rt: HostRuntime) -> Result<(), Fail> {
     let refused = Rule::CompileRefused {
         refusal: cycle(alloc)?,
     };
-    let wanted =
-        "{\"at\":{\"col\":3,\"line\":2,\"path\":\"/ci.yml\",\"ref\":\"refs/heads/main\",\"repo\":\"app\"},\
+    let wanted = "{\"at\":{\"col\":3,\"line\":2,\"path\":\"/ci.yml\",\
+        \"ref\":\"refs/heads/main\",\"repo\":\"app\"},\
         \"code\":\"L2\",\"detail\":[\"A\",\"C\",\"B\"],\"rule\":\"compile.refused\"}";
     assert_eq!(rt; told(alloc, &refused)?.as_str(), wanted);
     Ok(())
