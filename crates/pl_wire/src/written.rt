@@ -105,11 +105,11 @@ fn with_content(alloc: Global, status: u16, kind: &str, content: &[u8]) -> Resul
 }
 
 /// Puts a front in the place of as many first bytes.
-fn put_over(bytes: &mut [u8], front: &[u8])
-    requires { length front.now ≤ length bytes.old }
-    ensures { bytes.new ≡ front.now ++ drop (length front.now) bytes.old }
+fn put_over(bytes: &mut Vec<u8>, front: &[u8])
+    requires { length front.now ≤ length bytes.old.items }
+    ensures { bytes.new.items ≡ front.now ++ drop (length front.now) bytes.old.items }
 {
-    let (first, _) = bytes.split_at_mut(front.len());
+    let (first, _) = bytes.as_mut_slice().split_at_mut(front.len());
     first.copy_from_slice(front);
 }
 
@@ -125,7 +125,7 @@ fn with_json(alloc: Global, status: u16, value: &Json) -> Result<Bytes, Memory>
     let mut bytes = spelled_behind(likely.into_bytes(), value)?;
     let front = front_text(alloc, status, "application/json", bytes.len() - at)?;
     if front.len() == at {
-        put_over(bytes.as_mut_slice(), front.as_bytes());
+        put_over(&mut bytes, front.as_bytes());
         return Ok(List::from_vec(bytes));
     }
     drop(bytes);
