@@ -1,2 +1,2 @@
+pub mod Beside
 pub mod Gathered
-pub mod Zipped
