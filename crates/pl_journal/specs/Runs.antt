@@ -1,5 +1,5 @@
 -- Runs, their stages and their jobs: the latest fact counts.
-use Rattle.std.specs.Prelude.{ℕ, Bool, false, not, ◌&&◌, List, filter_map, Option, Some, None}
+use Rattle.std.specs.Prelude.{ℕ, Bool, false, not, ◌&&◌, List, [], ◌∷◌, flat_map, Option, Some, None}
 use Rattle.std.specs.Prelude.{is_none, is_some, if◌then◌else◌}
 use Rattle.std.specs.Option.{option_or, option_and_then, option_map_or}
 use Rattle.pl_base.specs.declared.outcome.Outcome.{Outcome}
@@ -44,14 +44,15 @@ abbrev pub taker_told : Event → Option (List ℕ)
 taker_told (event.JobTaken run stage job agent) = Some agent
 taker_told _ = None
 
--- whether the stage was approved, and by whom
+-- whether the stage was approved
 abbrev pub verdict_told : Event → Option Bool
 verdict_told (event.DecisionMade run stage approver approve) = Some approve
 verdict_told _ = None
 
-abbrev pub decision_told : Event → Option (List ℕ × Bool)
-decision_told (event.DecisionMade run stage approver approve) = Some (approver, approve)
-decision_told _ = None
+-- who decided, and whether it was approved; another fact tells nothing of that
+abbrev pub decided : Event → List (List ℕ × Bool)
+decided (event.DecisionMade run stage approver approve) = (approver, approve) ∷ []
+decided _ = []
 
 -- ---- runs and stages: the facts that count
 
@@ -81,7 +82,7 @@ still_decided facts _ = false
 -- who decided about a stage, and whether it was approved: the latest decision of each counts, and
 -- the latest of these stands in front
 abbrev pub decisions : ℕ → ℕ → List Fact → List (List ℕ × Bool)
-decisions run stage facts = filter_map (λ fact. decision_told fact.event)
+decisions run stage facts = flat_map (λ fact. decided fact.event)
     (latest_first (λ fact. is_about (Stage run stage) fact && still_decided facts fact.event)
     facts)
 

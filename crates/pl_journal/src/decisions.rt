@@ -1,7 +1,6 @@
 //! Decisions about stages.
 
-ghost use Rattle.std.specs.Prelude.{◌≡◌, ◌++◌, ◌∷◌, [], IfOk, OnOk, false, not, if◌then◌else◌};
-ghost use Rattle.std.specs.Prelude.{filter_map};
+ghost use Rattle.std.specs.Prelude.{◌≡◌, ◌++◌, IfOk, OnOk, false, not, if◌then◌else◌};
 ghost use Rattle.std.specs.Option.{option_map_or};
 ghost use Rattle.pl_journal.specs.Runs as spec;
 ghost use Rattle.pl_journal.specs.Settings.{by};
@@ -17,7 +16,7 @@ use std::alloc::Global;
 impl Journal {
     /// The decisions about a stage: who decided, and whether it was approved. The latest decision
     /// of each counts, and the latest of these stands in front. Memory alone is an error.
-    #[tactic(auto, using(crate::proofs::Listing::listed_more))]
+    #[tactic(auto, using(crate::proofs::Listing::listed_through))]
     pub fn decisions(
         &self,
         alloc: Global,
@@ -90,8 +89,7 @@ fn is_same(verdict: Option<bool>, approve: bool) -> bool
 
 /// Puts a decision behind the others. What is left after Memory isn't told.
 fn add_decision(alloc: Global, told: &mut List<(Text, bool)>, event: &Event) -> Result<(), Memory>
-    ensures { OnOk result (told.new ≡
-        told.old ++ filter_map spec.decision_told (event.now ∷ [])) }
+    ensures { OnOk result (told.new ≡ told.old ++ spec.decided event.now) }
 {
     match event {
         Event::DecisionMade {
