@@ -1,6 +1,6 @@
 -- Runs, their stages and their jobs: the latest fact counts.
-use Rattle.std.specs.Prelude.{ℕ, Bool, false, not, ◌&&◌, List, [], ◌∷◌, flat_map, Option, Some, None}
-use Rattle.std.specs.Prelude.{is_none, is_some, if◌then◌else◌}
+use Rattle.std.specs.Prelude.{ℕ, Bool, false, not, ◌&&◌, List, [], ◌∷◌, flat_map}
+use Rattle.std.specs.Prelude.{Option, Some, None, is_none, is_some, if◌then◌else◌}
 use Rattle.std.specs.Option.{option_or, option_and_then, option_map_or}
 use Rattle.pl_base.specs.declared.outcome.Outcome.{Outcome}
 use Rattle.pl_facts.specs.declared.fact.Event.{Event}
