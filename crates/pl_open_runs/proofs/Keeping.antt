@@ -1,7 +1,9 @@
 -- The index stays one.
-use Rattle.std.proofs.Common.{◌≡◌, ℕ, ◌+◌, ◌<◌, ◌≤◌, ◌==◌, Bool, true, false, not, List, [], ◌∷◌, ◌++◌}
-use Rattle.std.proofs.Common.{length, take, min, filter, All, Option, None, Some, refl, sym, ap, ◌∙◌}
-use Rattle.std.proofs.Common.{subst, arith, inl, inr}
+use Rattle.std.proofs.Common.{◌≡◌, ℕ, ◌+◌, ◌<◌, ◌≤◌, ◌==◌, Bool, true, false, not, List, [], ◌∷◌}
+use Rattle.std.proofs.Common.{◌++◌}
+use Rattle.std.proofs.Common.{length, take, min, filter, All, Option, None, Some, refl, sym, ap}
+use Rattle.std.proofs.Common.{◌∙◌}
+use Rattle.std.proofs.Common.{subst, arith, inl, inr, ⊎_elim}
 use Rattle.std.specs.BTreeSet.{insert_key}
 use Rattle.std.specs.FinMap.{nat_cmp-IsAntisymmetric}
 use Rattle.std.specs.Ordering.{nat_cmp}
@@ -13,7 +15,7 @@ use Rattle.std.proofs.lemmas.Map.Views.{exact_unsigned_eq}
 use Rattle.std.proofs.lemmas.Option.{none-some, same_Some}
 use Rattle.pl_base.specs.declared.digest.Digest.{Digest}
 use Rattle.pl_facts.specs.declared.fact.Fact.{Fact}
-use Rattle.pl_journal.specs.Log.{Log}
+use Rattle.pl_journal.specs.Log.{Log, Opening, empty}
 use Rattle.pl_journal.specs.Runs.{number_told}
 use Rattle.pl_open_runs.specs.Index.{Ascends, Covers, HasFewStages, IsIndex, ended_told, has}
 use Rattle.pl_open_runs.specs.Open.{is_open, open_runs}
@@ -99,19 +101,19 @@ index_queued journal fact known runs run index queued few =
 -- whatever is open now is known, and where it was open before
 else_covers : (journal : Log) (fact : Fact) (known runs : List ℕ) → IsIndex journal known runs →
     ((run : ℕ) → number_told fact.event ≡ Some run → ⊥) → Covers known (journal.facts ++ fact ∷ [])
-else_covers journal fact known runs index no =
-    λ one is. index.covers one (open_before journal.facts fact one (no one) is)
+else_covers journal fact known runs index never =
+    λ one is. index.covers one (open_before journal.facts fact one (never one) is)
 
 -- the open runs are these, where the fact queues none
 pub index_else : (journal : Log) (fact : Fact) (known runs others : List ℕ) →
     IsIndex journal known runs → ((run : ℕ) → number_told fact.event ≡ Some run → ⊥) →
     others ≡ open_runs (journal.facts ++ fact ∷ []) → IsIndex (pushed journal fact) known others
-index_else journal fact known runs others index no are = record {
-  few = All-push HasFewStages journal.facts fact index.few (few_else fact no);
+index_else journal fact known runs others index never are = record {
+  few = All-push HasFewStages journal.facts fact index.few (few_else fact never);
   within = pushed_within journal fact index.within;
   runs_are = are;
   ascends = index.ascends;
-  covers = else_covers journal fact known runs index no;
+  covers = else_covers journal fact known runs index never;
   covers_installed = pushed_covers journal fact known index.within index.covers_installed;
 }
 
@@ -133,32 +135,32 @@ pub index_other : (journal : Log) (fact : Fact) (known runs : List ℕ) →
     IsIndex journal known runs → number_told fact.event ≡ None → ended_told fact.event ≡ None →
     IsIndex (pushed journal fact) known runs
 index_other journal fact known runs index queued ended =
-    let no : (run : ℕ) → number_told fact.event ≡ Some run → ⊥ =
+    let never : (run : ℕ) → number_told fact.event ≡ Some run → ⊥ =
     λ run h. none-some run (sym queued ∙ h) in
-    index_else journal fact known runs runs index no
+    index_else journal fact known runs runs index never
     (are_open_runs (journal.facts ++ fact ∷ []) runs (runs_in_order journal known runs index)
-    (λ run h. open_same journal.facts fact run (no run) (λ g. none-some run (sym ended ∙ g))
+    (λ run h. open_same journal.facts fact run (never run) (λ g. none-some run (sym ended ∙ g))
     ∙ was_open journal known runs index run h)
     (λ run is. was_among journal known runs index run
-    (open_before journal.facts fact run (no run) is)))
+    (open_before journal.facts fact run (never run) is)))
 
 -- a run that is still open
 pub index_still : (journal : Log) (fact : Fact) (known runs : List ℕ) (run : ℕ) →
     IsIndex journal known runs → ended_told fact.event ≡ Some run →
     is_open run (journal.facts ++ fact ∷ []) ≡ true → IsIndex (pushed journal fact) known runs
 index_still journal fact known runs run index ended still =
-    let no : (one : ℕ) → number_told fact.event ≡ Some one → ⊥ =
+    let never : (one : ℕ) → number_told fact.event ≡ Some one → ⊥ =
     λ one h. not_both fact.event one run h ended in
-    index_else journal fact known runs runs index no
+    index_else journal fact known runs runs index never
     (are_open_runs (journal.facts ++ fact ∷ []) runs (runs_in_order journal known runs index)
     (λ one h. ⊎_elim
     (λ e. subst (λ n. is_open n (journal.facts ++ fact ∷ []) ≡ true) e still)
-    (λ apart. open_same journal.facts fact one (no one)
+    (λ apart. open_same journal.facts fact one (never one)
     (λ g. apart (same_Some run one (sym ended ∙ g)))
     ∙ was_open journal known runs index one h)
     (cases_eq run one))
     (λ one is. was_among journal known runs index one
-    (open_before journal.facts fact one (no one) is)))
+    (open_before journal.facts fact one (never one) is)))
 
 -- a run that isn't open any more
 pub index_ended : (journal : Log) (fact : Fact) (known runs : List ℕ) (run : ℕ) →
@@ -166,23 +168,24 @@ pub index_ended : (journal : Log) (fact : Fact) (known runs : List ℕ) (run : �
     is_open run (journal.facts ++ fact ∷ []) ≡ false →
     IsIndex (pushed journal fact) known (filter (λ one. not (one == run)) runs)
 index_ended journal fact known runs run index ended over =
-    let no : (one : ℕ) → number_told fact.event ≡ Some one → ⊥ =
+    let never : (one : ℕ) → number_told fact.event ≡ Some one → ⊥ =
     λ one h. not_both fact.event one run h ended in
     let test : ℕ → Bool = λ one. not (one == run) in
-    index_else journal fact known runs (filter test runs) index no
+    index_else journal fact known runs (filter test runs) index never
     (are_open_runs (journal.facts ++ fact ∷ []) (filter test runs)
     (in_order_filter test runs (runs_in_order journal known runs index))
     (λ one h. let kept = among_filter test runs one h in
-    open_same journal.facts fact one (no one)
+    open_same journal.facts fact one (never one)
     (λ g. differs one run kept.0 (sym (same_Some run one (sym ended ∙ g))))
     ∙ was_open journal known runs index one kept.1)
     (λ one is. among_kept test runs one
     (passes one run (λ e. true≢false (sym is ∙ ap (λ n. is_open n (journal.facts ++ fact ∷ [])) e
     ∙ over)))
-    (was_among journal known runs index one (open_before journal.facts fact one (no one) is))))
+    (was_among journal known runs index one (open_before journal.facts fact one (never one) is))))
   where
     differs : (one other : ℕ) → not (one == other) ≡ true → one ≡ other → ⊥
     differs one other h e = grind arith
+
     passes : (one other : ℕ) → (one ≡ other → ⊥) → not (one == other) ≡ true
     passes one other apart = grind arith
 
@@ -216,9 +219,11 @@ index_stays journal known runs index long =
     (omega (arith, long, length-take journal.installed journal.facts)) in
     subst (λ facts. IsIndex (record journal { facts = facts }) known runs) (sym all) index
 
-pub index_installed : (journal : Log) (known runs : List ℕ) → IsIndex journal known runs →
-    IsIndex (record journal { installed = length journal.facts }) runs runs
-index_installed journal known runs index =
+-- whatever the numbers of the opening become
+pub index_installed : (journal : Log) (opening : Opening) (known runs : List ℕ) →
+    IsIndex journal known runs →
+    IsIndex (record journal { opening = opening; installed = length journal.facts }) runs runs
+index_installed journal opening known runs index =
     let covers : Covers runs journal.facts =
     λ run is. has_of runs run (was_among journal known runs index run is) in
     record {
@@ -242,7 +247,7 @@ fewer_open journal known runs index =
     omega (arith, are, length-filter_both test (λ run. not (test run)) (λ _. refl) known)
 
 pub index_new : (admin : Digest) →
-    IsIndex (record { admin = admin; facts = []; installed = 0 }) [] []
+    IsIndex (empty admin) [] []
 index_new admin = record {
   few = All-nil HasFewStages;
   within = omega arith;
@@ -251,3 +256,30 @@ index_new admin = record {
   covers = λ run is. absurd (true≢false (sym is));
   covers_installed = λ run is. absurd (true≢false (sym is));
 }
+
+-- ---- as functions tell it
+
+pub index_at : (journal new : Log) (known known' runs runs' : List ℕ) → new ≡ journal →
+    known' ≡ known → runs' ≡ runs → IsIndex journal known runs → IsIndex new known' runs'
+index_at journal new known known' runs runs' same same_known same_runs index =
+    subst (λ (all : Log × List ℕ × List ℕ). IsIndex all.0 all.1 all.2)
+    (λ i. (sym same i, sym same_known i, sym same_runs i)) index
+
+-- a run was queued, and all known ones were looked at
+pub after_queued : (journal new : Log) (fact : Fact) (known known' runs runs' : List ℕ) (run : ℕ) →
+    IsIndex journal known runs → number_told fact.event ≡ Some run → HasFewStages fact →
+    new ≡ pushed journal fact → known' ≡ insert_key nat_cmp known run →
+    runs' ≡ filter (λ one. is_open one new.facts) known' → IsIndex new known' runs'
+after_queued journal new fact known known' runs runs' run index queued few is known_is runs_are =
+    index_at (pushed journal fact) new (insert_key nat_cmp known run) known'
+    (filter (λ one. is_open one (journal.facts ++ fact ∷ [])) (insert_key nat_cmp known run)) runs'
+    is known_is (runs_are ∙ (λ i. filter (λ one. is_open one (is i).facts) (known_is i)))
+    (index_queued journal fact known runs run index queued few)
+
+-- a run is known more, and nothing else changed
+pub after_known : (journal new : Log) (known known' runs runs' : List ℕ) (run : ℕ) →
+    IsIndex journal known runs → new ≡ journal → known' ≡ insert_key nat_cmp known run →
+    runs' ≡ runs → IsIndex new known' runs'
+after_known journal new known known' runs runs' run index is known_is runs_are =
+    index_at journal new (insert_key nat_cmp known run) known' runs runs' is known_is runs_are
+    (index_known journal known runs run index)

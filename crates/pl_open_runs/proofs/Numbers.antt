@@ -1,16 +1,21 @@
 -- Numbers in order, each once.
-use Rattle.std.proofs.Common.{◌≡◌, ℕ, zero, suc, ◌+◌, ◌<◌, ◌≤◌, ◌==◌, ◌||◌, Bool, true, false, not, ◌⊎◌, inl, inr}
-use Rattle.std.proofs.Common.{List, [], ◌∷◌, ◌++◌, length, get_or, take, drop, filter, insert, refl, sym}
-use Rattle.std.proofs.Common.{ap, ◌∙◌, subst, arith, cond}
+use Rattle.std.proofs.Common.{◌≡◌, ℕ, zero, suc, ◌+◌, ◌<◌, ◌≤◌, ◌==◌, ◌||◌, Bool, true, false, not}
+use Rattle.std.proofs.Common.{◌⊎◌, inl, inr}
+use Rattle.std.proofs.Common.{List, [], ◌∷◌, ◌++◌, length, get_or, take, drop, filter, insert, refl}
+use Rattle.std.proofs.Common.{sym}
+use Rattle.std.proofs.Common.{ap, ◌∙◌, subst, arith, cond, Result, Ok, Err}
+use Rattle.std.proofs.Common.{MatchResult, ⊎_elim}
 use Rattle.std.specs.BTreeSet.{insert_key}
 use Rattle.std.specs.Cmp.{nat_cmp_is, nat_cmp_total}
 use Rattle.std.specs.FinMap.{nat_cmp-IsAntisymmetric}
 use Rattle.std.specs.List.{AllPairs, list_any}
+use Rattle.std.specs.List.Sorted.{IsBinarySearchResult}
 use Rattle.std.specs.Ordering.{match_ordering, nat_cmp}
 use Rattle.std.specs.declared.cmp.Ordering.{Ordering}
 use Rattle.std.specs.declared.cmp.Ordering.TheVariants.{Less, Equal, Greater}
-use Rattle.std.proofs.lemmas.Bool.{true≢false}
+use Rattle.std.proofs.lemmas.Bool.{cases_eq, true≢false}
 use Rattle.std.proofs.lemmas.List.Kept.{AllPairs-filter}
+use Rattle.std.proofs.lemmas.List.Sorted.{searched}
 use Rattle.std.proofs.lemmas.Map.Views.{exact_unsigned_eq}
 use Rattle.pl_open_runs.specs.Index.{Ascends, has}
 use Rattle.pl_open_runs.specs.Open.{in_order}
@@ -159,3 +164,22 @@ put_there (x ∷ xs) k (suc i) up within is =
     (omega arith)) in
     insert_by x k xs Greater (greater k x under)
     ∙ ap (λ l. x ∷ l) (put_there xs k i up.1 (omega arith) is)
+
+rises : (xs : List ℕ) → Ascends xs → (i j : ℕ) → i ≤ j → j < length xs →
+    get_or xs i 0 ≤ get_or xs j 0
+rises xs up i j le within = ⊎_elim
+    (λ e. omega (arith, ap (λ n. get_or xs n 0) e))
+    (λ apart. omega (arith, up i j 0 (omega arith) within))
+    (cases_eq i j)
+
+-- what a search tells of the place of a number
+pub put_found : (xs : List ℕ) (k : ℕ) (r : Result ℕ ℕ) → Ascends xs →
+    IsBinarySearchResult (λ y. nat_cmp y k) xs r →
+    MatchResult r (λ i. insert_key nat_cmp xs k ≡ xs)
+    (λ i. (i ≤ length xs) × (insert xs i k ≡ insert_key nat_cmp xs k))
+put_found xs k (Ok i) up h =
+    let found = searched xs k (Ok i) h (rises xs up) in
+    put_there xs k i (in_order_of xs up) found.0 found.1
+put_found xs k (Err i) up h =
+    let absent = searched xs k (Err i) h (rises xs up) in
+    (absent.0, put_at xs k i absent.0 absent.1 absent.2)

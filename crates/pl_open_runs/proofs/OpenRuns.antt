@@ -1,6 +1,8 @@
 -- What is known of the open runs: they ascend, and they are those that are open.
-use Rattle.std.proofs.Common.{◌≡◌, ℕ, Bool, true, false, List, [], ◌∷◌, filter, filter_map, Option}
-use Rattle.std.proofs.Common.{None, Some, is_some, if◌then◌else◌, refl, sym, ap, ◌∙◌, subst, inl, inr}
+use Rattle.std.proofs.Common.{◌≡◌, ℕ, Bool, true, false, ◌&&◌, List, [], ◌∷◌, length, filter}
+use Rattle.std.proofs.Common.{filter_map}
+use Rattle.std.proofs.Common.{Option, None, Some, is_some, if◌then◌else◌, refl, sym, ap, ◌∙◌, subst}
+use Rattle.std.proofs.Common.{inl, inr}
 use Rattle.std.specs.Cmp.{nat_cmp_total}
 use Rattle.std.specs.List.{cons_option, list_any}
 use Rattle.std.specs.Option.{option_map_or, option_or}
@@ -19,7 +21,8 @@ use Rattle.pl_log.proofs.Naming.{exact_key}
 use Rattle.pl_open_runs.specs.Index.{Ascends, Covers, has}
 use Rattle.pl_open_runs.specs.Open.{has_open_stage, is_open, open_runs, queued_runs}
 use Rattle.pl_open_runs.proofs.Numbers.{InOrder, among_all, among_filter, among_kept, among_of}
-use Rattle.pl_open_runs.proofs.Numbers.{ascends_of, has_of, in_order_all, in_order_filter, in_order_of}
+use Rattle.pl_open_runs.proofs.Numbers.{ascends_of, has_of, in_order_all, in_order_filter}
+use Rattle.pl_open_runs.proofs.Numbers.{in_order_of}
 use Rattle.pl_plan.proofs.Members.{Among, one_list}
 
 -- the run that a key names
@@ -63,7 +66,8 @@ queued_among : (facts : List Fact) (run : ℕ) → is_some (queueing run facts) 
     Among (numbers facts) run
 queued_among [] run h = absurd (true≢false (sym h))
 queued_among (fact ∷ later) run h =
-    queued_by fact later run (queueing run later) (is_about (Run run) fact && is_queueing fact.event)
+    queued_by fact later run (queueing run later)
+    (is_about (Run run) fact && is_queueing fact.event)
     (queued_among later run)
     (λ is. let both = both_true (is_about (Run run) fact) (is_queueing fact.event) is in
     number_of fact.event run both.0 both.1) h

@@ -1,5 +1,6 @@
 -- Which runs are open after one more fact.
-use Rattle.std.proofs.Common.{◌≡◌, ℕ, Bool, true, false, ◌&&◌, ◌||◌, List, [], ◌∷◌, ◌++◌, length, cond}
+use Rattle.std.proofs.Common.{◌≡◌, ℕ, Bool, true, false, ◌&&◌, ◌||◌, List, [], ◌∷◌, ◌++◌, length}
+use Rattle.std.proofs.Common.{cond}
 use Rattle.std.proofs.Common.{Option, None, Some, is_none, refl, sym, ap, ◌∙◌}
 use Rattle.std.specs.List.{list_any, range_with_len}
 use Rattle.std.specs.Option.{option_map_or}
@@ -34,8 +35,9 @@ not_both (event.RunQueued queued) run one is other = none-some one other
 not_both _ run one is other = none-some run is
 
 -- what queues no run
-pub few_else : (fact : Fact) → ((run : ℕ) → number_told fact.event ≡ Some run → ⊥) → HasFewStages fact
-few_else fact no = λ queued is. absurd (no queued.run (told fact.event queued is))
+pub few_else : (fact : Fact) → ((run : ℕ) → number_told fact.event ≡ Some run → ⊥) →
+    HasFewStages fact
+few_else fact never = λ queued is. absurd (never queued.run (told fact.event queued is))
   where
     told : (e : Event) (queued : QueuedRun) → run_told e ≡ Some queued →
         number_told e ≡ Some queued.run
@@ -46,27 +48,27 @@ few_else fact no = λ queued is. absurd (no queued.run (told fact.event queued i
 -- ---- one fact more
 
 both_by : (b c : Bool) → (b ≡ true → c ≡ true → ⊥) → (b && c) ≡ false
-both_by true true no = absurd (no refl refl)
-both_by true false no = refl
-both_by false c no = refl
+both_by true true never = absurd (never refl refl)
+both_by true false never = refl
+both_by false c never = refl
 
 queueing_same : (facts : List Fact) (fact : Fact) (run : ℕ) →
     (number_told fact.event ≡ Some run → ⊥) →
     queueing run (facts ++ fact ∷ []) ≡ queueing run facts
-queueing_same facts fact run no =
+queueing_same facts fact run never =
     latest_push (λ one. is_about (Run run) one && is_queueing one.event) facts fact
     ∙ ap (λ b. cond b (Some fact) (queueing run facts))
     (both_by (is_about (Run run) fact) (is_queueing fact.event)
-    (λ about is. no (number_of fact.event run about is)))
+    (λ about is. never (number_of fact.event run about is)))
 
 stage_end_same : (facts : List Fact) (fact : Fact) (run stage : ℕ) →
     (ended_told fact.event ≡ Some run → ⊥) →
     stage_end run stage (facts ++ fact ∷ []) ≡ stage_end run stage facts
-stage_end_same facts fact run stage no =
+stage_end_same facts fact run stage never =
     latest_push (λ one. is_about (Stage run stage) one && is_stage_end one.event) facts fact
     ∙ ap (λ b. cond b (Some fact) (stage_end run stage facts))
     (both_by (is_about (Stage run stage) fact) (is_stage_end fact.event)
-    (λ about is. no (ended_of fact.event run stage about is)))
+    (λ about is. never (ended_of fact.event run stage about is)))
 
 -- a fact that neither queues the run nor ends a stage of it
 pub open_same : (facts : List Fact) (fact : Fact) (run : ℕ) →

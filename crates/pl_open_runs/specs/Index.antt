@@ -31,8 +31,8 @@ Ascends numbers = AllPairs (λ one later. one < later) numbers
 abbrev pub Covers : List ℕ → List Fact → Type 0
 Covers known facts = (run : ℕ) → is_open run facts ≡ true → has known run ≡ true
 
--- The open runs are kept, and beside them known ones in order, among which are all that are open and
--- all that were when the last fact was installed.
+-- The open runs are kept, and beside them known ones in order, among which are all that are open
+-- and all that were when the last fact was installed.
 pub record IsIndex (journal : Log) (known runs : List ℕ) : Type 0 where
   pub few : All HasFewStages journal.facts
   pub within : journal.installed ≤ length journal.facts

@@ -8,10 +8,10 @@ ghost use Rattle.pl_journal.specs.Runs.{number_told};
 ghost use Rattle.pl_open_runs.specs.Index.{Ascends, HasFewStages, IsIndex, ended_told};
 ghost use Rattle.pl_open_runs.specs.Open as spec;
 
-use crate::open::is_open;
+use crate::openness::is_open;
 use pl_base::Memory;
 use pl_facts::{Event, Fact};
-use pl_journal::Journal;
+use pl_journal::{Journal, Numbers};
 
 /// Puts a number in its place among ascending ones, unless it is there. After Memory they are as
 /// before.
@@ -21,45 +21,42 @@ fn put_in(numbers: &mut Vec<u64>, number: u64) -> Result<(), Memory>
     ensures err { OnErr result (numbers.new.items ≡ numbers.old.items) }
     ensures len { vec_len numbers.new ≤ vec_len numbers.old + 1 }
 {
-    match numbers.binary_search(&number) {
-        Ok(_) => Ok(()),
-        Err(at) => {
-            numbers.insert(at, number)?;
-            Ok(())
-        }
+    if let Err(at) = numbers.binary_search(&number) {
+        numbers.insert(at, number)?;
     }
+    Ok(())
 }
 
 /// Looks at all known runs, of which the open ones are. It takes no memory.
-fn look_at_all(journal: &Journal, known: &[u64], open: &mut Vec<u64>)
+fn look_at_all(journal: &Journal, known: &[u64], runs: &mut Vec<u64>)
     requires few { All HasFewStages journal.now.facts }
-    requires room { length known.now ≤ vec_capacity open.old }
-    ensures items { open.new.items ≡ filter (λ run. spec.is_open run journal.now.facts) known.now }
-    ensures room { vec_capacity open.new ≡ vec_capacity open.old }
+    requires room { length known.now ≤ vec_capacity runs.old }
+    ensures items { runs.new.items ≡ filter (λ run. spec.is_open run journal.now.facts) known.now }
+    ensures room { vec_capacity runs.new ≡ vec_capacity runs.old }
 {
-    open.clear();
+    runs.clear();
     for run in known {
         if is_open(journal, *run) {
-            open.push_reserved(*run);
+            runs.push_reserved(*run);
         }
     }
 }
 
 /// Takes a run out of the open ones.
-fn take_out(open: &mut Vec<u64>, run: u64)
-    ensures items { open.new.items ≡ filter (λ one. not (one == run)) open.old.items }
-    ensures room { vec_capacity open.new ≡ vec_capacity open.old }
+fn take_out(runs: &mut Vec<u64>, run: u64)
+    ensures items { runs.new.items ≡ filter (λ one. not (one == run)) runs.old.items }
+    ensures room { vec_capacity runs.new ≡ vec_capacity runs.old }
 {
-    open.retain(|one| *one != run);
+    runs.retain(|one| *one != run);
 }
 
 /// Makes the known runs those that are open. It takes no memory.
-fn forget(known: &mut Vec<u64>, open: &[u64])
-    requires { length open.now ≤ vec_capacity known.old }
-    ensures { known.new.items ≡ open.now }
+fn forget(known: &mut Vec<u64>, runs: &[u64])
+    requires { length runs.now ≤ vec_capacity known.old }
+    ensures { known.new.items ≡ runs.now }
 {
     known.clear();
-    for run in open {
+    for run in runs {
         known.push_reserved(*run);
     }
 }
@@ -98,24 +95,24 @@ fn has_few_stages(fact: &Fact) -> bool
 fn push_queued(
     journal: &mut Journal,
     known: &mut Vec<u64>,
-    open: &mut Vec<u64>,
+    runs: &mut Vec<u64>,
     run: u64,
     fact: Fact,
 ) -> Result<(), Memory>
-    requires index { IsIndex journal.old known.old.items open.old.items }
-    requires room { vec_len known.old ≤ vec_capacity open.old }
+    requires index { IsIndex journal.old known.old.items runs.old.items }
+    requires room { vec_len known.old ≤ vec_capacity runs.old }
     requires queued { number_told fact.event ≡ Some run }
     requires few { HasFewStages fact }
-    ensures index { IsIndex journal.new known.new.items open.new.items }
-    ensures room { vec_len known.new ≤ vec_capacity open.new }
+    ensures index { IsIndex journal.new known.new.items runs.new.items }
+    ensures room { vec_len known.new ≤ vec_capacity runs.new }
     ensures ok { OnOk result (journal.new ≡
         record journal.old { facts = journal.old.facts ++ fact ∷ [] }) }
     ensures err { OnErr result (journal.new ≡ journal.old) }
 {
-    open.reserve(known.len() + 1)?;
+    runs.reserve(known.len() + 1)?;
     put_in(known, run)?;
     journal.push(fact)?;
-    look_at_all(journal, known, open);
+    look_at_all(journal, known, runs);
     Ok(())
 }
 
@@ -124,36 +121,31 @@ fn push_queued(
 fn push_ended(
     journal: &mut Journal,
     known: &[u64],
-    open: &mut Vec<u64>,
+    runs: &mut Vec<u64>,
     run: u64,
     fact: Fact,
 ) -> Result<(), Memory>
-    requires index { IsIndex journal.old known.now open.old.items }
+    requires index { IsIndex journal.old known.now runs.old.items }
     requires ended { ended_told fact.event ≡ Some run }
-    ensures index { IsIndex journal.new known.now open.new.items }
-    ensures room { vec_capacity open.new ≡ vec_capacity open.old }
+    ensures index { IsIndex journal.new known.now runs.new.items }
+    ensures room { vec_capacity runs.new ≡ vec_capacity runs.old }
     ensures ok { OnOk result (journal.new ≡
         record journal.old { facts = journal.old.facts ++ fact ∷ [] }) }
     ensures err { OnErr result (journal.new ≡ journal.old) }
 {
     journal.push(fact)?;
     if !is_open(journal, run) {
-        take_out(open, run);
+        take_out(runs, run);
     }
     Ok(())
 }
 
 /// Puts a fact behind the others after which the same runs are open.
-fn push_other(
-    journal: &mut Journal,
-    known: &[u64],
-    open: &[u64],
-    fact: Fact,
-) -> Result<(), Memory>
-    requires index { IsIndex journal.old known.now open.now }
+fn push_other(journal: &mut Journal, known: &[u64], runs: &[u64], fact: Fact) -> Result<(), Memory>
+    requires index { IsIndex journal.old known.now runs.now }
     requires queued { number_told fact.event ≡ None }
     requires ended { ended_told fact.event ≡ None }
-    ensures index { IsIndex journal.new known.now open.now }
+    ensures index { IsIndex journal.new known.now runs.now }
     ensures ok { OnOk result (journal.new ≡
         record journal.old { facts = journal.old.facts ++ fact ∷ [] }) }
     ensures err { OnErr result (journal.new ≡ journal.old) }
@@ -165,13 +157,13 @@ fn push_other(
 pub(crate) fn push(
     journal: &mut Journal,
     known: &mut Vec<u64>,
-    open: &mut Vec<u64>,
+    runs: &mut Vec<u64>,
     fact: Fact,
 ) -> Result<(), Memory>
-    requires index { IsIndex journal.old known.old.items open.old.items }
-    requires room { vec_len known.old ≤ vec_capacity open.old }
-    ensures index { IsIndex journal.new known.new.items open.new.items }
-    ensures room { vec_len known.new ≤ vec_capacity open.new }
+    requires index { IsIndex journal.old known.old.items runs.old.items }
+    requires room { vec_len known.old ≤ vec_capacity runs.old }
+    ensures index { IsIndex journal.new known.new.items runs.new.items }
+    ensures room { vec_len known.new ≤ vec_capacity runs.new }
     ensures ok { OnOk result (journal.new ≡
         record journal.old { facts = journal.old.facts ++ fact ∷ [] }) }
     ensures err { OnErr result (journal.new ≡ journal.old) }
@@ -180,37 +172,57 @@ pub(crate) fn push(
         return Err(Memory);
     }
     if let Some(run) = run_queued(&fact.event) {
-        return push_queued(journal, known, open, run, fact);
+        return push_queued(journal, known, runs, run, fact);
     }
     if let Some(run) = run_ended(&fact.event) {
-        return push_ended(journal, known, open, run, fact);
+        return push_ended(journal, known, runs, run, fact);
     }
-    push_other(journal, known, open, fact)
+    push_other(journal, known, runs, fact)
 }
 
 /// Takes the facts away that aren't installed. It takes no memory.
-pub(crate) fn back_to_installed(journal: &mut Journal, known: &[u64], open: &mut Vec<u64>)
-    requires index { IsIndex journal.old known.now open.old.items }
-    requires room { length known.now ≤ vec_capacity open.old }
-    ensures index { IsIndex journal.new known.now open.new.items }
-    ensures room { vec_capacity open.new ≡ vec_capacity open.old }
+pub(crate) fn back_to_installed(journal: &mut Journal, known: &[u64], runs: &mut Vec<u64>)
+    requires index { IsIndex journal.old known.now runs.old.items }
+    requires room { length known.now ≤ vec_capacity runs.old }
+    ensures index { IsIndex journal.new known.now runs.new.items }
+    ensures room { vec_capacity runs.new ≡ vec_capacity runs.old }
     ensures journal { journal.new ≡
         record journal.old { facts = take journal.old.installed journal.old.facts } }
 {
     let before = journal.len();
     journal.back_to_installed();
     if journal.len() < before {
-        look_at_all(journal, known, open);
+        look_at_all(journal, known, runs);
     }
 }
 
-/// Installs all facts, so that runs which aren't open needn't be known any more. It takes no memory.
-pub(crate) fn install(journal: &mut Journal, known: &mut Vec<u64>, open: &[u64])
-    requires index { IsIndex journal.old known.old.items open.now }
-    ensures index { IsIndex journal.new known.new.items open.now }
-    ensures len { vec_len known.new ≡ length open.now }
+/// Installs all facts, so that runs which aren't open needn't be known any more. It takes no
+/// memory.
+pub(crate) fn install(journal: &mut Journal, known: &mut Vec<u64>, runs: &[u64])
+    requires index { IsIndex journal.old known.old.items runs.now }
+    ensures index { IsIndex journal.new known.new.items runs.now }
+    ensures len { vec_len known.new ≡ length runs.now }
     ensures journal { journal.new ≡ record journal.old { installed = length journal.old.facts } }
 {
     journal.install();
-    forget(known, open);
+    forget(known, runs);
+}
+
+/// Ends the opening, and installs all facts. It takes no memory.
+pub(crate) fn begin(journal: &mut Journal, known: &mut Vec<u64>, runs: &[u64], numbers: Numbers)
+    requires index { IsIndex journal.old known.old.items runs.now }
+    ensures index { IsIndex journal.new known.new.items runs.now }
+    ensures len { vec_len known.new ≡ length runs.now }
+    ensures journal { journal.new ≡ record journal.old {
+      opening = record {
+        moment = numbers.moment;
+        run = numbers.run;
+        version = numbers.version;
+        facts = length journal.old.facts;
+      };
+      installed = length journal.old.facts;
+    } }
+{
+    journal.begin(numbers);
+    forget(known, runs);
 }

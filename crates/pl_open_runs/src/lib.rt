@@ -3,6 +3,6 @@
 
 mod index;
 mod indexed_journal;
-mod open;
+mod openness;
 
 pub use indexed_journal::IndexedJournal;

@@ -1,6 +1,7 @@
 -- When a stage is ready, and since when; and whether a job's turn has come (Microsoft Learn, Azure
 -- Pipelines, "Stages" and "Jobs", Specify dependencies).
-use Rattle.std.specs.Prelude.{ℕ, ◌≤◌, max, Bool, not, ◌&&◌, ◌||◌, List, ◌∷◌, AllPairs, map, find, fold}
+use Rattle.std.specs.Prelude.{ℕ, ◌≤◌, max, Bool, not, ◌&&◌, ◌||◌, List, ◌∷◌, AllPairs, map, find}
+use Rattle.std.specs.Prelude.{fold}
 use Rattle.std.specs.Prelude.{Option, None, Some, is_some}
 use Rattle.std.specs.List.{list_all, list_any}
 use Rattle.pl_facts.specs.declared.fact.Fact.{Fact}

@@ -13,8 +13,8 @@ use pl_plan::PlanStage;
 use std::alloc::Global;
 
 /// A stage of a queued run as its checks see it: who queued the run, what was decided about the
-/// stage, since when it is ready, and from its plan the refs to which the run is linked, the template
-/// that it extends, and where the steps come from, each leg's among them.
+/// stage, since when it is ready, and from its plan the refs to which the run is linked, the
+/// template that it extends, and where the steps come from, each leg's among them.
 ///
 /// `stage` is its place in the plan. The plan isn't copied: of each step the label of its job is.
 /// Memory may come at any time, and nothing else.

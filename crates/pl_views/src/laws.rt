@@ -7,9 +7,9 @@ ghost use Rattle.pl_plan.specs.declared.plan.PlanJob.{PlanJob};
 ghost use Rattle.pl_plan.specs.declared.plan.PlanStage.{PlanStage};
 ghost use Rattle.pl_views.specs.Ready as spec;
 
-/// Laws: a stage, or a job, is ready exactly where it awaits none; since when a stage is ready is the
-/// moment of the latest fact among its run's queueing and the ends of those for which it waits, where
-/// moments never fall from fact to fact; and it is no later than all facts are.
+/// Laws: a stage, or a job, is ready exactly where it awaits none; since when a stage is ready is
+/// the moment of the latest fact among its run's queueing and the ends of those for which it waits,
+/// where moments never fall from fact to fact; and it is no later than all facts are.
 pub fn readiness_laws()
     ensures stage { (planned : PlanStage) (run : ℕ) (facts : List Fact) →
         spec.is_ready planned run facts ≡ is_none (spec.awaited_stage planned run facts) }

@@ -25,12 +25,7 @@ fn key_origin(body: &MarkedNode) -> &Origin
 }
 
 /// A step of a job, by its number there.
-fn step_mark(
-    alloc: Global,
-    job: &PlanJob,
-    number: u32,
-    step: &PlanStep,
-) -> Result<StepMark, Memory>
+fn step_mark(alloc: Global, job: &PlanJob, number: u32, step: &PlanStep) -> Result<StepMark, Memory>
     ensures { IfOk result (λ mark. mark ≡ spec.step_mark job.now (number, step.now)) }
 {
     let label = label_of(alloc, job)?;

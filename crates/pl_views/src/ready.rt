@@ -48,8 +48,8 @@ pub fn awaited_stage(journal: &Journal, run: u64, planned: &PlanStage) -> Option
     None
 }
 
-/// Whether all jobs have ended for which a job waits, in the stage at a place. A job of a stage that
-/// ended without a start has ended with it.
+/// Whether all jobs have ended for which a job waits, in the stage at a place. A job of a stage
+/// that ended without a start has ended with it.
 pub fn job_is_ready(journal: &Journal, run: u64, stage: u32, planned: &PlanJob) -> bool
     ensures { result ≡ spec.job_is_ready planned.now run stage journal.now.facts }
 {
@@ -60,8 +60,8 @@ pub fn job_is_ready(journal: &Journal, run: u64, stage: u32, planned: &PlanJob) 
         .all(|job| job_has_ended(journal, run, stage, *job))
 }
 
-/// The place of the first job for which a job waits, in the stage at a place, and that hasn't ended,
-/// or None where all have.
+/// The place of the first job for which a job waits, in the stage at a place, and that hasn't
+/// ended, or None where all have.
 pub fn awaited_job(journal: &Journal, run: u64, stage: u32, planned: &PlanJob) -> Option<u32>
     ensures { result ≡ spec.awaited_job planned.now run stage journal.now.facts }
 {
@@ -84,8 +84,8 @@ fn later(moment: Moment, fact: Option<&Fact>) -> Moment
 }
 
 /// Since when a stage of a run that is ready is so: the latest moment of the run's queueing and of
-/// the ends of the stages for which it waits. Moments never fall from fact to fact, so it is that of
-/// the latest of these facts.
+/// the ends of the stages for which it waits. Moments never fall from fact to fact, so it is that
+/// of the latest of these facts.
 pub fn ready_moment(journal: &Journal, run: u64, planned: &PlanStage) -> Moment
     ensures { result ≡ spec.ready_moment planned.now run journal.now.facts }
 {

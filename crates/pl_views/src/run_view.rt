@@ -39,11 +39,7 @@ fn outcome_of(ending: Option<&Fact>) -> Option<Outcome>
 }
 
 /// The outputs of a job by the fact that ended it; none where that tells none.
-fn outputs_of(
-    alloc: Global,
-    ending: Option<&Fact>,
-    nothing: &Outputs,
-) -> Result<Outputs, Memory>
+fn outputs_of(alloc: Global, ending: Option<&Fact>, nothing: &Outputs) -> Result<Outputs, Memory>
     requires { nothing.now ≡ [] }
     ensures { IfOk result (λ outputs. outputs ≡
         unwrap_or (by runs.outputs_told (option_copied ending.entry)) []) }
@@ -135,15 +131,10 @@ fn stage_results(
 }
 
 /// A run of a plan as its conditions see it: whether it is canceled, how its stages and its jobs
-/// ended, and the jobs' outputs, all in the plan's order. A job of a stage that ended without a start
-/// ended as its stage did, and has no outputs. The plan isn't copied, and outputs are shared. Memory
-/// may come at any time, and nothing else.
-pub fn run_view(
-    alloc: Global,
-    journal: &Journal,
-    run: u64,
-    plan: &Plan,
-) -> Result<RunView, Memory>
+/// ended, and the jobs' outputs, all in the plan's order. A job of a stage that ended without a
+/// start ended as its stage did, and has no outputs. The plan isn't copied, and outputs are shared.
+/// Memory may come at any time, and nothing else.
+pub fn run_view(alloc: Global, journal: &Journal, run: u64, plan: &Plan) -> Result<RunView, Memory>
     ensures { IfOk result (λ view. view ≡ spec.run_view plan.now run journal.now.facts) }
 {
     let stages = stage_results(alloc, journal, run, plan.stages.len())?;

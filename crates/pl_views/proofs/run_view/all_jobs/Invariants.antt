@@ -4,4 +4,5 @@ use Rattle.pl_views.specs.RunViews.{job_views}
 use Rattle.pl_views.proofs.run_view.all_jobs.Given as goal
 
 abbrev pub invariant-loop-at : goal.invariant-loop-at
-invariant-loop-at l = l.all ≡ map (job_views l.fn.run l.plan l.journal.facts) (range_with_len 0 l.at)
+invariant-loop-at l =
+    l.all ≡ map (job_views l.fn.run l.plan l.journal.facts) (range_with_len 0 l.at)

@@ -6,4 +6,5 @@ use Rattle.pl_views.proofs.run_view.stage_results.Given as goal
 
 abbrev pub invariant-loop-at : goal.invariant-loop-at
 invariant-loop-at l = l.results ≡
-    map (λ stage. by outcome_told (stage_end l.fn.run stage l.journal.facts)) (range_with_len 0 l.at)
+    map (λ stage. by outcome_told (stage_end l.fn.run stage l.journal.facts))
+    (range_with_len 0 l.at)
