@@ -11,6 +11,9 @@ use crate::lines::first_line;
 use pl_base::{Bytes, FileKey, FileSet, Memory};
 use std::alloc::Global;
 
+/// How many files a bundle may have. More are want of memory.
+const MOST_FILES: usize = 10_000;
+
 /// How many bytes stand before the first line that names a file.
 fn body_len(bytes: &[u8]) -> usize
     ensures within { result ≤ length bytes.now }
@@ -89,17 +92,20 @@ fn place<'a>(
     Ok(Some(opened.rest))
 }
 
-/// Puts all files, and says whether each has a key of its own that keeps the rules.
+/// Puts all files, and says whether each has a key of its own that keeps the rules. Memory where
+/// there are more than `MOST_FILES`.
 fn take_files(alloc: Global, bytes: &[u8], texts: &mut FileSet) -> Result<bool, Memory>
     requires { (files_in (lines_of bytes.now)).0 ≡ [] }
     ensures { IfOk result (λ are_good. placed texts.old (files_in (lines_of bytes.now)).1 ≡
         if are_good then Some texts.new else None) }
 {
     let mut rest = bytes;
+    let mut left = MOST_FILES;
     while !rest.is_empty() {
         let Some(opened) = open_file(rest) else {
             return Ok(false);
         };
+        left = left.checked_sub(1).ok_or(Memory)?;
         match take_file(alloc, &opened, texts)? {
             Some(behind) => rest = behind,
             None => return Ok(false),
@@ -128,7 +134,8 @@ fn of_files(alloc: Global, bytes: &[u8], opened: &Opened<'_>) -> Result<Option<B
 /// REF PATH` whose parts are parted by single spaces, the root file first. A file's text is the
 /// lines up to the next such line, byte for byte. None where the bytes are no bundle: something
 /// stands before the first such line, there is none, a key isn't UTF-8 or breaks the rules of
-/// repositories, refs and paths, or two files have one key. Memory where memory is wanting.
+/// repositories, refs and paths, or two files have one key. Memory where memory is wanting, and
+/// where more than 10,000 files stand before the first that makes it no bundle.
 pub fn bundle_of(alloc: Global, bytes: &[u8]) -> Result<Option<Bundle>, Memory>
     ensures { IfOk result (λ bundle. bundle ≡ bundle_of bytes.now) }
 {

@@ -1,3 +1,1 @@
-pub mod Itself
-pub mod Shown
 pub mod Sides

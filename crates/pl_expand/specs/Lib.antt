@@ -1,3 +1,2 @@
-pub mod Extending
-pub mod Rooting
+pub mod Merging
 pub mod Tree

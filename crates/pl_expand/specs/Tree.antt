@@ -41,8 +41,8 @@ use Rattle.pl_directives.specs.declared.region.Form.TheVariants.{Variables as In
 use Rattle.pl_directives.specs.declared.region.Region.TheVariants.{Free, Calls}
 use Rattle.pl_expand.specs.declared.root.RootTree.{RootTree}
 use Rattle.pl_expand.specs.declared.root.RootNode.{RootNode}
-use Rattle.pl_expand.specs.declared.extending.Extension.{Extension}
-use Rattle.pl_expand.specs.declared.rooting.RootFilling.{RootFilling}
+use Rattle.pl_extends.specs.declared.extending.Extension.{Extension}
+use Rattle.pl_extends.specs.declared.rooting.RootFilling.{RootFilling}
 use Rattle.pl_expand.specs.declared.filling.Early.{Early}
 use Rattle.pl_root.specs.declared.root_key.RootKey.{RootKey}
 use Rattle.pl_root.specs.declared.root_key.RootKey.TheVariants.{Parameters, Resources, Extends}
@@ -54,11 +54,11 @@ use Rattle.pl_calls.specs.Judging.{unless_at}
 use Rattle.pl_calls.specs.Meant.{◌>>>◌, alone}
 use Rattle.pl_calls.specs.Parts.{Body, body_of, under}
 use Rattle.pl_calls.specs.Reaching.{Opens, node_in, opens, same_file}
-use Rattle.pl_expanding.specs.Expanding.{expanded}
-use Rattle.pl_expanding.specs.Following.{Follow, scope_of}
-use Rattle.pl_expanding.specs.Levels.{followed}
-use Rattle.pl_expand.specs.Extending.{merged}
-use Rattle.pl_expand.specs.Rooting.{filled_with, Rooting, chained, pair_seen}
+use Rattle.pl_recursion.specs.Expanding.{expanded}
+use Rattle.pl_recursion.specs.Following.{Follow, scope_of}
+use Rattle.pl_recursion.specs.Levels.{followed}
+use Rattle.pl_expand.specs.Merging.{merged}
+use Rattle.pl_extends.specs.Rooting.{filled_with, Rooting, chained, pair_seen}
 use Rattle.pl_root.specs.Resources.{earliest}
 use Rattle.pl_reading.specs.Steps.{◌>>=◌}
 use Rattle.pl_root.specs.Keys.{repositories_of, root_complaints, root_key}

@@ -5,7 +5,7 @@ ghost use Rattle.pl_calls.specs.Reaching.{opens, same_file};
 ghost use Rattle.pl_directives.specs.Complaints.{refused};
 ghost use Rattle.pl_directives.specs.Gives.{Gives};
 ghost use Rattle.pl_directives.specs.declared.fault.ExpandProblem.TheVariants.{FileMissing};
-ghost use Rattle.pl_expanding.specs.Levels.{followed};
+ghost use Rattle.pl_recursion.specs.Levels.{followed};
 ghost use Rattle.pl_expand.specs.Tree.{root_mapping, pairs_expanded, body_expanded, whole};
 ghost use Rattle.pl_expand.specs.Tree.{used_files, home_of};
 ghost use Rattle.pl_expand.specs.Tree.{mapping_expanded, other_expanded, tree_of, bare_home};
@@ -14,14 +14,14 @@ ghost use Rattle.pl_expand.specs.Tree.{expansion};
 
 use crate::filling::{early_by, fill_root};
 use crate::root::{RootMapping, RootNode, RootTree};
-use crate::rooting::ROOT;
 use pl_base::{
     Argument, ExactCopy, Expanded, FileKey, List, Memory, Node, NodeBody, NodePair, Place, Shared,
 };
 use pl_calls::{Files, Home, Reach, node_in, same_file, under};
 use pl_directives::{Counted, ExpandFault, ExpandProblem, complain, enter};
-use pl_expanding::{Scope, expand_node};
+use pl_extends::ROOT;
 use pl_frame::{Frame, Parameter};
+use pl_recursion::{Scope, expand_node};
 use pl_root::{first_complaint, first_frame, parameters_by, repositories_of};
 use std::alloc::Global;
 
@@ -268,7 +268,7 @@ pub fn expand_counted<F: Files>(
 /// out of the repository or no file is there, X2 where it is the 101st file, X16 where that isn't
 /// in the profile, X10 where that extends a template itself, X9 where it isn't of the form that is
 /// called, X14 where its declarations are wrong or the arguments don't fit. Memory may come at any
-/// time, also where nodes stand more than `DEEPEST` levels deep in one another.
+/// time, also where more than `MOST_OPEN` nodes are open at once, over all calls.
 pub fn expand<F: Files>(
     alloc: Global,
     files: &mut F,

@@ -3,28 +3,26 @@ ghost use Rattle.std.specs.Option.{option_copied, option_map};
 ghost use Rattle.pl_calls.specs.Gives.{GivesUsed};
 ghost use Rattle.pl_calls.specs.Reaching.{opens};
 ghost use Rattle.pl_directives.specs.Gives.{Gives};
-ghost use Rattle.pl_expanding.specs.Levels.{followed};
+ghost use Rattle.pl_recursion.specs.Levels.{followed};
 ghost use Rattle.pl_expand.specs.Tree.{early_by, given_to, early_behind, root_pair, root_pairs};
 ghost use Rattle.pl_expand.specs.Tree.{put_variables, stands, root_object, root_mapping};
 ghost use Rattle.pl_expand.specs.Tree.{filled_root, root_from};
 ghost use Rattle.pl_expand.specs.Tree.{filled_in, file_of, variables_pair, object_pairs};
 ghost use Rattle.pl_root.specs.Keys.{root_key};
 
-use crate::extending::{Extension, judge_keys};
 use crate::merging::merge;
 use crate::root::{RootMapping, RootNode};
-use crate::rooting::{RootFilling, Spot, put_pair_of};
 use pl_base::{
-    DEEPEST, ExactCopy, FileKey, List, MarkedNode, MarkedPair, Memory, Node, NodePair, Origin,
-    Place, Value,
+    ExactCopy, FileKey, List, MarkedNode, MarkedPair, Memory, Node, NodePair, Origin, Place, Value,
 };
 use pl_calls::{Files, Reach};
 use pl_directives::{
     Chain, Content, ExpandFault, ExpandProblem, Form, Kind, Progress, Region, Standing, begin,
     complain, put_pair,
 };
-use pl_expanding::{MOST_LEVELS, Scope, expand_node};
+use pl_extends::{Extension, RootFilling, Spot, judge_keys, put_pair_of};
 use pl_frame::{Frame, literal_at};
+use pl_recursion::{MOST_LEVELS, MOST_OPEN, Scope, expand_node};
 use pl_root::{RootKey, second_frame};
 use std::alloc::Global;
 
@@ -54,7 +52,7 @@ pub fn early_by<F: Files>(
     };
     let at = Standing {
         region: Region::Calls(Form::Variables),
-        levels: DEEPEST,
+        levels: MOST_OPEN,
         calls: MOST_LEVELS,
     };
     let one = expand_node(alloc, node, Scope { frame, at }, count, files, reach)?;
@@ -135,7 +133,7 @@ fn fill_root_pair<F: Files>(
 {
     let spot = Spot {
         frame,
-        levels: DEEPEST,
+        levels: MOST_OPEN,
     };
     match RootKey::of(&pair.key) {
         RootKey::Parameters | RootKey::Resources => Ok(filling.chained(Chain::Closed)),

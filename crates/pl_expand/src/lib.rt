@@ -1,14 +1,12 @@
-//! Pipelines, expanded: the root file with its run arguments, its variables first, then its pairs
-//! and what it extends. The recursion into nodes and called templates stands below it, in
-//! `pl_expanding`.
+//! Pipelines, expanded: the root file with its run arguments, its variables first, then its pairs,
+//! beside those of the template that it extends. Below it stand the pairs and `extends`, in
+//! `pl_extends`, and the recursion into nodes and called templates, in `pl_recursion`.
 #![tactic(auto)]
 
 mod expansion;
-mod extending;
 mod filling;
 mod merging;
 mod root;
-mod rooting;
 
 pub use expansion::{expand, expand_counted};
 pub use pl_calls::{Files, Parsed};

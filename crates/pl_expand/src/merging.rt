@@ -5,15 +5,16 @@ ghost use Rattle.pl_literal.specs.Items.{is};
 ghost use Rattle.pl_calls.specs.Judging.{unless_at};
 ghost use Rattle.pl_directives.specs.Gives.{Gives};
 ghost use Rattle.pl_directives.specs.declared.fault.ExpandProblem.TheVariants.{WrongKind};
-ghost use Rattle.pl_expand.specs.Extending.{has_key, variables_in, joined_variables};
-ghost use Rattle.pl_expand.specs.Extending.{both_variables, with_items, is_replaced, root_side};
-ghost use Rattle.pl_expand.specs.Extending.{template_side, is_form, form_place, joined_pairs};
-ghost use Rattle.pl_expand.specs.Extending.{shared_variables, merged_with, merged};
+ghost use Rattle.pl_expand.specs.Merging.{has_key, variables_in, joined_variables};
+ghost use Rattle.pl_expand.specs.Merging.{both_variables, with_items, is_replaced, root_side};
+ghost use Rattle.pl_extends.specs.Forms.{is_form, form_place};
+ghost use Rattle.pl_expand.specs.Merging.{template_side, joined_pairs};
+ghost use Rattle.pl_expand.specs.Merging.{shared_variables, merged_with, merged};
 
-use crate::extending::{Extension, item_under};
 use pl_base::{ExactCopy, List, MarkedNode, MarkedPair, Memory, Place, Text, Value};
 use pl_directives::{ExpandFault, ExpandProblem, complain};
-use pl_expanding::variable_items;
+use pl_extends::{Extension, form_place, item_under};
+use pl_recursion::variable_items;
 use std::alloc::Global;
 
 /// Whether one of the pairs has a key.
@@ -188,29 +189,6 @@ fn template_sides(
         }
     }
     Ok(all)
-}
-
-/// Whether a key is that of the root's own jobs.
-pub fn is_form(key: &Text) -> bool
-    ensures { result ≡ is_form key.now }
-{
-    match key.as_str() {
-        "stages" | "jobs" | "steps" => true,
-        _ => false,
-    }
-}
-
-/// Where the first key of the root's own jobs comes from.
-#[tactic(auto, using(pl_params::proofs::Finding::find_drop_yes, pl_params::proofs::Finding::find_drop_no))]
-pub fn form_place(pairs: &List<MarkedPair>) -> Option<&Place>
-    ensures { option_copied result ≡ form_place pairs.now }
-{
-    for pair in pairs.as_slice() {
-        if is_form(&pair.key) {
-            return Some(&pair.key_origin.source);
-        }
-    }
-    None
 }
 
 /// The pairs of both files.

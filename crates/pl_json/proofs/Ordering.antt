@@ -1,5 +1,6 @@
 -- Members that are put in one after the other, as entries of a map, and in order.
-use Rattle.std.proofs.Common.{◌≡◌, ℕ, Bool, true, false, not, ◌&&◌, List, [], ◌∷◌, ◌++◌, map, refl, sym, ap, subst, ◌∙◌, append_assoc}
+use Rattle.std.proofs.Common.{◌≡◌, ℕ, Bool, true, false, not, ◌&&◌, List, [], ◌∷◌, ◌++◌, map}
+use Rattle.std.proofs.Common.{refl, sym, ap, subst, ◌∙◌, append_assoc}
 use Rattle.std.specs.Prelude.{T as Holds}
 use Rattle.std.proofs.lemmas.List.{append-nil}
 use Rattle.std.specs.declared.cmp.Ordering.{Ordering}
@@ -8,7 +9,8 @@ use Rattle.std.specs.Ordering.{is_lt, match_ordering, nat_cmp, ordering_reverse}
 use Rattle.std.specs.Cmp.Lexicographic.{slice_cmp, nat_list_cmp_total}
 use Rattle.std.specs.BTreeMap.{insert_entry}
 use Rattle.pl_json.specs.declared.members.Member.{Member}
-use Rattle.pl_json.specs.Members.{ascends, in_order, is_before, is_in_order, member, names_of, put, put_all}
+use Rattle.pl_json.specs.Members.{ascends, in_order, is_before, is_in_order, member, names_of, put}
+use Rattle.pl_json.specs.Members.{put_all}
 use Rattle.pl_json.specs.Entries.{entries_of}
 
 and_both : (a b : Bool) → a ≡ true → b ≡ true → (a && b) ≡ true
@@ -35,9 +37,11 @@ less Greater e = absurd (not_true e)
 -- of two names in order the second comes behind the first
 behind : (one other : List ℕ) → is_before one other ≡ true → slice_cmp nat_cmp other one ≡ Greater
 behind one other e =
-    nat_list_cmp_total.antisymm other one ∙ ap ordering_reverse (less (slice_cmp nat_cmp one other) e)
+    nat_list_cmp_total.antisymm other one ∙
+    ap ordering_reverse (less (slice_cmp nat_cmp one other) e)
 
-before_by : (one other : List ℕ) → slice_cmp nat_cmp other one ≡ Greater → is_before one other ≡ true
+before_by : (one other : List ℕ) → slice_cmp nat_cmp other one ≡ Greater →
+    is_before one other ≡ true
 before_by one other e =
     ap is_lt (nat_list_cmp_total.antisymm one other ∙ ap ordering_reverse e)
 
@@ -57,7 +61,8 @@ module _ {X : Type 0} where
   -- a member is put where an entry is
   pub entries_put :
       (name : List ℕ) (value : X) (members : List (Member X)) →
-      entries_of (put name value members) ≡ insert_entry (slice_cmp nat_cmp) (entries_of members) name value
+      entries_of (put name value members) ≡
+      insert_entry (slice_cmp nat_cmp) (entries_of members) name value
   entries_put name value [] = refl
   entries_put name value (one ∷ more) =
       elim (slice_cmp nat_cmp name one.name) as (λ o.
@@ -76,7 +81,8 @@ module _ {X : Type 0} where
       (members more : List (Member X)) (one : Member X) →
       put_all members (more ++ one ∷ []) ≡ put one.name one.value (put_all members more)
   put_all_last members [] one = refl
-  put_all_last members (first ∷ more) one = put_all_last (put first.name first.value members) more one
+  put_all_last members (first ∷ more) one =
+      put_all_last (put first.name first.value members) more one
 
   -- what is put keeps the order
   keeps_by :
@@ -174,7 +180,8 @@ module _ {X : Type 0} where
       put_all front more ≡ front ++ more
   put_where_they_are front [] h = sym (append-nil front)
   put_where_they_are front (one ∷ more) h =
-      let there : (front ++ one ∷ []) ++ more ≡ front ++ one ∷ more = append_assoc front (one ∷ []) more in
+      let there : (front ++ one ∷ []) ++ more ≡ front ++ one ∷ more =
+      append_assoc front (one ∷ []) more in
       let whole : is_in_order (names_of ((front ++ one ∷ []) ++ more)) ≡ true =
       ap (λ members. is_in_order (names_of members)) there ∙ h in
       ap (λ members. put_all members more)
@@ -182,7 +189,8 @@ module _ {X : Type 0} where
       put_where_they_are (front ++ one ∷ []) more whole ∙ there
 
   pub already_in_order :
-      (members : List (Member X)) → is_in_order (names_of members) ≡ true → in_order members ≡ members
+      (members : List (Member X)) → is_in_order (names_of members) ≡ true →
+      in_order members ≡ members
   already_in_order members h = put_where_they_are [] members h
 
   -- entries of members are these members again

@@ -1,2 +1,3 @@
 pub mod Behind
-pub mod Sets
+pub mod Rising
+pub mod Texts

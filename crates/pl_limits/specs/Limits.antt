@@ -4,7 +4,8 @@ use Rattle.std.specs.Prelude.{[], ◌∷◌, ◌++◌, length, slice_get, Option
 use Rattle.std.specs.Cmp.Lexicographic.{pointwise, slice_cmp}
 use Rattle.std.specs.List.{list_all, list_any}
 use Rattle.std.specs.Option.{option_map_or}
-use Rattle.std.specs.Ordering.{is_lt, nat_cmp}
+use Rattle.std.specs.Ordering.{is_lt, nat_cmp, ordering_then}
+use Rattle.std.specs.declared.cmp.Ordering.{Ordering}
 use Rattle.pl_checks.specs.declared.check.Check.{Check}
 use Rattle.pl_checks.specs.declared.check.Check.TheVariants.{RequiredTemplate, Branch, Approval}
 use Rattle.pl_checks.specs.declared.check.Check.TheVariants.{Hours}
@@ -45,6 +46,22 @@ are_distinct same xs = each_behind (is_new same) [] xs
 
 abbrev pub same_text : List ℕ → List ℕ → Bool
 same_text one other = pointwise nat_eq one other
+
+-- each item comes before the next one
+abbrev pub rises : {X : Type 0} → (X → X → Ordering) → X → List X → Bool
+rises order last [] = true
+rises order last (x ∷ xs) = is_lt (order last x) && rises order x xs
+
+abbrev pub are_rising : {X : Type 0} → (X → X → Ordering) → List X → Bool
+are_rising order [] = true
+are_rising order (x ∷ xs) = rises order x xs
+
+-- byte by byte; and shorter texts first, those of one length byte by byte
+abbrev pub by_bytes : List ℕ → List ℕ → Ordering
+by_bytes one other = slice_cmp nat_cmp one other
+
+abbrev pub by_length : List ℕ → List ℕ → Ordering
+by_length one other = ordering_then (nat_cmp (length one) (length other)) (by_bytes one other)
 
 abbrev pub same_day : Day → Day → Bool
 same_day one other = day_number one == day_number other

@@ -1,17 +1,18 @@
-ghost use Rattle.std.specs.Prelude.{◌≡◌, IfOk};
+ghost use Rattle.std.specs.Prelude.{◌≡◌, IfOk, map};
 ghost use Rattle.std.specs.Cmp.Lexicographic.{slice_cmp};
 ghost use Rattle.std.specs.List.{list_all, list_any};
 ghost use Rattle.std.specs.Ordering.{is_lt, nat_cmp};
 ghost use Rattle.pl_limits.specs.Limits.{are_capabilities, are_distinct, are_outputs, ascend};
 ghost use Rattle.pl_limits.specs.Limits.{follows, is_file_text, is_new, is_output, may_be_granted};
-ghost use Rattle.pl_limits.specs.Limits.{same_day, same_text};
+ghost use Rattle.pl_limits.specs.Limits.{are_rising, by_bytes, by_length, rises, same_day};
+ghost use Rattle.pl_limits.specs.Limits.{same_text};
 ghost use Rattle.pl_names.specs.Names.{is_name};
 
-use pl_base::{Bytes, ExactCopy, List, Memory, Text};
+use pl_base::{Bytes, List, Memory, Text};
 use pl_names::is_name;
 use pl_rules::Day;
 use std::alloc::Global;
-use std::collections::BTreeSet;
+use std::cmp::Ordering;
 
 /// Whether a file's text has at most 262,144 bytes.
 pub fn is_file_text(text: &Bytes) -> bool
@@ -77,7 +78,7 @@ fn follows(before: &[(Text, Text)], pair: &(Text, Text)) -> bool
 fn comes_before(one: &Text, other: &Text) -> bool
     ensures { result ≡ is_lt (slice_cmp nat_cmp one.now other.now) }
 {
-    one.as_bytes().cmp(other.as_bytes()).is_lt()
+    one.as_str().cmp(other.as_str()).is_lt()
 }
 
 /// Whether a report's outputs are within their limits: at most 100, with names of at most 200 bytes
@@ -102,18 +103,88 @@ fn is_output(told: &(Text, Text)) -> bool
     told.0.len() <= 200 && told.1.len() <= 4096
 }
 
-/// Whether no text stands twice.
+/// Whether no text stands twice. Texts of which each is longer than the one before it, or as long
+/// and behind it byte by byte, are gone through once, without memory; others are sorted, and then
+/// each comes before the next.
 pub(crate) fn are_distinct_texts(alloc: Global, texts: &[Text]) -> Result<bool, Memory>
     ensures { IfOk result (λ are. are ≡ are_distinct same_text texts.now) }
 {
-    let mut before = BTreeSet::new(alloc);
-    for text in texts {
-        if before.contains(text) {
-            return Ok(false);
-        }
-        before.insert(text.copy(alloc)?)?;
+    if rise_by_length(texts) {
+        return Ok(true);
     }
-    Ok(true)
+    let mut sorted = borrowed(alloc, texts)?;
+    sorted.sort()?;
+    Ok(rise_by_bytes(sorted.as_slice()))
+}
+
+/// Which text comes first: the shorter one, and of two of one length by their bytes.
+fn by_length(one: &str, other: &str) -> Ordering
+    ensures { result ≡ by_length one.now other.now }
+{
+    match one.len().cmp(&other.len()) {
+        Ordering::Less => Ordering::Less,
+        Ordering::Equal => one.cmp(other),
+        Ordering::Greater => Ordering::Greater,
+    }
+}
+
+/// Whether each text comes before the next one, by their lengths first.
+fn rise_by_length(texts: &[Text]) -> bool
+    ensures { result ≡ are_rising by_length texts.now }
+{
+    match texts {
+        [] => true,
+        [first, rest @ ..] => lengths_rise(first, rest),
+    }
+}
+
+/// Whether each text comes before the next one, by their lengths first, from this one on.
+fn lengths_rise(first: &Text, rest: &[Text]) -> bool
+    ensures { result ≡ rises by_length first.now rest.now }
+{
+    let mut last = first;
+    for text in rest {
+        match by_length(last.as_str(), text.as_str()) {
+            Ordering::Less => last = text,
+            _ => return false,
+        }
+    }
+    true
+}
+
+/// The texts as std's string slices, in their order.
+fn borrowed<'a>(alloc: Global, texts: &'a [Text]) -> Result<Vec<&'a str>, Memory>
+    ensures { IfOk result (λ all. map (λ text. text.now) all.items ≡ texts.now) }
+{
+    let mut all = Vec::with_capacity(alloc, texts.len())?;
+    for text in texts {
+        all.push(text.as_str())?;
+    }
+    Ok(all)
+}
+
+/// Whether each text comes before the next one, byte by byte.
+fn rise_by_bytes(texts: &[&str]) -> bool
+    ensures { result ≡ are_rising by_bytes (map (λ text. text.now) texts.now) }
+{
+    match texts {
+        [] => true,
+        [first, rest @ ..] => bytes_rise(*first, rest),
+    }
+}
+
+/// Whether each text comes before the next one, byte by byte, from this one on.
+fn bytes_rise(first: &str, rest: &[&str]) -> bool
+    ensures { result ≡ rises by_bytes first.now (map (λ text. text.now) rest.now) }
+{
+    let mut last = first;
+    for text in rest {
+        match last.cmp(*text) {
+            Ordering::Less => last = *text,
+            _ => return false,
+        }
+    }
+    true
 }
 
 /// Whether no day stands twice.

@@ -52,7 +52,11 @@ fn may_start(eligible: &[Contender], holders: &[Contender], stage: &Contender) -
     !is_superseded(eligible, stage) && !is_held(holders, stage) && !is_behind(eligible, stage)
 }
 
-/// The run and the position of the least eligible stage in whose way nothing stands.
+/// The run and the position of the least of the `eligible` stages, which ascend by both, in whose
+/// way nothing stands: it isn't superseded, none of the `holders` has a resource of it, and no
+/// earlier one that isn't superseded wants one. None where there is no such stage. There is one
+/// where some stage is eligible and no holder has a resource of an eligible one. Of the holders
+/// nothing is asked. It takes no memory.
 pub fn next_of(eligible: &[Contender], holders: &[Contender]) -> Option<(u64, u32)>
     requires { IsOrdered eligible.now }
     ensures next { MatchOption result
@@ -80,8 +84,9 @@ fn first_superseding(eligible: &[Contender], stage: &Contender) -> Option<usize>
     eligible.iter().position(|later| stage.gives_way(later))
 }
 
-/// The least superseded stage, by its run and position, and the least run to whose stage it gives
-/// way.
+/// The least of the `eligible` stages, which ascend by run and position, that is superseded, by its
+/// run and position, and the least run to whose stage it gives way; or None where none is. It takes
+/// no memory.
 pub fn least_superseded(eligible: &[Contender]) -> Option<(u64, u32, u64)>
     requires { IsOrdered eligible.now }
     ensures { MatchOption result (All (λ stage. ¬ IsSuperseded eligible.now stage) eligible.now)

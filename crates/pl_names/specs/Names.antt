@@ -7,6 +7,10 @@ use Rattle.std.specs.List.{list_all, list_any, slice_split, starts_with}
 use Rattle.std.specs.Str.{chars}
 use Rattle.pl_base.specs.declared.place.FileKey.{FileKey}
 
+-- a byte of one of ASCII's printable characters, from the space to the tilde
+abbrev pub is_printable : ℕ → Bool
+is_printable byte = nat_le 32 byte && nat_le byte 126
+
 -- from one byte to so many, and no control character (U+0000 to U+001F and U+007F to U+009F)
 abbrev pub is_plain : ℕ → List ℕ → Bool
 is_plain most text = not (nat_eq (length text) 0) && (nat_le (length text) most &&

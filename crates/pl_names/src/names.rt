@@ -1,8 +1,8 @@
 ghost use Rattle.std.specs.Prelude.{◌≡◌};
 ghost use Rattle.std.specs.Char.{is_control};
-ghost use Rattle.std.specs.List.{list_any};
+ghost use Rattle.std.specs.List.{list_all, list_any};
 ghost use Rattle.std.specs.Str.{chars};
-ghost use Rattle.pl_names.specs.Names.{is_label, is_name, is_plain};
+ghost use Rattle.pl_names.specs.Names.{is_label, is_name, is_plain, is_printable};
 
 /// Whether a text has from one byte to so many, and no control character (U+0000 to U+001F and
 /// U+007F to U+009F). It takes no memory.
@@ -27,9 +27,26 @@ pub fn is_label(text: &str) -> bool
     !text.is_empty() && !has_control(text)
 }
 
-/// Whether a text has a control character.
+/// Whether a text has a control character. Where all of its bytes are printable ones of ASCII it is
+/// told without reading its characters.
 fn has_control(text: &str) -> bool
     ensures { result ≡ list_any is_control (chars text.now) }
 {
+    if are_printable(text.as_bytes()) {
+        return false;
+    }
     text.chars().any(|character| character.is_control())
+}
+
+/// Whether bytes are those of ASCII's printable characters, the space among them.
+fn are_printable(bytes: &[u8]) -> bool
+    ensures { result ≡ list_all is_printable bytes.now }
+{
+    bytes.iter().all(|byte| is_printable(*byte))
+}
+
+fn is_printable(byte: u8) -> bool
+    ensures { result ≡ is_printable byte }
+{
+    32 <= byte && byte <= 126
 }

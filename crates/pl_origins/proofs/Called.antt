@@ -36,10 +36,10 @@ use Rattle.pl_calls.specs.Parameters.{declared_by, bound_to}
 use Rattle.pl_calls.specs.Parts.{Body, body_of, under, key_place_of}
 use Rattle.pl_calls.specs.Reaching.{Opens, node_in as file_node}
 use Rattle.pl_calls.specs.declared.reaching.Opened.{Opened as OpenedFile}
-use Rattle.pl_expanding.specs.Expanding.{expanded}
-use Rattle.pl_expanding.specs.Following.{Follow, scope_of}
-use Rattle.pl_expanding.specs.Levels.{variable_item, items_of, items_from, frame_for, deeper}
-use Rattle.pl_expanding.specs.Levels.{call_by, followed}
+use Rattle.pl_recursion.specs.Expanding.{expanded}
+use Rattle.pl_recursion.specs.Following.{Follow, scope_of}
+use Rattle.pl_recursion.specs.Levels.{variable_item, items_of, items_from, frame_for, deeper}
+use Rattle.pl_recursion.specs.Levels.{call_by, followed}
 use Rattle.pl_eval_laws.proofs.Leads.{Opened, head_by}
 use Rattle.pl_eval_laws.proofs.Lists.{Has, each_map}
 use Rattle.pl_eval_laws.proofs.Trees.{NodeFrom, PairFrom, OpenedFrom, Led, pair_from, text_node}

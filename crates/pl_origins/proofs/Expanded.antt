@@ -37,15 +37,15 @@ use Rattle.pl_directives.specs.Manners.{manner_of}
 use Rattle.pl_directives.specs.Regions.{under, inside, of_item, is_path}
 use Rattle.pl_directives.specs.Scalars.{scalar_value}
 use Rattle.pl_directives.specs.Strays.{told, key_stray, unless_stray, given_value}
-use Rattle.pl_expanding.specs.Expanding.{Filling, Shape, Part, Entry, scalar, sequence, mapping}
-use Rattle.pl_expanding.specs.Expanding.{collected, value_by, body_by, body, turns, path_by, done}
-use Rattle.pl_expanding.specs.Expanding.{value_under, pair_behind, pairs_behind, mapping_behind}
-use Rattle.pl_expanding.specs.Expanding.{item_by, item_behind, items_behind}
-use Rattle.pl_expanding.specs.Expanding.{facet_of, part_of, shape_of, entry_of, expanded}
-use Rattle.pl_expanding.specs.Following.{Follow, scope_of}
-use Rattle.pl_expanding.specs.Scalars.{scalar_at, path_at}
-use Rattle.pl_expanding.specs.Scalars.{path_by as path_text_by}
-use Rattle.pl_expanding.specs.Settling.{node_settling}
+use Rattle.pl_recursion.specs.Expanding.{Filling, Shape, Part, Entry, scalar, sequence, mapping}
+use Rattle.pl_recursion.specs.Expanding.{collected, value_by, body_by, body, turns, path_by, done}
+use Rattle.pl_recursion.specs.Expanding.{value_under, pair_behind, pairs_behind, mapping_behind}
+use Rattle.pl_recursion.specs.Expanding.{item_by, item_behind, items_behind}
+use Rattle.pl_recursion.specs.Expanding.{facet_of, part_of, shape_of, entry_of, expanded}
+use Rattle.pl_recursion.specs.Following.{Follow, scope_of}
+use Rattle.pl_recursion.specs.Scalars.{scalar_at, path_at}
+use Rattle.pl_recursion.specs.Scalars.{path_by as path_text_by}
+use Rattle.pl_recursion.specs.Settling.{node_settling}
 use Rattle.pl_directives.specs.declared.progress.Counted.{Counted}
 use Rattle.pl_calls.specs.Parts.{Body}
 use Rattle.pl_eval_laws.proofs.Lists.{Has}

@@ -20,18 +20,18 @@ use Rattle.pl_directives.specs.declared.region.Form.{Form}
 use Rattle.pl_directives.specs.declared.region.Region.{Region}
 use Rattle.pl_directives.specs.Contents.{with_count, object_of}
 use Rattle.pl_directives.specs.Regions.{call_form, inside, under}
-use Rattle.pl_expanding.specs.declared.followed.Followed.{Followed}
-use Rattle.pl_expanding.specs.declared.followed.SettledPairs.{SettledPairs}
-use Rattle.pl_expanding.specs.declared.followed.SettledValue.{SettledValue}
+use Rattle.pl_recursion.specs.declared.followed.Followed.{Followed}
+use Rattle.pl_recursion.specs.declared.followed.SettledPairs.{SettledPairs}
+use Rattle.pl_recursion.specs.declared.followed.SettledValue.{SettledValue}
 use Rattle.pl_directives.specs.declared.progress.Counted.{Counted}
-use Rattle.pl_expanding.specs.Following.{Follow, scope_of}
-use Rattle.pl_expanding.specs.Putting.{add_by, add_item, splice, spread_of, spread}
-use Rattle.pl_expanding.specs.Settling.{Settling, ValueSeen, NodeSeen, PairSeen, items_and}
-use Rattle.pl_expanding.specs.Settling.{items_with, item_settled, item_behind, items_behind}
-use Rattle.pl_expanding.specs.Settling.{pairs_and, pair_behind, pairs_behind, array_settled}
-use Rattle.pl_expanding.specs.Settling.{object_settled, node_settled, value_seen, node_seen}
-use Rattle.pl_expanding.specs.Settling.{atom_settled, pair_seen, node_settling}
-use Rattle.pl_expanding.proofs.Itself.{node_itself}
+use Rattle.pl_recursion.specs.Following.{Follow, scope_of}
+use Rattle.pl_recursion.specs.Putting.{add_by, add_item, splice, spread_of, spread}
+use Rattle.pl_recursion.specs.Settling.{Settling, ValueSeen, NodeSeen, PairSeen, items_and}
+use Rattle.pl_recursion.specs.Settling.{items_with, item_settled, item_behind, items_behind}
+use Rattle.pl_recursion.specs.Settling.{pairs_and, pair_behind, pairs_behind, array_settled}
+use Rattle.pl_recursion.specs.Settling.{object_settled, node_settled, value_seen, node_seen}
+use Rattle.pl_recursion.specs.Settling.{atom_settled, pair_seen, node_settling}
+use Rattle.pl_recursion.proofs.Itself.{node_itself}
 use Rattle.pl_eval_laws.proofs.Leads.{Opened, head_in, head_of, object_head, array_head}
 use Rattle.pl_eval_laws.proofs.Leads.{opened_array, opened_object}
 use Rattle.pl_eval_laws.proofs.Lists.{each_append}

@@ -15,9 +15,9 @@ use Rattle.pl_frame.specs.declared.frame.Parameter.{Parameter}
 use Rattle.pl_frame.specs.Names.{taken}
 use Rattle.pl_frame.specs.Origins.{across}
 use Rattle.pl_calls.specs.Reaching.{Opens, node_in as file_node}
-use Rattle.pl_expanding.specs.Expanding.{expanded}
-use Rattle.pl_expanding.specs.Following.{scope_of}
-use Rattle.pl_expanding.specs.Levels.{followed}
+use Rattle.pl_recursion.specs.Expanding.{expanded}
+use Rattle.pl_recursion.specs.Following.{scope_of}
+use Rattle.pl_recursion.specs.Levels.{followed}
 use Rattle.pl_eval_laws.proofs.Lists.{each_implies}
 use Rattle.pl_eval_laws.specs.Trees.{origins_of}
 use Rattle.pl_eval_laws.proofs.Trees.{NodeFrom, node_implies}

@@ -10,9 +10,9 @@ use Rattle.pl_frame.specs.declared.frame.Loop.{Loop}
 use Rattle.pl_frame.specs.declared.frame.Parameter.{Parameter}
 use Rattle.pl_directives.specs.declared.region.Region.{Region}
 use Rattle.pl_calls.specs.Reaching.{Opens}
-use Rattle.pl_expanding.specs.Expanding.{expanded}
-use Rattle.pl_expanding.specs.Following.{scope_of}
-use Rattle.pl_expanding.specs.Levels.{followed}
+use Rattle.pl_recursion.specs.Expanding.{expanded}
+use Rattle.pl_recursion.specs.Following.{scope_of}
+use Rattle.pl_recursion.specs.Levels.{followed}
 use Rattle.pl_origins.specs.Through.{extended_in, IsThrough}
 
 -- each node and each key of a tree came through the template

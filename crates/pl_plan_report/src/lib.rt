@@ -2,6 +2,7 @@
 //! and for each of their steps.
 #![tactic(auto)]
 
+mod bound;
 mod jobs;
 mod names;
 mod plans;

@@ -2,6 +2,7 @@ ghost use Rattle.std.specs.Prelude.{◌≡◌, ◌++◌, codes, OnOk};
 ghost use Rattle.std.specs.List.{join_by};
 ghost use Rattle.pl_plan_report.specs.Lists.{depends_text, names_at, parted, use_text, uses_text};
 
+use crate::bound::push_within;
 use crate::words::kind_word;
 use pl_base::{List, Memory, ResourceKey, Text};
 
@@ -14,7 +15,7 @@ fn push_parted(text: &mut Text, names: &List<Text>, places: &[u32]) -> Result<()
     for place in places {
         if let Some(name) = names.get(*place as usize) {
             text.push_str(before)?;
-            text.push_str(name.as_str())?;
+            push_within(text, name.as_str())?;
             before = ", ";
         }
     }

@@ -35,7 +35,8 @@ fn push_extends(text: &mut Text, extends: &Option<FileKey>) -> Result<(), Memory
 ///   the mapping crossed, in order: `extends`, `include`, `argument` or `made`.
 ///
 /// Names stand there as they are. A place at which no stage, or no job, stands is passed over; a
-/// plan of `plan_of` has none. Memory where memory is wanting.
+/// plan of `plan_of` has none. Memory where memory is wanting, and where a name that is waited for
+/// or a step's line begins behind 16,777,216 bytes.
 pub fn plan_text(alloc: Global, plan: &Plan) -> Result<Text, Memory>
     ensures { IfOk result (λ text. text ≡ plan_text plan.now) }
 {

@@ -1,6 +1,7 @@
 ghost use Rattle.std.specs.Prelude.{◌≡◌, ◌++◌, map, flat_map, OnOk};
 ghost use Rattle.pl_plan_report.specs.Lines.{crossings_text, step_line};
 
+use crate::bound::push_within;
 use crate::words::crossing_word;
 use pl_base::{Crossing, Memory, Text};
 use pl_plan::PlanStep;
@@ -23,7 +24,7 @@ fn push_step(alloc: Global, text: &mut Text, step: &PlanStep) -> Result<(), Memo
     ensures { OnOk result (text.new ≡ text.old ++ step_line step.now) }
 {
     let origin = &step.body.origin;
-    text.push_str("step")?;
+    push_within(text, "step")?;
     push_word(text, step.form.as_str())?;
     text.push_str(" ")?;
     push_place(alloc, text, &origin.source)?;

@@ -25,7 +25,7 @@ use Rattle.pl_origins.proofs.Called.{Borders}
 use Rattle.pl_origins.proofs.Kept.{NoFile, extended_last}
 use Rattle.pl_origins.proofs.Steps.{ok_then}
 use Rattle.pl_expand.specs.declared.root.RootTree.{RootTree}
-use Rattle.pl_expand.specs.Extending.{is_form}
+use Rattle.pl_extends.specs.Forms.{is_form}
 use Rattle.pl_expand.specs.Tree.{Set, tree_of}
 use Rattle.pl_provenance.specs.Roots.{pairs_of, jobs_of}
 use Rattle.pl_provenance.specs.Written.{StandsInFile, behind_extends, IsCall, IsWritten}

@@ -18,9 +18,10 @@ use Rattle.pl_calls.specs.Judging.{unless_at}
 use Rattle.pl_eval_laws.proofs.Lists.{each_append, each_implies}
 use Rattle.pl_eval_laws.proofs.Trees.{PairFrom}
 use Rattle.pl_origins.proofs.Steps.{ok_then, any_then}
-use Rattle.pl_expand.specs.declared.extending.Extension.{Extension}
-use Rattle.pl_expand.specs.Extending.{is_form, form_place, is_replaced, with_items, root_side}
-use Rattle.pl_expand.specs.Extending.{template_side, joined_pairs, shared_variables, merged_with}
+use Rattle.pl_extends.specs.declared.extending.Extension.{Extension}
+use Rattle.pl_extends.specs.Forms.{is_form, form_place}
+use Rattle.pl_expand.specs.Merging.{is_replaced, with_items, root_side}
+use Rattle.pl_expand.specs.Merging.{template_side, joined_pairs, shared_variables, merged_with}
 use Rattle.pl_expand.specs.Tree.{stands, object_pairs, root_object}
 use Rattle.pl_provenance.specs.Roots.{pairs_of, jobs_of}
 

@@ -23,11 +23,13 @@ use Rattle.pl_eval_laws.proofs.Trees.{first_from, pair_implies}
 use Rattle.pl_origins.proofs.Called.{variables_from}
 use Rattle.pl_origins.proofs.Contents.{ContentFrom}
 use Rattle.pl_origins.proofs.Steps.{ok_then, any_then}
-use Rattle.pl_expand.specs.declared.extending.Extension.{Extension}
-use Rattle.pl_expand.specs.Extending.{item_under, variables_from as variables_there, variables_in}
-use Rattle.pl_expand.specs.Extending.{joined_variables, both_variables, with_items, is_replaced}
-use Rattle.pl_expand.specs.Extending.{root_side, template_side, form_place, joined_pairs}
-use Rattle.pl_expand.specs.Extending.{shared_variables, merged}
+use Rattle.pl_extends.specs.declared.extending.Extension.{Extension}
+use Rattle.pl_extends.specs.Extending.{item_under}
+use Rattle.pl_expand.specs.Merging.{variables_from as variables_there, variables_in}
+use Rattle.pl_expand.specs.Merging.{joined_variables, both_variables, with_items, is_replaced}
+use Rattle.pl_extends.specs.Forms.{form_place}
+use Rattle.pl_expand.specs.Merging.{root_side, template_side, joined_pairs}
+use Rattle.pl_expand.specs.Merging.{shared_variables, merged}
 use Rattle.pl_expand.specs.Tree.{stands, object_pairs, root_object}
 use Rattle.pl_provenance.proofs.Extended.{under_from}
 

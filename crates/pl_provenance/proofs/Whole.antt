@@ -18,9 +18,9 @@ use Rattle.pl_calls.specs.Meant.{◌>>>◌}
 use Rattle.pl_calls.specs.Parts.{Body, body_of, under}
 use Rattle.pl_calls.specs.Reaching.{Opens, opens as opens_of}
 use Rattle.pl_calls.specs.declared.reaching.Home.{Home}
-use Rattle.pl_expanding.specs.Expanding.{expanded}
-use Rattle.pl_expanding.specs.Following.{scope_of}
-use Rattle.pl_expanding.specs.Levels.{followed}
+use Rattle.pl_recursion.specs.Expanding.{expanded}
+use Rattle.pl_recursion.specs.Following.{scope_of}
+use Rattle.pl_recursion.specs.Levels.{followed}
 use Rattle.pl_eval_laws.proofs.Lists.{Has}
 use Rattle.pl_eval_laws.proofs.Trees.{PairFrom}
 use Rattle.pl_origins.proofs.Called.{Borders, OpensFrom}
@@ -29,7 +29,7 @@ use Rattle.pl_origins.proofs.Frames.{ParameterFrom}
 use Rattle.pl_origins.proofs.Kept.{any_ok, NoFiles, plainly}
 use Rattle.pl_origins.proofs.Nodes.{NodeIn, PairIn, BodyIn, node_in, under_in}
 use Rattle.pl_origins.proofs.Steps.{Used, ok_then, any_then}
-use Rattle.pl_expand.specs.declared.rooting.RootFilling.{RootFilling}
+use Rattle.pl_extends.specs.declared.rooting.RootFilling.{RootFilling}
 use Rattle.pl_expand.specs.declared.root.RootNode.{RootNode}
 use Rattle.pl_expand.specs.declared.root.RootTree.{RootTree}
 use Rattle.pl_root.specs.Resources.{earliest}

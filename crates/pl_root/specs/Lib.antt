@@ -1,4 +1,5 @@
 pub mod Arguments
+pub mod Counting
 pub mod Frames
 pub mod Keys
 pub mod Reading

@@ -5,6 +5,7 @@
 mod aliases;
 mod arguments;
 mod complaints;
+mod counting;
 mod frames;
 mod mem_files;
 mod repositories;

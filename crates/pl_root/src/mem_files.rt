@@ -8,6 +8,7 @@ ghost use Rattle.pl_yaml.specs.Answers.{Answers};
 ghost use Rattle.pl_yaml.specs.Spells as yaml;
 ghost use Rattle.pl_root.specs.Reading.{read_as, parsed};
 
+use crate::counting::spend_node;
 use pl_base::{ExactCopy, FileKey, Memory, Node, Shared};
 use pl_calls::{Files, Parsed};
 use pl_yaml::{YamlFault, read};
@@ -15,10 +16,14 @@ use std::alloc::Global;
 use std::collections::BTreeMap;
 use std::marker::Model;
 
-/// Files in memory, each read as YAML once, when it is put.
+/// How many nodes all files have that are read together. More are want of memory.
+const MOST_NODES: u32 = 1_000_000;
+
+/// Files in memory, each read as YAML once, when it is put, and how many nodes more may be read.
 #[derive(Drop)]
 pub struct MemFiles {
     files: BTreeMap<FileKey, Shared<Parsed>>,
+    left: u32,
 }
 
 impl Model for MemFiles {
@@ -46,6 +51,14 @@ fn read_as(found: Result<Node, YamlFault>) -> Result<Parsed, Memory>
     }
 }
 
+/// How many nodes more may be read behind a file, of so many.
+fn left_behind(file: &Parsed, left: u32) -> Result<u32, Memory> {
+    match file {
+        Parsed::Good(node) => spend_node(node, left).ok_or(Memory),
+        Parsed::Bad(_) => Ok(left),
+    }
+}
+
 /// A text, read as YAML.
 fn parsed(alloc: Global, key: &FileKey, text: &[u8]) -> Result<Shared<Parsed>, Memory>
     ensures { IfOk result (λ file. file ≡ parsed key.now text.now) }
@@ -61,16 +74,18 @@ impl MemFiles {
     {
         MemFiles {
             files: BTreeMap::new(alloc),
+            left: MOST_NODES,
         }
     }
 
-    /// Reads a text and puts it at its key, in the place of the file that is there. After Memory
-    /// the files are as before.
+    /// Reads a text and puts it at its key, in the place of the file that is there. After Memory,
+    /// which comes too where more than 1,000,000 nodes are read together, the files are as before.
     pub fn put(&mut self, alloc: Global, key: FileKey, text: &[u8]) -> Result<(), Memory>
         ensures ok { OnOk result (self.new ≡ finite.insert self.old key (parsed key text.now)) }
         ensures err { OnErr result (self.new ≡ self.old) }
     {
         let file = parsed(alloc, &key, text)?;
+        self.left = left_behind(&file, self.left)?;
         self.put_parsed(key, file)
     }
 

@@ -1,3 +1,4 @@
+mod bundles;
 mod every_list;
 mod plain;
 mod stages;

@@ -19,7 +19,7 @@ use Rattle.pl_eval_laws.proofs.Lists.{each_implies, each_map, each_of}
 use Rattle.pl_eval_laws.proofs.Leads.{Opened, leads_in, leads_of}
 use Rattle.pl_eval_laws.proofs.Trees.{Any, NodeFrom, OpenedFrom, PairFrom, node_parts}
 use Rattle.pl_eval_laws.proofs.Trees.{pair_parts, value_parts}
-use Rattle.pl_expand.specs.Extending.{is_form}
+use Rattle.pl_extends.specs.Forms.{is_form}
 use Rattle.pl_literal.specs.Items.{is}
 use Rattle.pl_plan.specs.Legs.{legs_of}
 use Rattle.pl_plan.specs.Plans.{IsPlanOf, plan_from, plan_job, plan_leg}

@@ -32,14 +32,14 @@ use Rattle.pl_directives.specs.Regions.{under, inside, of_item, is_path}
 use Rattle.pl_directives.specs.Scalars.{scalar_value}
 use Rattle.pl_directives.specs.Strays.{told, key_stray, unless_stray, given_value}
 use Rattle.pl_calls.specs.Parts.{Body}
-use Rattle.pl_expanding.specs.Expanding.{Filling, Shape, Part, Entry, scalar, sequence, mapping}
-use Rattle.pl_expanding.specs.Expanding.{collected, value_by, body_by, body, turns, path_by}
-use Rattle.pl_expanding.specs.Expanding.{done as done_for, value_under, pair_behind, pairs_behind}
-use Rattle.pl_expanding.specs.Expanding.{mapping_behind, item_by, item_behind, items_behind}
-use Rattle.pl_expanding.specs.Expanding.{facet_of, part_of, shape_of, entry_of, expanded}
-use Rattle.pl_expanding.specs.Following.{Follow, scope_of}
-use Rattle.pl_expanding.specs.Scalars.{scalar_at}
-use Rattle.pl_expanding.specs.Settling.{node_settling}
+use Rattle.pl_recursion.specs.Expanding.{Filling, Shape, Part, Entry, scalar, sequence, mapping}
+use Rattle.pl_recursion.specs.Expanding.{collected, value_by, body_by, body, turns, path_by}
+use Rattle.pl_recursion.specs.Expanding.{done as done_for, value_under, pair_behind, pairs_behind}
+use Rattle.pl_recursion.specs.Expanding.{mapping_behind, item_by, item_behind, items_behind}
+use Rattle.pl_recursion.specs.Expanding.{facet_of, part_of, shape_of, entry_of, expanded}
+use Rattle.pl_recursion.specs.Following.{Follow, scope_of}
+use Rattle.pl_recursion.specs.Scalars.{scalar_at}
+use Rattle.pl_recursion.specs.Settling.{node_settling}
 use Rattle.pl_origins.proofs.Induction.{BodyParts, written_induction}
 use Rattle.pl_used_files.proofs.Agreeing.{Agree, done, both_alone, same_then, both_then}
 use Rattle.pl_used_files.proofs.Settling.{FollowAgree, add_item_agree, splice_agree, spread_agree}

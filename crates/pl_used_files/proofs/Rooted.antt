@@ -45,25 +45,25 @@ use Rattle.pl_calls.specs.Reaching.{found_at, opened_at}
 use Rattle.pl_calls.specs.declared.files.Parsed.{Parsed}
 use Rattle.pl_calls.specs.declared.reaching.Home.{Home}
 use Rattle.pl_calls.specs.declared.reaching.Opened.{Opened as OpenedFile}
-use Rattle.pl_expanding.specs.Expanding.{expanded, part_of, done as done_for}
-use Rattle.pl_expanding.specs.Following.{scope_of}
-use Rattle.pl_expanding.specs.Levels.{followed}
-use Rattle.pl_expanding.specs.Settling.{node_settling}
+use Rattle.pl_recursion.specs.Expanding.{expanded, part_of, done as done_for}
+use Rattle.pl_recursion.specs.Following.{scope_of}
+use Rattle.pl_recursion.specs.Levels.{followed}
+use Rattle.pl_recursion.specs.Settling.{node_settling}
 use Rattle.pl_origins.proofs.Induction.{BodyParts, written_induction}
 use Rattle.pl_origins.proofs.Steps.{Used, Gives}
 use Rattle.pl_expand.specs.declared.filling.Early.{Early}
-use Rattle.pl_expand.specs.declared.rooting.RootFilling.{RootFilling}
+use Rattle.pl_extends.specs.declared.rooting.RootFilling.{RootFilling}
 use Rattle.pl_expand.specs.declared.root.RootTree.{RootTree}
 use Rattle.pl_root.specs.declared.root_key.RootKey.{RootKey}
 use Rattle.pl_root.specs.declared.root_key.RootKey.TheVariants as key
-use Rattle.pl_expand.specs.Extending.{extended, value_extended}
-use Rattle.pl_expand.specs.Rooting.{Rooting, filled_with, chained, counting, misplaced}
-use Rattle.pl_expand.specs.Rooting.{unless_misplaced, extended_behind, key_put, named_put}
-use Rattle.pl_expand.specs.Rooting.{item_put, given_by, given_put, all_given_put, value_put}
-use Rattle.pl_expand.specs.Rooting.{text_put, list_put, pairs_put, mapping_put, node_put}
-use Rattle.pl_expand.specs.Rooting.{turns_put, asked_put, pair_put, node_seen, body_seen}
-use Rattle.pl_expand.specs.Rooting.{pair_seen}
-use Rattle.pl_expand.proofs.Itself.{node_itself}
+use Rattle.pl_extends.specs.Extending.{extended, value_extended}
+use Rattle.pl_extends.specs.Rooting.{Rooting, filled_with, chained, counting, misplaced}
+use Rattle.pl_extends.specs.Rooting.{unless_misplaced, extended_behind, key_put, named_put}
+use Rattle.pl_extends.specs.Rooting.{item_put, given_by, given_put, all_given_put, value_put}
+use Rattle.pl_extends.specs.Rooting.{text_put, list_put, pairs_put, mapping_put, node_put}
+use Rattle.pl_extends.specs.Rooting.{turns_put, asked_put, pair_put, node_seen, body_seen}
+use Rattle.pl_extends.specs.Rooting.{pair_seen}
+use Rattle.pl_extends.proofs.Itself.{node_itself}
 use Rattle.pl_root.specs.Resources.{earliest}
 use Rattle.pl_expand.specs.Tree.{Set, unless, early_by}
 use Rattle.pl_root.specs.Keys.{root_complaints}

@@ -23,7 +23,8 @@ use Prim.Native.Nat.{ℕ}
 
 -- a member is its name beside its value
 abbrev member_of : Former {0} → Former {0}
-member_of held = via (pair (const (list ℕ)) held) (λ X. Member (held.Of X)) (λ X m. (m.name, m.value))
+member_of held =
+    via (pair (const (list ℕ)) held) (λ X. Member (held.Of X)) (λ X m. (m.name, m.value))
     (λ X v. record { name = v.0; value = v.1 }) (λ X m. refl) (λ X v. refl)
 
 -- they hold a list of values, each beside its name
@@ -91,8 +92,8 @@ module _ (R S : RattleType) (h : R.Denot → S.Denot) where
       (λ u p q. Bool-set _ _ p q)
       (λ u e. in_order_kept u.members e) (λ u e. in_order_back u.members e)
       (over (inner.the_row R)) (over (inner.the_row S))
-      (struct_places (inner.the_type R) (inner.the_type S) (map (revalued h), tt) _ (λ members. refl)
-      refl (
+      (struct_places (inner.the_type R) (inner.the_type S) (map (revalued h), tt) _
+      (λ members. refl) refl (
         laid _ _ _ (lists.the_places (one.the_row R) (one.the_row S) (revalued h)
             (one_member alike)),
         tt,
@@ -103,4 +104,5 @@ module _ (R S : RattleType) (h : R.Denot → S.Denot) where
       Recodes (outer.the_row R) (outer.the_row S) ((the_former this).map R.Denot S.Denot h)
   the_codes_placed recodes members = sym (code_map (coded_member R.coded).code
       (coded_member S.coded).code (revalued h)
-      (λ member i. gcons ((coded_list coded_ℕ).code member.name) (sym (recodes member.value) i)) members)
+      (λ member i. gcons ((coded_list coded_ℕ).code member.name) (sym (recodes member.value) i))
+      members)
