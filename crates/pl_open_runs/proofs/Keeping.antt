@@ -3,7 +3,7 @@ use Rattle.std.proofs.Common.{◌≡◌, ℕ, ◌+◌, ◌<◌, ◌≤◌, ◌==
 use Rattle.std.proofs.Common.{◌++◌}
 use Rattle.std.proofs.Common.{length, take, min, filter, All, Option, None, Some, refl, sym, ap}
 use Rattle.std.proofs.Common.{◌∙◌}
-use Rattle.std.proofs.Common.{subst, arith, inl, inr, ⊎_elim}
+use Rattle.std.proofs.Common.{subst, arith, inl, inr, ⊎_elim, Result, Ok, Err, OnErr, OnOk}
 use Rattle.std.specs.BTreeSet.{insert_key}
 use Rattle.std.specs.FinMap.{nat_cmp-IsAntisymmetric}
 use Rattle.std.specs.Ordering.{nat_cmp}
@@ -14,6 +14,7 @@ use Rattle.std.proofs.lemmas.List.Filters.{length-filter_both}
 use Rattle.std.proofs.lemmas.Map.Views.{exact_unsigned_eq}
 use Rattle.std.proofs.lemmas.Option.{none-some, same_Some}
 use Rattle.pl_base.specs.declared.digest.Digest.{Digest}
+use Rattle.pl_base.specs.declared.memory.Memory.{Memory}
 use Rattle.pl_facts.specs.declared.fact.Fact.{Fact}
 use Rattle.pl_journal.specs.Log.{Log, Opening, empty}
 use Rattle.pl_journal.specs.Runs.{number_told}
@@ -283,3 +284,52 @@ pub after_known : (journal new : Log) (known known' runs runs' : List ℕ) (run 
 after_known journal new known known' runs runs' run index is known_is runs_are =
     index_at journal new (insert_key nat_cmp known run) known' runs runs' is known_is runs_are
     (index_known journal known runs run index)
+
+-- one of a run's stages ended: it isn't open any more, or it still is
+pub after_ended : (journal new : Log) (fact : Fact) (known runs runs' : List ℕ) (run : ℕ) →
+    IsIndex journal known runs → ended_told fact.event ≡ Some run → new ≡ pushed journal fact →
+    is_open run new.facts ≡ false → runs' ≡ filter (λ one. not (one == run)) runs →
+    IsIndex new known runs'
+after_ended journal new fact known runs runs' run index ended is over runs_are =
+    index_at (pushed journal fact) new known known (filter (λ one. not (one == run)) runs) runs' is
+    refl runs_are (index_ended journal fact known runs run index ended
+    (sym (ap (λ (log : Log). is_open run log.facts) is) ∙ over))
+
+pub after_still : (journal new : Log) (fact : Fact) (known runs : List ℕ) (run : ℕ) →
+    IsIndex journal known runs → ended_told fact.event ≡ Some run → new ≡ pushed journal fact →
+    is_open run new.facts ≡ true → IsIndex new known runs
+after_still journal new fact known runs run index ended is still =
+    index_at (pushed journal fact) new known known runs runs is refl refl
+    (index_still journal fact known runs run index ended
+    (sym (ap (λ (log : Log). is_open run log.facts) is) ∙ still))
+
+-- another fact came, or didn't
+pub after_other : (journal new : Log) (fact : Fact) (known runs : List ℕ)
+    (result : Result (Unit {0}) Memory) → IsIndex journal known runs →
+    number_told fact.event ≡ None → ended_told fact.event ≡ None →
+    OnOk result (new ≡ pushed journal fact) → OnErr result (new ≡ journal) →
+    IsIndex new known runs
+after_other journal new fact known runs (Ok done) index queued ended ok err =
+    index_at (pushed journal fact) new known known runs runs ok refl refl
+    (index_other journal fact known runs index queued ended)
+after_other journal new fact known runs (Err wanting) index queued ended ok err =
+    index_at journal new known known runs runs err refl refl index
+
+-- facts were taken away
+pub after_back : (journal new : Log) (known runs runs' : List ℕ) → IsIndex journal known runs →
+    new ≡ record journal { facts = take journal.installed journal.facts } →
+    runs' ≡ filter (λ run. is_open run new.facts) known → IsIndex new known runs'
+after_back journal new known runs runs' index is runs_are =
+    index_at (record journal { facts = take journal.installed journal.facts }) new known known
+    (filter (λ run. is_open run (take journal.installed journal.facts)) known) runs' is refl
+    (runs_are ∙ ap (λ (log : Log). filter (λ run. is_open run log.facts) known) is)
+    (index_back journal known runs index)
+
+-- all facts were installed
+pub after_installed : (journal new : Log) (opening : Opening) (known known' runs : List ℕ) →
+    IsIndex journal known runs →
+    new ≡ record journal { opening = opening; installed = length journal.facts } →
+    known' ≡ runs → IsIndex new known' runs
+after_installed journal new opening known known' runs index is known_is =
+    index_at (record journal { opening = opening; installed = length journal.facts }) new runs
+    known' runs runs is known_is refl (index_installed journal opening known runs index)

@@ -1,9 +1,7 @@
 //! Where the steps of a stage come from.
 
-ghost use Rattle.std.specs.Prelude.{◌≡◌, ◌+◌, ◌++◌, IfOk, OnOk, map};
-ghost use Rattle.std.specs.List.{enumerate_from};
+ghost use Rattle.std.specs.Prelude.{◌≡◌, ◌+◌, ◌++◌, IfOk, OnOk};
 ghost use Rattle.pl_base.specs.declared.value.Value.{out-Value};
-ghost use Rattle.pl_plan.specs.Labels.{label};
 ghost use Rattle.pl_views.specs.CheckViews as spec;
 
 use pl_base::{ExactCopy, List, MarkedNode, Memory, Origin, Value};

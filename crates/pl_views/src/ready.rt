@@ -1,6 +1,6 @@
 //! What stages and jobs wait for.
 
-ghost use Rattle.std.specs.Prelude.{◌≡◌, max, option_map_or};
+ghost use Rattle.std.specs.Prelude.{◌≡◌};
 ghost use Rattle.std.specs.Option.{option_copied};
 ghost use Rattle.pl_views.specs.Ready as spec;
 

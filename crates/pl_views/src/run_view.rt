@@ -3,7 +3,6 @@
 ghost use Rattle.std.specs.Prelude.{◌≡◌, [], IfOk, map, unwrap_or};
 ghost use Rattle.std.specs.List.{range_with_len};
 ghost use Rattle.std.specs.Option.{option_copied};
-ghost use Rattle.pl_facts.specs.declared.fact.Fact.{Fact as Told};
 ghost use Rattle.pl_journal.specs.Runs as runs;
 ghost use Rattle.pl_journal.specs.Settings.{by};
 ghost use Rattle.pl_views.specs.RunViews as spec;
