@@ -22,7 +22,7 @@ import glob, re, subprocess, sys
 
 program, work = sys.argv[1:]
 few, many = 0, 100_000
-names = ("file pipeline resource agent principal principal_with run canceling stage_start stage_end decision queueing taking "
+names = ("file pipeline resource agent principal principal_with run canceling stage_start stage_end decision decisions taking "
          "job_ending holding held_by outputs last_run last_moment version").split()
 
 

@@ -1,18 +1,19 @@
 -- Runs, their stages and their jobs: the latest fact counts.
-use Rattle.std.specs.Prelude.{ℕ, Bool, false, List, Option, Some, None, is_none, is_some}
-use Rattle.std.specs.Prelude.{if◌then◌else◌}
-use Rattle.std.specs.Option.{option_or, option_and_then}
+use Rattle.std.specs.Prelude.{ℕ, Bool, false, not, ◌&&◌, List, [], ◌∷◌, flat_map}
+use Rattle.std.specs.Prelude.{Option, Some, None, is_none, is_some, if◌then◌else◌}
+use Rattle.std.specs.Option.{option_or, option_and_then, option_map_or}
 use Rattle.pl_base.specs.declared.outcome.Outcome.{Outcome}
 use Rattle.pl_facts.specs.declared.fact.Event.{Event}
 use Rattle.pl_facts.specs.declared.fact.Event.TheVariants as event
 use Rattle.pl_facts.specs.declared.fact.Fact.{Fact}
 use Rattle.pl_facts.specs.declared.fact.QueuedRun.{QueuedRun}
 use Rattle.pl_rules.specs.declared.rule.Rule.{Rule}
-use Rattle.pl_journal.specs.About.{latest_also, latest_of}
+use Rattle.pl_journal.specs.About.{is_about, latest_also, latest_of}
 use Rattle.pl_journal.specs.Kinds.{is_queueing, is_canceling, is_start, is_stage_end}
 use Rattle.pl_journal.specs.Kinds.{is_decision_by, is_taking, is_job_end}
 use Rattle.pl_journal.specs.Settings.{by}
 use Rattle.pl_log.specs.Keys.{Run, Stage, Job, Taker}
+use Rattle.pl_log.specs.Latest.{latest_first}
 
 -- ---- what one fact tells
 
@@ -48,6 +49,11 @@ abbrev pub verdict_told : Event → Option Bool
 verdict_told (event.DecisionMade run stage approver approve) = Some approve
 verdict_told _ = None
 
+-- who decided, and whether it was approved; another fact tells nothing of that
+abbrev pub decided : Event → List (List ℕ × Bool)
+decided (event.DecisionMade run stage approver approve) = (approver, approve) ∷ []
+decided _ = []
+
 -- ---- runs and stages: the facts that count
 
 abbrev pub queueing : ℕ → List Fact → Option Fact
@@ -65,6 +71,20 @@ stage_end run stage facts = latest_of (Stage run stage) is_stage_end facts
 -- what somebody decided about a stage
 abbrev pub decision : ℕ → ℕ → List ℕ → List Fact → Option Fact
 decision run stage name facts = latest_of (Stage run stage) (is_decision_by name) facts
+
+-- whether a decision is still its approver's: the latest one about the stage says the same
+abbrev pub still_decided : List Fact → Event → Bool
+still_decided facts (event.DecisionMade run stage approver approve) = option_map_or
+    (λ now. if now then approve else not approve)
+    (by verdict_told (decision run stage approver facts)) false
+still_decided facts _ = false
+
+-- who decided about a stage, and whether it was approved: the latest decision of each counts, and
+-- the latest of these stands in front
+abbrev pub decisions : ℕ → ℕ → List Fact → List (List ℕ × Bool)
+decisions run stage facts = flat_map (λ fact. decided fact.event)
+    (latest_first (λ fact. is_about (Stage run stage) fact && still_decided facts fact.event)
+    facts)
 
 -- ---- jobs
 

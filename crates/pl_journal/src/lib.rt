@@ -3,6 +3,7 @@
 
 mod about;
 mod built_in;
+mod decisions;
 mod journal;
 mod kinds;
 mod looking;
