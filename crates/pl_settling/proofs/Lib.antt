@@ -1,0 +1,6 @@
+pub mod Adding
+pub mod Behind
+pub mod Counting
+pub mod Giving
+pub mod Occupying
+pub mod Waiting

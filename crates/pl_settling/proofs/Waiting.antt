@@ -1,0 +1,192 @@
+-- Where nothing is due, something keeps each stage waiting that is neither started nor ended.
+use Rattle.std.proofs.Common.{◌≡◌, ◌&&◌, ◌<◌, ◌⊎◌, ℕ, Bool, true, false, List, Option, Some, None}
+use Rattle.std.proofs.Common.{is_none, refl, sym, ap, ◌∙◌, subst, inl, inr, ◌∷◌}
+use Rattle.std.specs.List.{All, Any, Contains}
+use Rattle.pl_checks.specs.declared.view.Verdict.{Verdict}
+use Rattle.pl_facts.specs.declared.fact.Event.{Event}
+use Rattle.pl_facts.specs.declared.fact.Fact.{Fact}
+use Rattle.pl_facts.specs.declared.fact.QueuedRun.{QueuedRun}
+use Rattle.pl_journal.specs.Runs.{stage_end, stage_start}
+use Rattle.pl_judgement.specs.Said.{all_pass, first_fail, first_wait}
+use Rattle.pl_judgement.proofs.Asking.{passing}
+use Rattle.pl_locks.specs.Locks.{ComesFirst, GivesWay, IsAt, IsBehind, IsHeld, IsSuperseded, Locks}
+use Rattle.pl_locks.specs.Locks.{MayStart, Shares}
+use Rattle.pl_locks.specs.declared.contender.Contender.{Contender}
+use Rattle.pl_plan.specs.declared.plan.PlanStage.{PlanStage}
+use Rattle.pl_results.specs.declared.members.PlanNode.TheVariants.{Stage}
+use Rattle.pl_rules.specs.declared.rule.Rule.{Rule}
+use Rattle.pl_views.specs.Ready.{is_ready}
+use Rattle.pl_due.specs.Contention.{AreThose, Holds, InRun, IsContention, IsEligible, IsOne}
+use Rattle.pl_due.specs.Contention.{contender_of}
+use Rattle.pl_due.specs.Due.{Among, IsDue, Next, Superseded}
+use Rattle.pl_due.specs.Kinds.{Fails, IsPassedOver, fail_end, false_stage_end}
+use Rattle.pl_due.specs.Least.{FirstOf, Least}
+use Rattle.pl_due.specs.Nodes.{IsStageOf, condition, is_canceled, is_waiting}
+use Rattle.pl_due.proofs.Members.{of_member, same_any}
+use Rattle.pl_due.proofs.Stages.{one_planned, one_told}
+use Rattle.pl_settling.specs.Laws.{Gap}
+
+first_none : (finding : Option Event → Type 0) (rest : List (Option Event → Type 0)) →
+    FirstOf (finding ∷ rest) None → finding None × FirstOf rest None
+first_none finding rest (inl (event, is, found)) = absurd (cc)
+first_none finding rest (inr both) = both
+
+-- ---- two lists of the same stages have the same members
+
+module _ (facts : List Fact) (P : InRun) (xs ys : List Contender)
+    (left : AreThose facts P xs) (right : AreThose facts P ys) where
+  pub also_in : (stage : Contender) → Contains xs stage → Contains ys stage
+  also_in stage is =
+      let one = of_member (IsOne facts P) xs stage left.only is in
+      let (k, other, below, at, same_place) =
+      right.all one.told one.one stage.run stage.position one.there one.holds in
+      let two = of_member (IsOne facts P) ys other right.only (k, below, at) in
+      let here : IsStageOf facts stage.run stage.position two.told two.one =
+      subst (λ s. IsStageOf facts stage.run s two.told two.one) same_place.1
+      (subst (λ r. IsStageOf facts r other.position two.told two.one) same_place.0 two.there) in
+      let t = one_told facts stage.run stage.position two.told one.told two.one one.one here
+      one.there in
+      let o = one_planned facts stage.run stage.position two.told one.told two.one one.one here
+      one.there in
+      let e : other ≡ stage = two.is
+      ∙ ap (λ r. contender_of facts two.told two.one r other.position) same_place.0
+      ∙ ap (λ s. contender_of facts two.told two.one stage.run s) same_place.1
+      ∙ ap (λ q. contender_of facts q two.one stage.run stage.position) t
+      ∙ ap (λ p. contender_of facts one.told p stage.run stage.position) o
+      ∙ sym one.is in
+      subst (Contains ys) e (k, below, at)
+
+-- ---- what keeps a stage waiting among the ones keeps it waiting among the others
+
+module _ (facts : List Fact) (moment : ℕ) (some others : Locks)
+    (left : IsContention facts moment some) (right : IsContention facts moment others) where
+  there_too : (stage : Contender) → Contains some.eligible stage → Contains others.eligible stage
+  there_too = also_in facts (IsEligible facts moment) some.eligible others.eligible left.eligible
+      right.eligible
+
+  pub superseded_too : (stage : Contender) → IsSuperseded some.eligible stage →
+      IsSuperseded others.eligible stage
+  superseded_too stage is = same_any (GivesWay stage) (GivesWay stage) some.eligible
+      others.eligible there_too (λ x h. h) is
+
+  pub held_too : (stage : Contender) → IsHeld some.holders stage → IsHeld others.holders stage
+  held_too stage is = same_any (Shares stage) (Shares stage) some.holders others.holders
+      (also_in facts (Holds facts) some.holders others.holders left.holders right.holders)
+      (λ x h. h) is
+
+module _ (facts : List Fact) (moment : ℕ) (some others : Locks)
+    (left : IsContention facts moment some) (right : IsContention facts moment others) where
+  pub behind_too : (stage : Contender) → IsBehind some.eligible stage →
+      IsBehind others.eligible stage
+  behind_too stage is = same_any
+      (λ other. ComesFirst some.eligible other stage)
+      (λ other. ComesFirst others.eligible other stage) some.eligible others.eligible
+      (also_in facts (IsEligible facts moment) some.eligible others.eligible left.eligible
+      right.eligible)
+      (λ other first. record {
+        precedes = first.precedes;
+        shares = first.shares;
+        stands = λ gives. first.stands (superseded_too facts moment others some right left other
+            gives);
+      }) is
+
+-- ---- a stage that nothing keeps waiting
+
+all_three : (a b c : Bool) → a ≡ true → b ≡ true → c ≡ true → (a && b && c) ≡ true
+all_three a b c x y z = rw (x, y, z) refl
+
+module _ (facts : List Fact) (moment run stage : ℕ) (gap : Gap facts moment run stage) where
+  waits : is_waiting gap.one run stage facts ≡ true
+  waits = all_three (is_none (stage_start run stage facts)) (is_none (stage_end run stage facts))
+      (is_ready gap.one run facts) (ap is_none gap.unstarted) (ap is_none gap.unended) gap.ready
+
+  says : Least facts (IsPassedOver facts) None →
+      condition gap.told run (Stage stage) facts ≡ true
+  says none = go (condition gap.told run (Stage stage) facts) refl
+    where
+      go : (b : Bool) → condition gap.told run (Stage stage) facts ≡ b →
+          condition gap.told run (Stage stage) facts ≡ true
+      go true is = is
+      go false is = absurd (none run stage 0
+          (false_stage_end (is_canceled run facts) run stage)
+          (gap.told, gap.one, gap.there, record {
+            itself = refl;
+            waits = waits;
+            says = is;
+            gets = refl;
+          }))
+
+  pass : Least facts (Fails facts moment) None → all_pass gap.verdicts ≡ true
+  pass none = go (first_fail gap.verdicts) refl
+    where
+      go : (o : Option Rule) → first_fail gap.verdicts ≡ o → all_pass gap.verdicts ≡ true
+      go None is = passing gap.verdicts
+          ∙ ap (λ f. is_none f && is_none (first_wait gap.verdicts)) is
+          ∙ ap is_none gap.waits
+      go (Some rule) is = absurd (none run stage 0 (fail_end run stage rule)
+          (gap.told, gap.one, gap.there, record {
+            itself = refl;
+            waits = waits;
+            verdicts = gap.verdicts;
+            are = gap.are;
+            rule = rule;
+            first = is;
+            gets = refl;
+          }))
+
+  eligible : Least facts (IsPassedOver facts) None → Least facts (Fails facts moment) None →
+      IsEligible facts moment gap.told gap.one run stage
+  eligible none nothing = record {
+    waits = waits;
+    says = says none;
+    permitted = gap.permitted;
+    verdicts = gap.verdicts;
+    are = gap.are;
+    pass = pass nothing;
+  }
+
+  itself : Contender
+  itself = contender_of facts gap.told gap.one run stage
+
+  -- it is itself among the eligible ones
+  among : (locks : Locks) → IsContention facts moment locks →
+      IsEligible facts moment gap.told gap.one run stage → Contains locks.eligible itself
+  among locks contention is =
+      let (k, other, below, at, same_place) =
+      contention.eligible.all gap.told gap.one run stage gap.there is in
+      let two = of_member (IsOne facts (IsEligible facts moment)) locks.eligible other
+      contention.eligible.only (k, below, at) in
+      let here : IsStageOf facts run stage two.told two.one =
+      subst (λ s. IsStageOf facts run s two.told two.one) same_place.1
+      (subst (λ r. IsStageOf facts r other.position two.told two.one) same_place.0 two.there) in
+      let t = one_told facts run stage two.told gap.told two.one gap.one here gap.there in
+      let o = one_planned facts run stage two.told gap.told two.one gap.one here gap.there in
+      let e : other ≡ itself = two.is
+      ∙ ap (λ r. contender_of facts two.told two.one r other.position) same_place.0
+      ∙ ap (λ s. contender_of facts two.told two.one run s) same_place.1
+      ∙ ap (λ q. contender_of facts q two.one run stage) t
+      ∙ ap (λ p. contender_of facts gap.told p run stage) o in
+      subst (Contains locks.eligible) e (k, below, at)
+
+  pub no_gap : IsDue facts moment None → ⊥
+  no_gap none =
+      let (n1, after1) = first_none _ _ none in
+      let (n2, after2) = first_none _ _ after1 in
+      let (n3, after3) = first_none _ _ after2 in
+      let (n4, after4) = first_none _ _ after3 in
+      let (n5, after5) = first_none _ _ after4 in
+      let ((early, early_is, none_superseded), after6) = first_none _ _ after5 in
+      let ((late, late_is, none_next), after7) = first_none _ _ after6 in
+      let is = eligible n4 n5 in
+      let in_early = among early early_is is in
+      let in_late = among late late_is is in
+      of_member (λ one. MayStart late.eligible late.holders one → ⊥) late.eligible itself none_next
+      in_late (record {
+        stands = λ gives. of_member (λ one. IsSuperseded early.eligible one → ⊥) early.eligible
+            itself none_superseded in_early
+            (superseded_too facts moment late early late_is early_is itself gives);
+        unheld = λ held. gap.unheld (held_too facts moment late gap.locks late_is gap.contention
+            itself held);
+        first = λ behind. gap.first (behind_too facts moment late gap.locks late_is gap.contention
+            itself behind);
+      })
