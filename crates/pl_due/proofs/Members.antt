@@ -47,8 +47,8 @@ module _ {X : Type 0} where
   pairs_append R [] ys left right across = right
   pairs_append R (x ∷ xs) ys left right across =
       AllPairs-cons R x (xs ++ ys)
-      (All-append (R x) xs ys (all_from (R x) xs (λ y in. head_before R x y xs left in))
-      (all_from (R x) ys (λ y in. across x y (here x xs) in)))
+      (All-append (R x) xs ys (all_from (R x) xs (λ y among. head_before R x y xs left among))
+      (all_from (R x) ys (λ y among. across x y (here x xs) among)))
       (pairs_append R xs ys (tail_pairs R x xs left) right
       (λ a b in_xs in_ys. across a b (there a x xs in_xs) in_ys))
 

@@ -88,7 +88,8 @@ flat_from {X} {Y} f y (first ∷ xs) in_some = ⊎_elim
 range_in : (count n : ℕ) → n < count → Contains (range_with_len 0 count) n
 range_in count n less =
     let len : length (range_with_len 0 count) ≡ count = length-range_with_len 0 count in
-    (n, omega (arith, len, less), get_or-range_with_len 0 count n n less)
+    let same : 0 + n ≡ n = omega arith in
+    (n, omega (arith, len, less), get_or-range_with_len 0 count n n less ∙ same)
 
 -- ---- stages of one run
 

@@ -48,7 +48,7 @@ named one told key e about = ap (λ t. same_key (key_of t) key) (sym e) ∙ abou
 
 -- ---- jobs
 
-one_if : Option Fact → ℕ
+abbrev one_if : Option Fact → ℕ
 one_if None = 0
 one_if (Some x) = 1
 
@@ -57,10 +57,10 @@ at_most_one None = omega arith
 at_most_one (Some x) = omega arith
 
 module _ (run stage job moment : ℕ) where
-  used_by_job : List Fact → ℕ
+  abbrev used_by_job : List Fact → ℕ
   used_by_job facts = one_if (job_end run stage job facts)
 
-  ends_job : Fact → Bool
+  abbrev ends_job : Fact → Bool
   ends_job fact = is_about (Job run stage job) fact && is_job_end fact.event
 
   job_step : (facts : List Fact) (one : Fact) → Gives facts moment one.event →
@@ -115,7 +115,7 @@ module _ (run stage job moment : ℕ) where
 
 -- ---- stages
 
-used_of : Option Fact → Option Fact → ℕ
+abbrev used_of : Option Fact → Option Fact → ℕ
 used_of start (Some x) = 2
 used_of None None = 0
 used_of (Some x) None = 1
@@ -130,13 +130,13 @@ open_used None = omega arith
 open_used (Some x) = omega arith
 
 module _ (run stage moment : ℕ) where
-  used_by_stage : List Fact → ℕ
+  abbrev used_by_stage : List Fact → ℕ
   used_by_stage facts = used_of (stage_start run stage facts) (stage_end run stage facts)
 
-  starts_it : Fact → Bool
+  abbrev starts_it : Fact → Bool
   starts_it fact = is_about (Stage run stage) fact && is_start fact.event
 
-  ends_it : Fact → Bool
+  abbrev ends_it : Fact → Bool
   ends_it fact = is_about (Stage run stage) fact && is_stage_end fact.event
 
   record IsStart (facts : List Fact) (told : Event) : Type 0 where

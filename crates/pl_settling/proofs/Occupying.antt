@@ -13,7 +13,7 @@ use Rattle.pl_journal.specs.About.{is_about}
 use Rattle.pl_journal.specs.Kinds.{is_queueing, is_stage_end, is_start}
 use Rattle.pl_journal.specs.Runs.{queueing, run_told, stage_end, stage_start}
 use Rattle.pl_journal.specs.Settings.{by, resource, resource_set}
-use Rattle.pl_log.specs.Keys.{Named, Resource, Run, Stage}
+use Rattle.pl_log.specs.Keys.{Resource, Run, Stage, same_key}
 use Rattle.pl_log.proofs.Naming.{exact_key}
 use Rattle.pl_plan.specs.declared.plan.PlanStage.{PlanStage}
 use Rattle.pl_due.specs.Checked.{exclusive_uses, is_exclusive}
@@ -98,9 +98,6 @@ module _ (facts : List Fact) (one : Fact) (quiet : IsQuiet one) where
 
   -- ---- where the next one does
 
-  record IsOther (run stage : ℕ) : Type 0 where
-    pub no : (is_about (Stage run stage) one && is_start one.event) ≡ false
-
   module _ (moment started place : ℕ) (next : WasNext facts moment started place)
       (names : (run stage : ℕ) →
       ((run ≡ started) × (stage ≡ place)) ⊎
@@ -140,8 +137,15 @@ names_one : (started place run stage : ℕ) (b : Bool) →
     (b ≡ true → Stage started place ≡ Stage run stage) →
     ((run ≡ started) × (stage ≡ place)) ⊎ ((b && true) ≡ false)
 names_one started place run stage true exact =
-    let e : Stage started place ≡ Stage run stage = exact refl in inl (cc, cc)
+    let e : Stage started place ≡ Stage run stage = exact refl in
+    let a : run ≡ started = cc in
+    let c : stage ≡ place = cc in
+    inl (a, c)
 names_one started place run stage false exact = inr refl
+
+no_start : (b : Bool) → (b && false) ≡ false
+no_start true = refl
+no_start false = refl
 
 -- every fact that is due keeps it
 pub keeps_one : (moment : ℕ) (facts : List Fact) (one : Fact) → one.moment ≡ moment →
@@ -155,16 +159,14 @@ keeps_one moment facts one at is holds = go one.event refl is
         (record { run = λ number. rw e refl; resource = λ key. rw e refl })
         moment started place next
         (λ run stage. rw e (names_one started place run stage
-        (is_about (Stage run stage) (record { moment = one.moment;
-            event = event.StageStarted started place }))
+        (same_key (Stage started place) (Stage run stage))
         (λ h. exact_key (Stage started place) (Stage run stage) h)))
         holds
-    go (event.StageEnded run stage outcome rule) e open_one =
+    go (event.StageEnded run stage outcome rule) e ended =
         still_one facts one
         (record { run = λ number. rw e refl; resource = λ key. rw e refl })
-        (λ r s. rw e (no_start (is_about (Stage r s) (record { moment = one.moment;
-            event = event.StageEnded run stage outcome rule })))) holds
-    go (event.JobEnded outcome reported stage job run rule outputs) e open_one =
+        (λ r s. rw e (no_start (same_key (Stage run stage) (Stage r s)))) holds
+    go (event.JobEnded outcome reported stage job run rule outputs) e ended =
         still_one facts one
         (record { run = λ number. rw e refl; resource = λ key. rw e refl })
         (λ r s. rw e refl) holds
@@ -178,7 +180,3 @@ keeps_one moment facts one at is holds = go one.event refl is
     go (event.DecisionMade run stage approver approve) e none = absurd none
     go (event.JobTaken run stage job agent) e none = absurd none
     go (event.RunCanceled run) e none = absurd none
-
-    no_start : (b : Bool) → (b && false) ≡ false
-    no_start true = refl
-    no_start false = refl

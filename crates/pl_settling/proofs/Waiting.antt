@@ -20,16 +20,34 @@ use Rattle.pl_due.specs.Contention.{AreThose, Holds, InRun, IsContention, IsElig
 use Rattle.pl_due.specs.Contention.{contender_of}
 use Rattle.pl_due.specs.Due.{Among, IsDue, Next, Superseded}
 use Rattle.pl_due.specs.Kinds.{Fails, IsPassedOver, fail_end, false_stage_end}
-use Rattle.pl_due.specs.Least.{FirstOf, Least}
+use Rattle.pl_due.specs.Least.{Least}
 use Rattle.pl_due.specs.Nodes.{IsStageOf, condition, is_canceled, is_waiting}
 use Rattle.pl_due.proofs.Members.{of_member, same_any}
 use Rattle.pl_due.proofs.Stages.{one_planned, one_told}
 use Rattle.pl_settling.specs.Laws.{Gap}
 
-first_none : (finding : Option Event → Type 0) (rest : List (Option Event → Type 0)) →
-    FirstOf (finding ∷ rest) None → finding None × FirstOf rest None
-first_none finding rest (inl (event, is, found)) = absurd (cc)
-first_none finding rest (inr both) = both
+-- what isn't there where nothing is due
+record IsIdle (facts : List Fact) (moment : ℕ) : Type 0 where
+  pub passed_over : Least facts (IsPassedOver facts) None
+  pub fails : Least facts (Fails facts moment) None
+  pub superseded : Among facts moment Superseded None
+  pub next : Among facts moment Next None
+
+idle : (facts : List Fact) (moment : ℕ) → IsDue facts moment None → IsIdle facts moment
+idle f m (inl (x, is, k)) = absurd (cc)
+idle f m (inr (n1, inl (x, is, k))) = absurd (cc)
+idle f m (inr (n1, inr (n2, inl (x, is, k)))) = absurd (cc)
+idle f m (inr (n1, inr (n2, inr (n3, inl (x, is, k))))) = absurd (cc)
+idle f m (inr (n1, inr (n2, inr (n3, inr (n4, inl (x, is, k)))))) = absurd (cc)
+idle f m (inr (n1, inr (n2, inr (n3, inr (n4, inr (n5, inl (x, is, k))))))) = absurd (cc)
+idle f m (inr (n1, inr (n2, inr (n3, inr (n4, inr (n5, inr (n6, inl (x, is, k)))))))) =
+    absurd (cc)
+idle f m (inr (n1, inr (n2, inr (n3, inr (n4, inr (n5, inr (n6, inr (n7, none)))))))) = record {
+  passed_over = n4;
+  fails = n5;
+  superseded = n6;
+  next = n7;
+}
 
 -- ---- two lists of the same stages have the same members
 
@@ -145,7 +163,7 @@ module _ (facts : List Fact) (moment run stage : ℕ) (gap : Gap facts moment ru
     pass = pass nothing;
   }
 
-  itself : Contender
+  abbrev itself : Contender
   itself = contender_of facts gap.told gap.one run stage
 
   -- it is itself among the eligible ones
@@ -170,14 +188,10 @@ module _ (facts : List Fact) (moment run stage : ℕ) (gap : Gap facts moment ru
 
   pub no_gap : IsDue facts moment None → ⊥
   no_gap none =
-      let (n1, after1) = first_none _ _ none in
-      let (n2, after2) = first_none _ _ after1 in
-      let (n3, after3) = first_none _ _ after2 in
-      let (n4, after4) = first_none _ _ after3 in
-      let (n5, after5) = first_none _ _ after4 in
-      let ((early, early_is, none_superseded), after6) = first_none _ _ after5 in
-      let ((late, late_is, none_next), after7) = first_none _ _ after6 in
-      let is = eligible n4 n5 in
+      let nothing = idle facts moment none in
+      let (early, early_is, none_superseded) = nothing.superseded in
+      let (late, late_is, none_next) = nothing.next in
+      let is = eligible nothing.passed_over nothing.fails in
       let in_early = among early early_is is in
       let in_late = among late late_is is in
       of_member (λ one. MayStart late.eligible late.holders one → ⊥) late.eligible itself none_next
