@@ -11,6 +11,7 @@ mod ends;
 mod eligible;
 mod jobs;
 mod judging;
+mod laws;
 mod nodes;
 mod open_stages;
 mod scanning;
@@ -18,3 +19,4 @@ mod stage_at;
 mod stages;
 
 pub use due::due;
+pub use laws::due_laws;

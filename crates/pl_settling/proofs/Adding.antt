@@ -1,12 +1,17 @@
 -- Facts that are added one after the other.
-use Rattle.std.proofs.Common.{◌≡◌, ℕ, List, [], ◌∷◌, ◌++◌, Some, None, refl, sym, ap, ◌∙◌, subst}
+use Rattle.std.proofs.Common.{◌≡◌, ℕ, List, [], ◌∷◌, ◌++◌, Option, Some, None, refl, sym, ap}
+use Rattle.std.proofs.Common.{◌∙◌, subst}
 use Rattle.std.proofs.lemmas.List.{append_assoc, append-nil}
+use Rattle.pl_facts.specs.declared.fact.Event.{Event}
 use Rattle.pl_facts.specs.declared.fact.Fact.{Fact}
 use Rattle.pl_due.specs.Due.{IsDue}
 use Rattle.pl_settling.specs.Laws.{Along}
 use Rattle.pl_settling.specs.Settles.{Adds, Settles}
 use Rattle.pl_settling.specs.Gives.{Gives}
 use Rattle.pl_settling.proofs.Giving.{gives}
+
+abbrev fact : ℕ → Event → Fact
+fact moment event = record { moment = moment; event = event }
 
 pub added_so : (moment : ℕ) (facts added : List Fact) → Settles moment facts added →
     Adds moment facts added
@@ -55,3 +60,22 @@ kept_along K moment each facts [] adds holds = tt
 kept_along K moment each facts (one ∷ added) (due, at, rest) holds =
     let more = each facts one at (gives facts moment one.event due) holds in
     (more, kept_along K moment each (facts ++ one ∷ []) added rest more)
+
+-- where what is due leaves no choice, neither does settling
+module _ {moment : ℕ} (one : (facts : List Fact) (a b : Option Event) → IsDue facts moment a →
+    IsDue facts moment b → a ≡ b) where
+  pub one_settling : (facts left right : List Fact) → Settles moment facts left →
+      Settles moment facts right → left ≡ right
+  one_settling facts [] [] a b = refl
+  one_settling facts [] (y ∷ right) a (due, at, rest) =
+      let e : None ≡ Some y.event = one facts None (Some y.event) a due in absurd (cc)
+  one_settling facts (x ∷ left) [] (due, at, rest) b =
+      let e : Some x.event ≡ None = one facts (Some x.event) None due b in absurd (cc)
+  one_settling facts (x ∷ left) (y ∷ right) (due, at, rest) (other, also, others) =
+      let some = one facts (Some x.event) (Some y.event) due other in
+      let event : x.event ≡ y.event = cc in
+      let m : x.moment ≡ y.moment = at ∙ sym also in
+      let e : x ≡ y = ap (λ n. fact n x.event) m ∙ ap (fact y.moment) event in
+      let P : Fact → Type 0 = λ z. Settles moment (facts ++ z ∷ []) left in
+      ap (λ z. z ∷ left) e
+      ∙ ap (λ zs. y ∷ zs) (one_settling (facts ++ y ∷ []) left right (subst P e rest) others)

@@ -9,20 +9,20 @@ use Rattle.pl_facts.specs.declared.fact.QueuedRun.{QueuedRun}
 use Rattle.pl_journal.specs.Runs.{stage_end, stage_start}
 use Rattle.pl_judgement.specs.Said.{all_pass, first_fail, first_wait}
 use Rattle.pl_judgement.proofs.Asking.{passing}
-use Rattle.pl_locks.specs.Locks.{ComesFirst, GivesWay, IsAt, IsBehind, IsHeld, IsSuperseded, Locks}
-use Rattle.pl_locks.specs.Locks.{MayStart, Shares}
+use Rattle.pl_locks.specs.Locks.{IsAt, IsBehind, IsHeld, IsSuperseded, Locks, MayStart}
 use Rattle.pl_locks.specs.declared.contender.Contender.{Contender}
 use Rattle.pl_plan.specs.declared.plan.PlanStage.{PlanStage}
 use Rattle.pl_results.specs.declared.members.PlanNode.TheVariants.{Stage}
 use Rattle.pl_rules.specs.declared.rule.Rule.{Rule}
 use Rattle.pl_views.specs.Ready.{is_ready}
-use Rattle.pl_due.specs.Contention.{AreThose, Holds, InRun, IsContention, IsEligible, IsOne}
+use Rattle.pl_due.specs.Contention.{IsContention, IsEligible, IsOne}
 use Rattle.pl_due.specs.Contention.{contender_of}
 use Rattle.pl_due.specs.Due.{Among, IsDue, Next, Superseded}
 use Rattle.pl_due.specs.Kinds.{Fails, IsPassedOver, fail_end, false_stage_end}
 use Rattle.pl_due.specs.Least.{Least}
 use Rattle.pl_due.specs.Nodes.{IsStageOf, condition, is_canceled, is_waiting}
-use Rattle.pl_due.proofs.Members.{of_member, same_any}
+use Rattle.pl_due.proofs.Members.{of_member}
+use Rattle.pl_due.proofs.OneDue.{one_contention}
 use Rattle.pl_due.proofs.Stages.{one_planned, one_told}
 use Rattle.pl_settling.specs.Laws.{Gap}
 
@@ -48,65 +48,6 @@ idle f m (inr (n1, inr (n2, inr (n3, inr (n4, inr (n5, inr (n6, inr (n7, none)))
   superseded = n6;
   next = n7;
 }
-
--- ---- two lists of the same stages have the same members
-
-module _ (facts : List Fact) (P : InRun) (xs ys : List Contender)
-    (left : AreThose facts P xs) (right : AreThose facts P ys) where
-  pub also_in : (stage : Contender) → Contains xs stage → Contains ys stage
-  also_in stage is =
-      let one = of_member (IsOne facts P) xs stage left.only is in
-      let (k, other, below, at, same_place) =
-      right.all one.told one.one stage.run stage.position one.there one.holds in
-      let two = of_member (IsOne facts P) ys other right.only (k, below, at) in
-      let here : IsStageOf facts stage.run stage.position two.told two.one =
-      subst (λ s. IsStageOf facts stage.run s two.told two.one) same_place.1
-      (subst (λ r. IsStageOf facts r other.position two.told two.one) same_place.0 two.there) in
-      let t = one_told facts stage.run stage.position two.told one.told two.one one.one here
-      one.there in
-      let o = one_planned facts stage.run stage.position two.told one.told two.one one.one here
-      one.there in
-      let e : other ≡ stage = two.is
-      ∙ ap (λ r. contender_of facts two.told two.one r other.position) same_place.0
-      ∙ ap (λ s. contender_of facts two.told two.one stage.run s) same_place.1
-      ∙ ap (λ q. contender_of facts q two.one stage.run stage.position) t
-      ∙ ap (λ p. contender_of facts one.told p stage.run stage.position) o
-      ∙ sym one.is in
-      subst (Contains ys) e (k, below, at)
-
--- ---- what keeps a stage waiting among the ones keeps it waiting among the others
-
-module _ (facts : List Fact) (moment : ℕ) (some others : Locks)
-    (left : IsContention facts moment some) (right : IsContention facts moment others) where
-  there_too : (stage : Contender) → Contains some.eligible stage → Contains others.eligible stage
-  there_too = also_in facts (IsEligible facts moment) some.eligible others.eligible left.eligible
-      right.eligible
-
-  pub superseded_too : (stage : Contender) → IsSuperseded some.eligible stage →
-      IsSuperseded others.eligible stage
-  superseded_too stage is = same_any (GivesWay stage) (GivesWay stage) some.eligible
-      others.eligible there_too (λ x h. h) is
-
-  pub held_too : (stage : Contender) → IsHeld some.holders stage → IsHeld others.holders stage
-  held_too stage is = same_any (Shares stage) (Shares stage) some.holders others.holders
-      (also_in facts (Holds facts) some.holders others.holders left.holders right.holders)
-      (λ x h. h) is
-
-module _ (facts : List Fact) (moment : ℕ) (some others : Locks)
-    (left : IsContention facts moment some) (right : IsContention facts moment others) where
-  pub behind_too : (stage : Contender) → IsBehind some.eligible stage →
-      IsBehind others.eligible stage
-  behind_too stage is = same_any
-      (λ other. ComesFirst some.eligible other stage)
-      (λ other. ComesFirst others.eligible other stage) some.eligible others.eligible
-      (also_in facts (IsEligible facts moment) some.eligible others.eligible left.eligible
-      right.eligible)
-      (λ other first. record {
-        precedes = first.precedes;
-        shares = first.shares;
-        stands = λ gives. first.stands (superseded_too facts moment others some right left other
-            gives);
-      }) is
 
 -- ---- a stage that nothing keeps waiting
 
@@ -194,13 +135,13 @@ module _ (facts : List Fact) (moment run stage : ℕ) (gap : Gap facts moment ru
       let is = eligible nothing.passed_over nothing.fails in
       let in_early = among early early_is is in
       let in_late = among late late_is is in
+      let to_early = one_contention facts moment late early late_is early_is in
+      let to_gap = one_contention facts moment late gap.locks late_is gap.contention in
       of_member (λ one. MayStart late.eligible late.holders one → ⊥) late.eligible itself none_next
       in_late (record {
         stands = λ gives. of_member (λ one. IsSuperseded early.eligible one → ⊥) early.eligible
             itself none_superseded in_early
-            (superseded_too facts moment late early late_is early_is itself gives);
-        unheld = λ held. gap.unheld (held_too facts moment late gap.locks late_is gap.contention
-            itself held);
-        first = λ behind. gap.first (behind_too facts moment late gap.locks late_is gap.contention
-            itself behind);
+            (subst (λ l. IsSuperseded l.eligible itself) to_early gives);
+        unheld = λ held. gap.unheld (subst (λ l. IsHeld l.holders itself) to_gap held);
+        first = λ behind. gap.first (subst (λ l. IsBehind l.eligible itself) to_gap behind);
       })

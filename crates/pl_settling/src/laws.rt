@@ -1,9 +1,11 @@
-ghost use Rattle.std.specs.Prelude.{ℕ, List, None};
+ghost use Rattle.std.specs.Prelude.{◌≡◌, ℕ, List, None};
 ghost use Rattle.pl_due.specs.Due.{IsDue};
 ghost use Rattle.pl_facts.specs.declared.fact.Fact.{Fact};
 ghost use Rattle.pl_settling.specs.Laws.{Along, Gap, HasOneHolder, IsOnce, StartsAsNext};
 ghost use Rattle.pl_settling.specs.Laws.{StillOneHolder};
-ghost use Rattle.pl_settling.specs.Settles.{Adds};
+ghost use Rattle.pl_settling.specs.Settles.{Adds, Settles};
+
+use pl_due::due_laws;
 
 /// Laws of settling, whatever the facts before it are.
 ///
@@ -12,8 +14,9 @@ ghost use Rattle.pl_settling.specs.Settles.{Adds};
 /// passed, and every exclusive resource that it uses was free. Where each exclusive resource has
 /// one holder at most before settling, it has one at most behind each fact that settling adds. Where
 /// nothing is due, something keeps each stage waiting that is neither started nor ended: a stage,
-/// a permission, an open approval or closed hours, a holder, or an earlier stage. And a job gets at
-/// most one fact of it, a stage at most two.
+/// a permission, an open approval or closed hours, a holder, or an earlier stage. A job gets at
+/// most one fact of it, a stage at most two. And facts and a moment leave no choice in what settling
+/// adds.
 pub fn settling_laws()
     ensures next { (moment : ℕ) (facts added : List Fact) → Adds moment facts added →
         Along StartsAsNext facts added }
@@ -23,4 +26,8 @@ pub fn settling_laws()
         (run stage : ℕ) → ¬ Gap facts moment run stage }
     ensures once { (moment : ℕ) (facts added : List Fact) → Adds moment facts added →
         IsOnce added }
-{}
+    ensures one { (moment : ℕ) (facts left right : List Fact) → Settles moment facts left →
+        Settles moment facts right → left ≡ right }
+{
+    due_laws();
+}

@@ -4,7 +4,7 @@ use Rattle.pl_facts.specs.declared.fact.Event.TheVariants as event
 use Rattle.pl_facts.specs.declared.fact.Fact.{Fact}
 use Rattle.pl_settling.specs.Gives.{Gives}
 use Rattle.pl_settling.specs.Laws.{HasOneHolder, NextIfStart, StartsAsNext}
-use Rattle.pl_settling.proofs.Adding.{holds_along, kept_along}
+use Rattle.pl_settling.proofs.Adding.{holds_along, kept_along, one_settling}
 use Rattle.pl_settling.proofs.Counting.{job_once, stage_twice}
 use Rattle.pl_settling.proofs.Occupying.{keeps_one}
 use Rattle.pl_settling.proofs.Waiting.{no_gap}
@@ -45,3 +45,7 @@ returns-clause-once c = λ moment facts added adds. record {
   job = λ run stage one. job_once run stage one moment facts added adds;
   stage = λ run stage. stage_twice run stage moment facts added adds;
 }
+
+pub returns-clause-one : goal.returns-clause-one
+returns-clause-one c = λ moment facts left right. one_settling
+    (λ before a b. c.due_laws.ensures.one before moment a b) facts left right
