@@ -1,7 +1,9 @@
 pub mod Asking
+pub mod ByLocks
 pub mod Members
 pub mod OneDue
 pub mod Opened
 pub mod Picking
 pub mod Scanned
 pub mod Stages
+pub mod Standing

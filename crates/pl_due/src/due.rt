@@ -174,9 +174,17 @@ fn among(
 {
     match least_superseded(eligible) {
         Some((run, stage, later)) => Ok(Some(superseded_end(alloc, run, stage, later)?)),
-        None => Ok(match next_of(eligible, holders) {
-            Some((run, stage)) => Some(Event::StageStarted { run, stage }),
-            None => None,
-        }),
+        None => Ok(next_start(eligible, holders)),
+    }
+}
+
+/// The start of the next stage.
+fn next_start(eligible: &[Contender], holders: &[Contender]) -> Option<Event>
+    requires { IsOrdered eligible.now }
+    ensures { Next (locks eligible.now holders.now) result }
+{
+    match next_of(eligible, holders) {
+        Some((run, stage)) => Some(Event::StageStarted { run, stage }),
+        None => None,
     }
 }

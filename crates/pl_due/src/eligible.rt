@@ -1,23 +1,21 @@
 //! Stages that may be started as far as no other stands in their way, and stages that run.
 
-ghost use Rattle.std.specs.Prelude.{◌↔◌, IfOk, IsTrue};
+ghost use Rattle.std.specs.Prelude.{◌↔◌, IfOk, IsTrue, List, ℕ};
 ghost use Rattle.pl_due.specs.Asked.{IsAsked, facts_of, of_it};
 ghost use Rattle.pl_due.specs.Contention as spec;
+ghost use Rattle.pl_due.specs.Contention.{InRun};
+ghost use Rattle.pl_facts.specs.declared.fact.Fact.{Fact};
 
 use crate::checked::is_permitted;
 use crate::judging::judgement;
 use crate::nodes::{is_running, is_waiting, stage_says};
 use crate::stage_at::StageAt;
 use pl_base::Memory;
-use pl_checks::verdict_laws;
+use pl_judgement::judgement_laws;
 use std::alloc::Global;
 
 /// Something that holds of stages.
 pub(crate) trait Holding {
-    ghost use Rattle.std.specs.Prelude.{ℕ, List};
-    ghost use Rattle.pl_facts.specs.declared.fact.Fact.{Fact};
-    ghost use Rattle.pl_due.specs.Contention.{InRun};
-
     ghost of: { Self → List Fact → ℕ → InRun };
 
     /// Whether it holds of a stage.
@@ -35,7 +33,7 @@ impl Holding for Eligible {
     ghost of = { λ itself facts moment. spec.IsEligible facts moment };
 
     fn holds(&self, alloc: Global, at: &StageAt<'_>) -> Result<bool, Memory> {
-        verdict_laws();
+        judgement_laws();
         if !is_waiting(at) || !is_permitted(at.journal, at.queued, at.planned) {
             return Ok(false);
         }

@@ -12,7 +12,7 @@ use crate::stage_at::StageAt;
 use pl_base::{Memory, ResourceKey};
 use pl_checks::CheckView;
 use pl_judgement::{CheckKind, Judgement};
-use pl_views::check_view;
+use pl_views::{check_view, readiness_laws};
 use std::alloc::Global;
 
 /// What the checks of all that a stage uses say of it. What they see is gathered only where there
@@ -24,6 +24,7 @@ pub(crate) fn judgement(alloc: Global, at: &StageAt<'_>) -> Result<Judgement, Me
     if are_unguarded(at.journal, at.planned.uses.as_slice()) {
         return Ok(Judgement::new());
     }
+    readiness_laws();
     let view = check_view(
         alloc,
         at.journal,

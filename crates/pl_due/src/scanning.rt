@@ -1,10 +1,11 @@
 //! The stages that haven't ended, gone through in order for what is due in them.
 
-ghost use Rattle.std.specs.Prelude.{◌≡◌, ◌≤◌, IfOk};
+ghost use Rattle.std.specs.Prelude.{◌≡◌, ◌≤◌, IfOk, List, ℕ};
 ghost use Rattle.pl_due.specs.Asked.{IsAsked, facts_of, in_it};
 ghost use Rattle.pl_due.specs.Fit.{AreFit, last_moment};
-ghost use Rattle.pl_due.specs.Least.{OfStages};
+ghost use Rattle.pl_due.specs.Least.{InStage, OfStages};
 ghost use Rattle.pl_due.specs.Scans.{FirstJob, FirstStage};
+ghost use Rattle.pl_facts.specs.declared.fact.Fact.{Fact};
 
 use crate::open_stages::Place;
 use crate::stage_at::StageAt;
@@ -15,10 +16,6 @@ use std::alloc::Global;
 
 /// A kind of what is due.
 pub(crate) trait Kind {
-    ghost use Rattle.std.specs.Prelude.{ℕ, List};
-    ghost use Rattle.pl_facts.specs.declared.fact.Fact.{Fact};
-    ghost use Rattle.pl_due.specs.Least.{InStage};
-
     ghost of: { Self → List Fact → ℕ → InStage };
 
     /// The fact that a stage gets, or the first of its jobs that is of this kind; None where

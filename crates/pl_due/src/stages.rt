@@ -10,6 +10,7 @@ use crate::scanning::Kind;
 use crate::stage_at::StageAt;
 use pl_base::Memory;
 use pl_facts::Event;
+use pl_judgement::judgement_laws;
 use pl_results::combined;
 use std::alloc::Global;
 
@@ -58,6 +59,7 @@ impl Kind for Failing {
     ghost of = { λ itself facts moment. spec.Fails facts moment };
 
     fn in_stage(&self, alloc: Global, at: &StageAt<'_>) -> Result<Option<Event>, Memory> {
+        judgement_laws();
         if !is_waiting(at) {
             return Ok(None);
         }

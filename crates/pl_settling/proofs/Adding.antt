@@ -10,7 +10,7 @@ use Rattle.pl_settling.specs.Settles.{Adds, Settles}
 use Rattle.pl_settling.specs.Gives.{Gives}
 use Rattle.pl_settling.proofs.Giving.{gives}
 
-abbrev fact : ℕ → Event → Fact
+abbrev pub fact : ℕ → Event → Fact
 fact moment event = record { moment = moment; event = event }
 
 pub added_so : (moment : ℕ) (facts added : List Fact) → Settles moment facts added →

@@ -1,6 +1,6 @@
 -- What is looked up behind one fact more.
-use Rattle.std.proofs.Common.{◌≡◌, ◌&&◌, ℕ, Bool, true, false, List, [], ◌∷◌, ◌++◌, Option, Some}
-use Rattle.std.proofs.Common.{None, is_some, is_none, refl, sym, ap, ◌∙◌}
+use Rattle.std.proofs.Common.{◌≡◌, Bool, true, false, List, [], ◌∷◌, ◌++◌, Option, Some}
+use Rattle.std.proofs.Common.{None, refl, sym, ap, ◌∙◌}
 use Rattle.std.specs.Prelude.{if◌then◌else◌}
 use Rattle.std.specs.Option.{option_or}
 use Rattle.pl_log.specs.Latest.{latest}
@@ -42,21 +42,3 @@ module _ {X : Type 0} (test : X → Bool) where
       go : (b : Bool) → test x ≡ b → latest test xs ≡ None
       go true is = let e : Some x ≡ None = sym (touched xs x is) ∙ none in absurd (cc)
       go false is = sym (untouched xs x is) ∙ none
-
--- ---- tests
-
-pub first_of_two : (a b : Bool) → (a && b) ≡ true → a ≡ true
-first_of_two true b h = refl
-first_of_two false b h = h
-
-pub second_of_two : (a b : Bool) → (a && b) ≡ true → b ≡ true
-second_of_two true b h = h
-second_of_two false true h = refl
-second_of_two false false h = h
-
-pub is_nothing : {X : Type 0} (o : Option X) → is_none o ≡ true → o ≡ None
-is_nothing None h = refl
-is_nothing (Some x) h = absurd (cc)
-
-pub both : (a b : Bool) → a ≡ true → b ≡ true → (a && b) ≡ true
-both a b l r = ap (λ x. x && b) l ∙ r

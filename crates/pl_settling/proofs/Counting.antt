@@ -11,11 +11,12 @@ use Rattle.pl_journal.specs.Kinds.{is_job_end, is_stage_end, is_start}
 use Rattle.pl_journal.specs.Runs.{job_end, stage_end, stage_start}
 use Rattle.pl_log.specs.Keys.{Job, Named, Stage, same_key}
 use Rattle.pl_log.proofs.Naming.{exact_key}
+use Rattle.pl_due.proofs.Standing.{waiting_open, waiting_unstarted}
 use Rattle.pl_settling.specs.Gives.{Gives}
 use Rattle.pl_settling.specs.Laws.{WasNext}
 use Rattle.pl_settling.specs.Settles.{Adds}
 use Rattle.pl_settling.proofs.Behind.{touched, untouched}
-use Rattle.pl_settling.proofs.Giving.{gives, waiting_open, waiting_unstarted}
+use Rattle.pl_settling.proofs.Giving.{gives}
 
 -- ---- each fact that counts uses up one of so many
 

@@ -24,34 +24,10 @@ use Rattle.pl_due.specs.Nodes.{IsStageOf, awaits_agent, has_had, is_out_of_time,
 use Rattle.pl_due.specs.Nodes.{is_waiting}
 use Rattle.pl_due.proofs.Members.{any_of, of_member}
 use Rattle.pl_due.proofs.Stages.{one_planned}
+use Rattle.pl_due.proofs.Standing.{first_of_two, is_nothing, running_open, second_of_two}
+use Rattle.pl_due.proofs.Standing.{waiting_open}
 use Rattle.pl_settling.specs.Gives.{Gives}
 use Rattle.pl_settling.specs.Laws.{Occupies, WasNext}
-use Rattle.pl_settling.proofs.Behind.{first_of_two, is_nothing, second_of_two}
-
--- ---- stages that haven't ended
-
-pub running_open : (run stage : ℕ) (facts : List Fact) → is_running run stage facts ≡ true →
-    stage_end run stage facts ≡ None
-running_open run stage facts runs = is_nothing (stage_end run stage facts)
-    (second_of_two (is_some (stage_start run stage facts)) (is_none (stage_end run stage facts))
-    runs)
-
-module _ (one : PlanStage) (run stage : ℕ) (facts : List Fact)
-    (waits : is_waiting one run stage facts ≡ true) where
-  neither : (is_none (stage_start run stage facts) && is_none (stage_end run stage facts)) ≡ true
-  neither = first_of_two
-      (is_none (stage_start run stage facts) && is_none (stage_end run stage facts))
-      (is_ready one run facts) waits
-
-  pub waiting_unstarted : stage_start run stage facts ≡ None
-  waiting_unstarted = is_nothing (stage_start run stage facts)
-      (first_of_two (is_none (stage_start run stage facts))
-      (is_none (stage_end run stage facts)) neither)
-
-  pub waiting_open : stage_end run stage facts ≡ None
-  waiting_open = is_nothing (stage_end run stage facts)
-      (second_of_two (is_none (stage_start run stage facts))
-      (is_none (stage_end run stage facts)) neither)
 
 -- ---- jobs that haven't ended
 

@@ -19,10 +19,10 @@ use Rattle.pl_plan.specs.declared.plan.PlanStage.{PlanStage}
 use Rattle.pl_due.specs.Checked.{exclusive_uses, is_exclusive}
 use Rattle.pl_due.specs.Nodes.{IsStageOf, is_running}
 use Rattle.pl_due.proofs.Stages.{one_planned}
+use Rattle.pl_due.proofs.Standing.{both, first_of_two, is_nothing, second_of_two}
 use Rattle.pl_settling.specs.Gives.{Gives}
 use Rattle.pl_settling.specs.Laws.{HasOneHolder, Occupies, WasNext}
-use Rattle.pl_settling.proofs.Behind.{both, first_of_two, is_nothing, none_before, second_of_two}
-use Rattle.pl_settling.proofs.Behind.{touched, untouched}
+use Rattle.pl_settling.proofs.Behind.{none_before, untouched}
 
 filter_same : {X : Type 0} (p q : X → Bool) → ((x : X) → p x ≡ q x) → (xs : List X) →
     filter p xs ≡ filter q xs
