@@ -12,7 +12,7 @@ use Rattle.pl_facts.specs.declared.fact.Event.TheVariants.{StageEnded}
 use Rattle.pl_facts.specs.declared.fact.Fact.{Fact}
 use Rattle.pl_facts.specs.declared.fact.QueuedRun.{QueuedRun}
 use Rattle.pl_journal.specs.Runs.{holding, job_ending, taking}
-use Rattle.pl_judgement.specs.Said.{AreVerdicts, IsJudgement, all_pass, first_fail}
+use Rattle.pl_judgement.specs.Said.{IsJudgement, Sums, all_pass, first_fail}
 use Rattle.pl_judgement.specs.declared.judgement.Judgement.{Judgement}
 use Rattle.pl_plan.specs.declared.plan.PlanJob.{PlanJob}
 use Rattle.pl_plan.specs.declared.plan.PlanStage.{PlanStage}
@@ -203,9 +203,15 @@ module _ (facts : List Fact) (moment : ℕ) (told : QueuedRun) (one : PlanStage)
         let e : None ≡ Some k.rule = sym is ∙ sums.fail ∙ ap first_fail same ∙ k.first in
         absurd (cc)
 
+    sums_of : (verdicts : List Verdict) →
+        AreVerdictsOf facts moment told one run stage verdicts → Sums verdicts judgement
+    sums_of verdicts are =
+        let (others, too, sums) = judged in
+        subst (λ x. Sums x judgement) (law others verdicts too are) sums
+
     pub eligible_if : (passes : Bool) →
-        ((verdicts : List Verdict) → AreVerdictsOf facts moment told one run stage verdicts →
-        passes ≡ all_pass verdicts) → is_waiting one run stage facts ≡ true →
+        ((verdicts : List Verdict) → Sums verdicts judgement → passes ≡ all_pass verdicts) →
+        is_waiting one run stage facts ≡ true →
         is_permitted facts told one ≡ true → condition told run (Stage stage) facts ≡ true →
         IsTrue passes ↔ IsEligible facts moment told one run stage
     eligible_if passes tells waits permitted says =
@@ -216,11 +222,34 @@ module _ (facts : List Fact) (moment : ℕ) (told : QueuedRun) (one : PlanStage)
             permitted = permitted;
             verdicts = verdicts;
             are = are;
-            pass = sym (tells verdicts are) ∙ yes;
+            pass = sym (tells verdicts sums) ∙ yes;
           },
-          λ is. tells is.verdicts is.are ∙ is.pass,
+          λ is. tells is.verdicts (sums_of is.verdicts is.are) ∙ is.pass,
         )
 
   pub fails_idle : is_waiting one run stage facts ≡ false →
       FirstJob (Fails facts moment told one run stage) None
   fails_idle no = λ job event k. clash (is_waiting one run stage facts) no k.waits
+
+  -- ----
+
+  pub not_eligible : is_waiting one run stage facts ≡ false →
+      IsTrue false ↔ IsEligible facts moment told one run stage
+  not_eligible no = (
+    λ yes. absurd (false≢true yes),
+    λ is. absurd (clash (is_waiting one run stage facts) no is.waits),
+  )
+
+  pub not_permitted : is_permitted facts told one ≡ false →
+      IsTrue false ↔ IsEligible facts moment told one run stage
+  not_permitted no = (
+    λ yes. absurd (false≢true yes),
+    λ is. absurd (clash (is_permitted facts told one) no is.permitted),
+  )
+
+  pub not_held : condition told run (Stage stage) facts ≡ false →
+      IsTrue false ↔ IsEligible facts moment told one run stage
+  not_held no = (
+    λ yes. absurd (false≢true yes),
+    λ is. absurd (clash (condition told run (Stage stage) facts) no is.says),
+  )

@@ -34,10 +34,10 @@ impl Holding for Eligible {
 
     fn holds(&self, alloc: Global, at: &StageAt<'_>) -> Result<bool, Memory> {
         judgement_laws();
-        if !is_waiting(at) || !is_permitted(at.journal, at.queued, at.planned) {
+        if !is_waiting(at) {
             return Ok(false);
         }
-        if !stage_says(alloc, at)? {
+        if !is_permitted(at.journal, at.queued, at.planned) || !stage_says(alloc, at)? {
             return Ok(false);
         }
         Ok(judgement(alloc, at)?.passes())
