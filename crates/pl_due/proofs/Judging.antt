@@ -30,7 +30,7 @@ use Rattle.pl_due.specs.Nodes.{is_out_of_time, is_running, is_waiting, outcomes}
 use Rattle.pl_due.specs.Scans.{FirstJob, IsFirstTrue}
 
 clash : (b : Bool) → b ≡ false → b ≡ true → ⊥
-clash b no yes = false≢true (sym no ∙ yes)
+clash b lacks holds = false≢true (sym lacks ∙ holds)
 
 -- ---- jobs behind the last one
 
@@ -86,7 +86,7 @@ module _ (facts : List Fact) (moment : ℕ) (told : QueuedRun) (one : PlanStage)
 
   pub timed_idle : is_running run stage facts ≡ false →
       FirstJob (TimesOut facts moment told one run stage) None
-  timed_idle no = λ job event k. clash (is_running run stage facts) no k.runs
+  timed_idle lacks = λ job event k. clash (is_running run stage facts) lacks k.runs
 
   -- ----
 
@@ -123,7 +123,7 @@ module _ (facts : List Fact) (moment : ℕ) (told : QueuedRun) (one : PlanStage)
 
   pub false_idle : is_running run stage facts ≡ false →
       FirstJob (JobIsPassedOver facts told one run stage) None
-  false_idle no = λ job event k. clash (is_running run stage facts) no k.runs
+  false_idle lacks = λ job event k. clash (is_running run stage facts) lacks k.runs
 
   -- ----
 
@@ -142,11 +142,11 @@ module _ (facts : List Fact) (moment : ℕ) (told : QueuedRun) (one : PlanStage)
 
   pub done_idle : is_running run stage facts ≡ false →
       FirstJob (IsDone facts told one run stage) None
-  done_idle no = λ job event k. clash (is_running run stage facts) no k.runs
+  done_idle lacks = λ job event k. clash (is_running run stage facts) lacks k.runs
 
   pub not_done : has_done_all one run stage facts ≡ false →
       FirstJob (IsDone facts told one run stage) None
-  not_done no = λ job event k. clash (has_done_all one run stage facts) no k.all
+  not_done lacks = λ job event k. clash (has_done_all one run stage facts) lacks k.all
 
   -- ----
 
@@ -162,11 +162,11 @@ module _ (facts : List Fact) (moment : ℕ) (told : QueuedRun) (one : PlanStage)
 
   pub passed_idle : is_waiting one run stage facts ≡ false →
       FirstJob (IsPassedOver facts told one run stage) None
-  passed_idle no = λ job event k. clash (is_waiting one run stage facts) no k.waits
+  passed_idle lacks = λ job event k. clash (is_waiting one run stage facts) lacks k.waits
 
   pub not_false : condition told run (Stage stage) facts ≡ true →
       FirstJob (IsPassedOver facts told one run stage) None
-  not_false yes = λ job event k. clash (condition told run (Stage stage) facts) k.says yes
+  not_false holds = λ job event k. clash (condition told run (Stage stage) facts) k.says holds
 
   -- ----
 
@@ -216,40 +216,40 @@ module _ (facts : List Fact) (moment : ℕ) (told : QueuedRun) (one : PlanStage)
         IsTrue passes ↔ IsEligible facts moment told one run stage
     eligible_if passes tells waits permitted says =
         let (verdicts, are, sums) = judged in (
-          λ yes. record {
+          λ holds. record {
             waits = waits;
             says = says;
             permitted = permitted;
             verdicts = verdicts;
             are = are;
-            pass = sym (tells verdicts sums) ∙ yes;
+            pass = sym (tells verdicts sums) ∙ holds;
           },
           λ is. tells is.verdicts (sums_of is.verdicts is.are) ∙ is.pass,
         )
 
   pub fails_idle : is_waiting one run stage facts ≡ false →
       FirstJob (Fails facts moment told one run stage) None
-  fails_idle no = λ job event k. clash (is_waiting one run stage facts) no k.waits
+  fails_idle lacks = λ job event k. clash (is_waiting one run stage facts) lacks k.waits
 
   -- ----
 
   pub not_eligible : is_waiting one run stage facts ≡ false →
       IsTrue false ↔ IsEligible facts moment told one run stage
-  not_eligible no = (
-    λ yes. absurd (false≢true yes),
-    λ is. absurd (clash (is_waiting one run stage facts) no is.waits),
+  not_eligible lacks = (
+    λ holds. absurd (false≢true holds),
+    λ is. absurd (clash (is_waiting one run stage facts) lacks is.waits),
   )
 
   pub not_permitted : is_permitted facts told one ≡ false →
       IsTrue false ↔ IsEligible facts moment told one run stage
-  not_permitted no = (
-    λ yes. absurd (false≢true yes),
-    λ is. absurd (clash (is_permitted facts told one) no is.permitted),
+  not_permitted lacks = (
+    λ holds. absurd (false≢true holds),
+    λ is. absurd (clash (is_permitted facts told one) lacks is.permitted),
   )
 
   pub not_held : condition told run (Stage stage) facts ≡ false →
       IsTrue false ↔ IsEligible facts moment told one run stage
-  not_held no = (
-    λ yes. absurd (false≢true yes),
-    λ is. absurd (clash (condition told run (Stage stage) facts) no is.says),
+  not_held lacks = (
+    λ holds. absurd (false≢true holds),
+    λ is. absurd (clash (condition told run (Stage stage) facts) lacks is.says),
   )

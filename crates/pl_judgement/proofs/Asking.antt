@@ -1,10 +1,12 @@
 -- One check more is asked.
-use Rattle.std.proofs.Common.{◌≡◌, ◌<◌, ◌+◌, ◌&&◌, ℕ, Bool, true, false, cond, List, [], ◌∷◌}
-use Rattle.std.proofs.Common.{◌++◌, length, get_or, take, Option, Some, None, is_none, refl, sym}
+use Rattle.std.proofs.Common.{◌≡◌, ◌<◌, ◌≤◌, ◌+◌, ◌&&◌, ℕ, Bool, true, false, cond, List, [], ◌∷◌}
+use Rattle.std.proofs.Common.{◌++◌, length, get_or, take, Option, Some, None, is_none, is_some, not}
+use Rattle.std.proofs.Common.{refl, sym}
 use Rattle.std.proofs.Common.{ap, ◌∙◌, subst}
 use Rattle.std.specs.List.{AllZip, filter}
 use Rattle.std.specs.Option.{option_or}
-use Rattle.std.proofs.lemmas.List.{append_assoc, append-nil, take_more}
+use Rattle.std.proofs.lemmas.Bool.{false≢true}
+use Rattle.std.proofs.lemmas.List.{append_assoc, append-nil, take_all, take_more}
 use Rattle.std.proofs.lemmas.List.Elements.{filter-append}
 use Rattle.pl_checks.specs.declared.check.Check.{Check}
 use Rattle.pl_checks.specs.declared.view.CheckView.{CheckView}
@@ -131,3 +133,31 @@ module _ (view : CheckView) (moment : ℕ) (kind : CheckKind) (all : List Check)
       subst P (ap (λ more. before ++ more) (sym (append-nil some)
       ∙ sym (grown count check false within is told)))
       (subst Q (sym same) (asked before starts))
+
+module _ (view : CheckView) (moment : ℕ) (kind : CheckKind) (all : List Check)
+    (start : Judgement) where
+  pub all_asked : (count : ℕ) (now : Judgement) → length all ≤ count →
+      Asked view moment kind all start count now →
+      (before : List Check) → IsJudgement before view moment start →
+      IsJudgement (before ++ filter (is_of kind) all) view moment now
+  all_asked count now past asked = λ before starts.
+      let P : List Check → Type 0 = λ checks.
+      IsJudgement (before ++ filter (is_of kind) checks) view moment now in
+      subst P (take_all count all past) (asked before starts)
+
+-- ---- whether all pass
+
+pub none_waits : (o p : Option Rule) (a b : Bool) → is_some o ≡ not a → is_some p ≡ not b →
+    a ≡ true → b ≡ (is_none o && is_none p)
+none_waits None None a true first second holds = refl
+none_waits None None a false first second holds = second
+none_waits None (Some rule) a true first second holds = absurd (false≢true (sym second))
+none_waits None (Some rule) a false first second holds = refl
+none_waits (Some rule) p true b first second holds = absurd (false≢true (sym first))
+none_waits (Some rule) p false b first second holds = absurd (false≢true holds)
+
+pub one_fails : (o p : Option Rule) (a : Bool) → is_some o ≡ not a → a ≡ false →
+    a ≡ (is_none o && is_none p)
+one_fails None p true first lacks = absurd (false≢true (sym lacks))
+one_fails None p false first lacks = absurd (false≢true first)
+one_fails (Some rule) p a first lacks = lacks

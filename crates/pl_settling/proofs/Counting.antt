@@ -161,9 +161,9 @@ module _ (run stage moment : ℕ) where
       started told is e about =
           let now = touched starts_it facts one (true_and (is_about (Stage run stage) one)
           (is_start one.event) about (ap is_start e ∙ is.starts)) in
-          let no : ends_it one ≡ false =
+          let lacks : ends_it one ≡ false =
           ap (λ b. b && is_stage_end one.event) about ∙ ap is_stage_end e ∙ is.no_end in
-          let end = untouched ends_it facts one no ∙ is.open_before in
+          let end = untouched ends_it facts one lacks ∙ is.open_before in
           let before : used_by_stage facts ≡ 0 =
           ap (λ o. used_of o (stage_end run stage facts)) is.unstarted
           ∙ ap (used_of None) is.open_before in

@@ -63,9 +63,9 @@ module _ (facts : List Fact) (one : Fact) (quiet : IsQuiet one) where
   running_before : (run stage : ℕ) →
       (is_about (Stage run stage) one && is_start one.event) ≡ false →
       is_running run stage (facts ++ one ∷ []) ≡ true → is_running run stage facts ≡ true
-  running_before run stage no runs =
+  running_before run stage lacks runs =
       let start = untouched (λ fact. is_about (Stage run stage) fact && is_start fact.event) facts
-      one no in
+      one lacks in
       let now_start = first_of_two (is_some (stage_start run stage (facts ++ one ∷ [])))
       (is_none (stage_end run stage (facts ++ one ∷ []))) runs in
       let now_end = is_nothing (stage_end run stage (facts ++ one ∷ []))
@@ -79,11 +79,11 @@ module _ (facts : List Fact) (one : Fact) (quiet : IsQuiet one) where
   occupied_before : (key : ResourceKey) (run stage : ℕ) →
       (is_about (Stage run stage) one && is_start one.event) ≡ false →
       Occupies (facts ++ one ∷ []) key run stage → Occupies facts key run stage
-  occupied_before key run stage no (told, planned, there, runs, in_it) = (
+  occupied_before key run stage lacks (told, planned, there, runs, in_it) = (
     told,
     planned,
     stage_before run stage told planned there,
-    running_before run stage no runs,
+    running_before run stage lacks runs,
     subst (λ keys. Contains keys key) (same_uses planned) in_it,
   )
 
@@ -92,9 +92,9 @@ module _ (facts : List Fact) (one : Fact) (quiet : IsQuiet one) where
   pub still_one : ((run stage : ℕ) →
       (is_about (Stage run stage) one && is_start one.event) ≡ false) → HasOneHolder facts →
       HasOneHolder (facts ++ one ∷ [])
-  still_one no holds = λ key run stage r s left right.
-      holds key run stage r s (occupied_before key run stage (no run stage) left)
-      (occupied_before key r s (no r s) right)
+  still_one lacks holds = λ key run stage r s left right.
+      holds key run stage r s (occupied_before key run stage (lacks run stage) left)
+      (occupied_before key r s (lacks r s) right)
 
   -- ---- where the next one does
 
@@ -119,14 +119,14 @@ module _ (facts : List Fact) (one : Fact) (quiet : IsQuiet one) where
         ⊎_elim
         (λ (is_run, is_stage). ⊎_elim
         (λ (also_run, also_stage). (is_run ∙ sym also_run, is_stage ∙ sym also_stage))
-        (λ no. absurd (next.free key (takes key run stage is_run is_stage left) r s
-        (occupied_before key r s no right)))
+        (λ lacks. absurd (next.free key (takes key run stage is_run is_stage left) r s
+        (occupied_before key r s lacks right)))
         (names r s))
-        (λ no. ⊎_elim
+        (λ lacks. ⊎_elim
         (λ (also_run, also_stage). absurd (next.free key
         (takes key r s also_run also_stage right) run stage
-        (occupied_before key run stage no left)))
-        (λ neither. holds key run stage r s (occupied_before key run stage no left)
+        (occupied_before key run stage lacks left)))
+        (λ neither. holds key run stage r s (occupied_before key run stage lacks left)
         (occupied_before key r s neither right))
         (names r s))
         (names run stage)
