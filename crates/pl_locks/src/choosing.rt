@@ -52,9 +52,9 @@ fn may_start(eligible: &[Contender], holders: &[Contender], stage: &Contender) -
     !is_superseded(eligible, stage) && !is_held(holders, stage) && !is_behind(eligible, stage)
 }
 
-/// The run and the position of the least of the `eligible` stages, which ascend by run and position,
-/// in whose way nothing stands: it isn't superseded, none of the `holders` has a resource of it, and
-/// no earlier one that isn't superseded wants one. None where there is no such stage. There is one
+/// The run and the position of the least of the `eligible` stages, which ascend by both, in whose
+/// way nothing stands: it isn't superseded, none of the `holders` has a resource of it, and no
+/// earlier one that isn't superseded wants one. None where there is no such stage. There is one
 /// where some stage is eligible and no holder has a resource of an eligible one. Of the holders
 /// nothing is asked. It takes no memory.
 pub fn next_of(eligible: &[Contender], holders: &[Contender]) -> Option<(u64, u32)>
