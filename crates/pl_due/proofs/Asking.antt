@@ -1,7 +1,8 @@
 -- The checks of one use more are asked.
-use Rattle.std.proofs.Common.{◌≡◌, ◌<◌, ◌+◌, ◌&&◌, ℕ, Bool, true, false, List, [], ◌∷◌, ◌++◌}
+use Rattle.std.proofs.Common.{◌≡◌, ◌<◌, ◌+◌, ◌&&◌, arith, ℕ, Bool, true, false, List, [], ◌∷◌, ◌++◌}
 use Rattle.std.proofs.Common.{length, get_or, take, flat_map, refl, sym, ap, ◌∙◌, subst}
 use Rattle.std.specs.List.{filter, list_all}
+use Rattle.std.specs.Prelude.{◌==◌}
 use Rattle.std.proofs.lemmas.List.{append_assoc, append-nil, take_more}
 use Rattle.std.proofs.lemmas.List.Concat.{flat_map-cons, flat_map_single}
 use Rattle.std.proofs.lemmas.List.Elements.{filter-append}
@@ -15,6 +16,7 @@ use Rattle.pl_judgement.specs.declared.kind.CheckKind.{CheckKind}
 use Rattle.pl_judgement.specs.Kinds.{by_kind, is_of}
 use Rattle.pl_judgement.specs.Said.{IsJudgement}
 use Rattle.pl_due.specs.Checked.{all_checks, are_unguarded, checks_on}
+use Rattle.pl_due.proofs.Standing.{first_of_two, second_of_two}
 
 module _ (facts : List Fact) (view : CheckView) (moment : ℕ) (kind : CheckKind)
     (uses : List ResourceKey) (start : Judgement) where
@@ -58,17 +60,20 @@ module _ (facts : List Fact) (view : CheckView) (moment : ℕ) (kind : CheckKind
 
 -- ---- nothing guards them
 
+no_checks : (checks : List Check) → (length checks == 0) ≡ true → checks ≡ []
+no_checks [] h = refl
+no_checks (check ∷ checks) h = absurd (grind arith)
+
 none_on : (facts : List Fact) (uses : List ResourceKey) → are_unguarded facts uses ≡ true →
     flat_map (checks_on facts) uses ≡ []
 none_on facts [] h = refl
 none_on facts (use ∷ uses) h =
-    flat_map-cons (checks_on facts) use uses ∙ go (checks_on facts use) refl
-  where
-    go : (checks : List Check) → checks_on facts use ≡ checks →
-        checks_on facts use ++ flat_map (checks_on facts) uses ≡ []
-    go [] is = ap (λ cs. cs ++ flat_map (checks_on facts) uses) is
-        ∙ none_on facts uses (rw is at h)
-    go (check ∷ checks) is = absurd (let k = rw is at h in cc)
+    flat_map-cons (checks_on facts) use uses
+    ∙ ap (λ cs. cs ++ flat_map (checks_on facts) uses)
+    (no_checks (checks_on facts use) (first_of_two (length (checks_on facts use) == 0)
+    (are_unguarded facts uses) h))
+    ∙ none_on facts uses (second_of_two (length (checks_on facts use) == 0)
+    (are_unguarded facts uses) h)
 
 pub unguarded : (facts : List Fact) (uses : List ResourceKey) → are_unguarded facts uses ≡ true →
     all_checks facts uses ≡ []

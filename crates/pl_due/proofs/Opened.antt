@@ -29,20 +29,20 @@ use Rattle.pl_due.proofs.Members.{cons_cases, head_before, here, pairs_append, t
 filter_cases : {X : Type 0} (p : X → Bool) (x : X) (xs : List X) → Contains (filter p xs) x →
     Contains xs x
 filter_cases p x [] in_none = in_none
-filter_cases {X} p x (y ∷ xs) in_some = go (p y) refl
+filter_cases {X} p x (y ∷ xs) in_some = go (p y) refl (λ h. filter_cases p x xs h)
   where
-    go : (b : Bool) → p y ≡ b → Contains (y ∷ xs) x
-    go true is = ⊎_elim (λ same. subst (λ z. Contains (y ∷ xs) z) same (here y xs))
-        (λ behind. there x y xs (filter_cases p x xs behind))
+    go : (b : Bool) → p y ≡ b → (Contains (filter p xs) x → Contains xs x) → Contains (y ∷ xs) x
+    go true is rest = ⊎_elim (λ same. subst (λ z. Contains (y ∷ xs) z) same (here y xs))
+        (λ behind. there x y xs (rest behind))
         (cons_cases x y (filter p xs) (rw is at in_some))
-    go false is = there x y xs (filter_cases p x xs (rw is at in_some))
+    go false is rest = there x y xs (rest (rw is at in_some))
 
 filter_in : {X : Type 0} (p : X → Bool) (x : X) (xs : List X) → p x ≡ true → Contains xs x →
     Contains (filter p xs) x
 filter_in p x [] passes in_none = in_none
 filter_in {X} p x (y ∷ xs) passes in_some = ⊎_elim
-    (λ same. rw (ap p same ∙ passes) (subst (λ z. Contains (y ∷ filter p xs) z) same
-    (here y (filter p xs))))
+    (λ same. let e : p y ≡ true = ap p same ∙ passes in
+    rw e (subst (λ z. Contains (y ∷ filter p xs) z) same (here y (filter p xs))))
     (λ behind. go (p y) refl (filter_in p x xs passes behind))
     (cons_cases x y xs in_some)
   where
