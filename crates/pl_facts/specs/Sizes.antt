@@ -154,7 +154,7 @@ event_size (event.DecisionMade run stage approver approve) = length approver
 event_size (event.StageStarted run stage) = 0
 event_size (event.StageEnded run stage outcome by) = if_any rule_size by
 event_size (event.JobTaken run stage job agent) = length agent
-event_size (event.JobEnded run stage job outcome by reported outputs) =
+event_size (event.JobEnded outcome reported stage job run by outputs) =
     if_any rule_size by + total pair_size outputs
 event_size (event.RunCanceled run) = 0
 

@@ -61,23 +61,23 @@ impl ExactCopy for Event {
                 })
             }
             Event::JobEnded {
-                run,
+                outcome,
+                reported,
                 stage,
                 job,
-                outcome,
+                run,
                 rule,
-                reported,
                 outputs,
             } => {
                 let rule = rule.copy(alloc)?;
                 let outputs = outputs.copy(alloc)?;
                 Ok(Event::JobEnded {
-                    run: *run,
+                    outcome: *outcome,
+                    reported: *reported,
                     stage: *stage,
                     job: *job,
-                    outcome: *outcome,
+                    run: *run,
                     rule,
-                    reported: *reported,
                     outputs,
                 })
             }

@@ -3,6 +3,10 @@ use pl_plan::Compiled;
 use pl_requests::{
     AgentSetting, FileText, PipelineSetting, PrincipalSetting, ResourceSetting, Rule,
 };
+use std::mem::size_of;
+
+/// What each of many facts takes beside what it shares.
+const _: () = prove!(size_of::<Fact>() == 56);
 
 /// A fact: what has happened, and at which moment, which is that of the call that it came with.
 #[derive(Drop)]
@@ -13,7 +17,8 @@ pub struct Fact {
 
 /// What has happened. A stage is told by its run's number and its place in the list of the run's
 /// plan, from 0, and a job by its place in the list of its stage. What may be long is shared by
-/// copies.
+/// copies. Fields lie in memory in the order that they are written in, which is the one that takes
+/// least.
 #[derive(Drop)]
 pub enum Event {
     /// A file was put.
@@ -30,7 +35,7 @@ pub enum Event {
     DecisionMade {
         run: u64,
         stage: u32,
-        approver: Text,
+        approver: Shared<Text>,
         approve: bool,
     },
     StageStarted {
@@ -49,17 +54,17 @@ pub enum Event {
         run: u64,
         stage: u32,
         job: u32,
-        agent: Text,
+        agent: Shared<Text>,
     },
     /// A job ended with this result, by this rule if one ended it, else by this report: the result
     /// that was reported, and the outputs by their keys.
     JobEnded {
-        run: u64,
+        outcome: Outcome,
+        reported: Option<Outcome>,
         stage: u32,
         job: u32,
-        outcome: Outcome,
+        run: u64,
         rule: Option<Shared<Rule>>,
-        reported: Option<Outcome>,
         outputs: Shared<List<(Text, Text)>>,
     },
     /// A run is to end.

@@ -19,7 +19,7 @@ key_of (event.DecisionMade run stage approver approve) = Stage run stage
 key_of (event.StageStarted run stage) = Stage run stage
 key_of (event.StageEnded run stage outcome rule) = Stage run stage
 key_of (event.JobTaken run stage job agent) = Job run stage job
-key_of (event.JobEnded run stage job outcome rule reported outputs) = Job run stage job
+key_of (event.JobEnded outcome reported stage job run rule outputs) = Job run stage job
 key_of (event.RunCanceled run) = Run run
 
 -- a principal is found by its token too, a taken job by its agent, and the last run without its

@@ -32,7 +32,7 @@ is_taking (event.JobTaken run stage job agent) = true
 is_taking _ = false
 
 abbrev pub is_job_end : Event → Bool
-is_job_end (event.JobEnded run stage job outcome rule reported outputs) = true
+is_job_end (event.JobEnded outcome reported stage job run rule outputs) = true
 is_job_end _ = false
 
 -- whether it is a fact of that kind

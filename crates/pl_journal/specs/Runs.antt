@@ -29,16 +29,16 @@ number_told _ = None
 -- how something ended, and by which rule
 abbrev pub outcome_told : Event → Option Outcome
 outcome_told (event.StageEnded run stage outcome rule) = Some outcome
-outcome_told (event.JobEnded run stage job outcome rule reported outputs) = Some outcome
+outcome_told (event.JobEnded outcome reported stage job run rule outputs) = Some outcome
 outcome_told _ = None
 
 abbrev pub rule_told : Event → Option Rule
 rule_told (event.StageEnded run stage outcome rule) = rule
-rule_told (event.JobEnded run stage job outcome rule reported outputs) = rule
+rule_told (event.JobEnded outcome reported stage job run rule outputs) = rule
 rule_told _ = None
 
 abbrev pub outputs_told : Event → Option (List (List ℕ × List ℕ))
-outputs_told (event.JobEnded run stage job outcome rule reported outputs) = Some outputs
+outputs_told (event.JobEnded outcome reported stage job run rule outputs) = Some outputs
 outputs_told _ = None
 
 abbrev pub taker_told : Event → Option (List ℕ)
