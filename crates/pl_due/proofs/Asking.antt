@@ -67,12 +67,12 @@ no_checks (check ∷ checks) h = absurd (grind arith)
 none_on : (facts : List Fact) (uses : List ResourceKey) → are_unguarded facts uses ≡ true →
     flat_map (checks_on facts) uses ≡ []
 none_on facts [] h = refl
-none_on facts (use ∷ uses) h =
-    flat_map-cons (checks_on facts) use uses
+none_on facts (key ∷ uses) h =
+    flat_map-cons (checks_on facts) key uses
     ∙ ap (λ cs. cs ++ flat_map (checks_on facts) uses)
-    (no_checks (checks_on facts use) (first_of_two (length (checks_on facts use) == 0)
+    (no_checks (checks_on facts key) (first_of_two (length (checks_on facts key) == 0)
     (are_unguarded facts uses) h))
-    ∙ none_on facts uses (second_of_two (length (checks_on facts use) == 0)
+    ∙ none_on facts uses (second_of_two (length (checks_on facts key) == 0)
     (are_unguarded facts uses) h)
 
 pub unguarded : (facts : List Fact) (uses : List ResourceKey) → are_unguarded facts uses ≡ true →
