@@ -44,8 +44,12 @@ pub by_these : (facts : List Fact) (moment : ℕ) (eligible holders : List Conte
 by_these facts moment eligible holders found left right (inl (event, is, gives)) =
     inl (event, is, (locks eligible holders, record { eligible = left; holders = right }, gives))
 by_these facts moment eligible holders found left right (inr (none, inl (event, is, starts))) =
-    inr ((locks eligible holders, record { eligible = left; holders = right }, none),
-    inl (event, is, (locks eligible holders, record { eligible = left; holders = right }, starts)))
+    inr (
+      (locks eligible holders, record { eligible = left; holders = right }, none),
+      inl (event, is, (locks eligible holders, record { eligible = left; holders = right }, starts)),
+    )
 by_these facts moment eligible holders found left right (inr (none, inr (nothing, is))) =
-    inr ((locks eligible holders, record { eligible = left; holders = right }, none),
-    inr ((locks eligible holders, record { eligible = left; holders = right }, nothing), is))
+    inr (
+      (locks eligible holders, record { eligible = left; holders = right }, none),
+      inr ((locks eligible holders, record { eligible = left; holders = right }, nothing), is),
+    )

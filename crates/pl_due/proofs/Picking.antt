@@ -96,8 +96,10 @@ module _ (facts : List Fact) (P : InRun) where
       let from = comes_from places rest others x in_rest in
       let before = head_before IsBefore first from.at places ordered from.among in
       ⊎_elim (λ less. inl (omega (arith, at.0, from.is_at.0, less)))
-      (λ (same, less). inr (at.0 ∙ same ∙ sym from.is_at.0,
-      omega (arith, at.1, from.is_at.1, less))) before in
+      (λ (same, less). inr (
+        at.0 ∙ same ∙ sym from.is_at.0,
+        omega (arith, at.1, from.is_at.1, less),
+      )) before in
       subst IsOrdered (sym is) (AllPairs-cons Precedes one rest (all_from (Precedes one) rest behind)
       (in_order places rest (tail_pairs IsBefore first places ordered) others))
   in_order (first ∷ places) picked ordered (inr (none, others)) =
@@ -111,8 +113,13 @@ module _ (facts : List Fact) (P : InRun) where
   all_picked (first ∷ places) picked (inl (stage, rest, is, (k, found), others)) at in_places told
       one is_there holds =
       subst (Any (IsAt at.run at.stage)) (sym is) (⊎_elim
-      (λ same. (0, stage, omega arith, refl,
-      subst (λ p. IsAt p.run p.stage stage) same found))
+      (λ same. (
+        0,
+        stage,
+        omega arith,
+        refl,
+        subst (λ p. IsAt p.run p.stage stage) same found,
+      ))
       (λ behind. any_there (IsAt at.run at.stage) stage rest
       (all_picked places rest others at behind told one is_there holds))
       (cons_cases at first places in_places))

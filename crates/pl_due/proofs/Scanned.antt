@@ -104,8 +104,7 @@ module _ (facts : List Fact) (kind : InStage) where
         },
       )
   found_among (first ∷ places) event ordered (inr (none, rest)) =
-      let (at, found) = found_among places event (tail_pairs IsBefore first places ordered) rest in
-      (
+      let (at, found) = found_among places event (tail_pairs IsBefore first places ordered) rest in (
         at,
         record {
           among = there at first places found.among;

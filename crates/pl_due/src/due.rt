@@ -42,11 +42,7 @@ use std::alloc::Global;
 /// Only open runs are looked at. Each fact's moment is one that a clock tells, and each run's plan
 /// can run, as `pl_cond::each_plan_can_run` says of what `plan_of` makes. Memory comes where there
 /// is none, and nothing else.
-pub fn due(
-    alloc: Global,
-    journal: &IndexedJournal,
-    moment: Moment,
-) -> Result<Option<Event>, Memory>
+pub fn due(alloc: Global, journal: &IndexedJournal, moment: Moment) -> Result<Option<Event>, Memory>
     requires moment { moment ≤ last_moment }
     requires fit { AreFit journal.now.facts }
     ensures { IfOk result (IsDue journal.now.facts moment) }

@@ -25,14 +25,7 @@ pub(crate) fn judgement(alloc: Global, at: &StageAt<'_>) -> Result<Judgement, Me
         return Ok(Judgement::new());
     }
     readiness_laws();
-    let view = check_view(
-        alloc,
-        at.journal,
-        at.queued,
-        at.planned,
-        at.run,
-        at.stage,
-    )?;
+    let view = check_view(alloc, at.journal, at.queued, at.planned, at.run, at.stage)?;
     ask_all(alloc, at, &view)
 }
 
@@ -45,7 +38,14 @@ fn ask_all(alloc: Global, at: &StageAt<'_>, view: &CheckView) -> Result<Judgemen
 {
     let mut judgement = Judgement::new();
     let uses = at.planned.uses.as_slice();
-    ask_kind(alloc, &mut judgement, at, uses, view, CheckKind::RequiredTemplate)?;
+    ask_kind(
+        alloc,
+        &mut judgement,
+        at,
+        uses,
+        view,
+        CheckKind::RequiredTemplate,
+    )?;
     ask_kind(alloc, &mut judgement, at, uses, view, CheckKind::Branch)?;
     ask_kind(alloc, &mut judgement, at, uses, view, CheckKind::Approval)?;
     ask_kind(alloc, &mut judgement, at, uses, view, CheckKind::Hours)?;

@@ -7,8 +7,8 @@
 mod checked;
 mod contention;
 mod due;
-mod ends;
 mod eligible;
+mod ends;
 mod jobs;
 mod judging;
 mod laws;

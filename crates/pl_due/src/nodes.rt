@@ -111,7 +111,11 @@ pub(crate) fn has_done_all(at: &StageAt<'_>) -> bool
         (facts_of at.now) }
 {
     for job in 0..at.planned.jobs.len() {
-        if at.journal.job_ending(at.run, at.stage, job as u32).is_none() {
+        if at
+            .journal
+            .job_ending(at.run, at.stage, job as u32)
+            .is_none()
+        {
             return false;
         }
     }

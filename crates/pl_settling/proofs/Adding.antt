@@ -27,9 +27,12 @@ adds_more moment facts [] one adds due at =
     let P : List Fact → Type 0 = λ before. IsDue before moment (Some one.event) in
     (subst P (append-nil facts) due, at, tt)
 adds_more moment facts (first ∷ added) one (was_due, was_at, rest) due at =
-    let P : List Fact → Type 0 = λ before. IsDue before moment (Some one.event) in
-    (was_due, was_at, adds_more moment (facts ++ first ∷ []) added one rest
-    (subst P (sym (append_assoc facts (first ∷ []) added)) due) at)
+    let P : List Fact → Type 0 = λ before. IsDue before moment (Some one.event) in (
+      was_due,
+      was_at,
+      adds_more moment (facts ++ first ∷ []) added one rest
+          (subst P (sym (append_assoc facts (first ∷ []) added)) due) at,
+    )
 
 -- and none
 pub settles_so : (moment : ℕ) (facts added : List Fact) → Adds moment facts added →
@@ -38,18 +41,22 @@ settles_so moment facts [] adds none =
     let P : List Fact → Type 0 = λ before. IsDue before moment None in
     subst P (append-nil facts) none
 settles_so moment facts (first ∷ added) (due, at, rest) none =
-    let P : List Fact → Type 0 = λ before. IsDue before moment None in
-    (due, at, settles_so moment (facts ++ first ∷ []) added rest
-    (subst P (sym (append_assoc facts (first ∷ []) added)) none))
+    let P : List Fact → Type 0 = λ before. IsDue before moment None in (
+      due,
+      at,
+      settles_so moment (facts ++ first ∷ []) added rest
+          (subst P (sym (append_assoc facts (first ∷ []) added)) none),
+    )
 
 -- what holds of each fact that is due holds along the facts that are added
 pub holds_along : (R : List Fact → Fact → Type 0) (moment : ℕ) →
     ((facts : List Fact) (one : Fact) → one.moment ≡ moment → Gives facts moment one.event →
     R facts one) → (facts added : List Fact) → Adds moment facts added → Along R facts added
 holds_along R moment each facts [] adds = tt
-holds_along R moment each facts (one ∷ added) (due, at, rest) =
-    (each facts one at (gives facts moment one.event due),
-    holds_along R moment each (facts ++ one ∷ []) added rest)
+holds_along R moment each facts (one ∷ added) (due, at, rest) = (
+  each facts one at (gives facts moment one.event due),
+  holds_along R moment each (facts ++ one ∷ []) added rest,
+)
 
 -- what each of them keeps holds along them
 pub kept_along : (K : List Fact → Type 0) (moment : ℕ) →

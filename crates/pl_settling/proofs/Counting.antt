@@ -78,10 +78,12 @@ module _ (run stage job moment : ℕ) where
           let key : Job r s j ≡ Job run stage job = exact_key (Job r s j) (Job run stage job) same in
           let a : r ≡ run = cc in
           let b : s ≡ stage = cc in
-          let c : j ≡ job = cc in
-          (subst (λ x. job_end run stage x facts ≡ None) c
-          (subst (λ x. job_end run x j facts ≡ None) b
-          (subst (λ x. job_end x s j facts ≡ None) a is)), refl)
+          let c : j ≡ job = cc in (
+            subst (λ x. job_end run stage x facts ≡ None) c
+                (subst (λ x. job_end run x j facts ≡ None) b
+                (subst (λ x. job_end x s j facts ≡ None) a is)),
+            refl,
+          )
       by_event (event.FilePut file) e is same = absurd is
       by_event (event.FileRemoved key) e is same = absurd is
       by_event (event.PipelineSet told) e is same = absurd is

@@ -102,9 +102,12 @@ module _ (facts : List Fact) (moment : ℕ) (locks : Locks)
       let here : IsStageOf facts run stage is_one.told is_one.one =
       subst (λ s. IsStageOf facts run s is_one.told is_one.one) at.1
       (subst (λ r. IsStageOf facts r holder.position is_one.told is_one.one) at.0 is_one.there) in
-      let same = one_planned facts run stage is_one.told told is_one.one one here there in
-      (holder, (k, below, is), ap (λ (c : Contender). c.resources) is_one.is
-      ∙ ap (λ (o : PlanStage). exclusive_uses facts o) same)
+      let same = one_planned facts run stage is_one.told told is_one.one one here there in (
+        holder,
+        (k, below, is),
+        ap (λ (c : Contender). c.resources) is_one.is
+            ∙ ap (λ (o : PlanStage). exclusive_uses facts o) same,
+      )
 
   -- the next stage waits for nothing more
   pub was_next : (stage : Contender) → IsNext locks.eligible locks.holders stage →

@@ -67,13 +67,17 @@ module _ (facts : List Fact) (moment run stage : ℕ) (gap : Gap facts moment ru
           condition gap.told run (Stage stage) facts ≡ true
       go true is = is
       go false is = absurd (none run stage 0
-          (false_stage_end (is_canceled run facts) run stage)
-          (gap.told, gap.one, gap.there, record {
-            itself = refl;
-            waits = waits;
-            says = is;
-            gets = refl;
-          }))
+          (false_stage_end (is_canceled run facts) run stage) (
+            gap.told,
+            gap.one,
+            gap.there,
+            record {
+              itself = refl;
+              waits = waits;
+              says = is;
+              gets = refl;
+            },
+          ))
 
   pass : Least facts (Fails facts moment) None → all_pass gap.verdicts ≡ true
   pass none = go (first_fail gap.verdicts) refl
@@ -82,16 +86,20 @@ module _ (facts : List Fact) (moment run stage : ℕ) (gap : Gap facts moment ru
       go None is = passing gap.verdicts
           ∙ ap (λ f. is_none f && is_none (first_wait gap.verdicts)) is
           ∙ ap is_none gap.waits
-      go (Some rule) is = absurd (none run stage 0 (fail_end run stage rule)
-          (gap.told, gap.one, gap.there, record {
-            itself = refl;
-            waits = waits;
-            verdicts = gap.verdicts;
-            are = gap.are;
-            rule = rule;
-            first = is;
-            gets = refl;
-          }))
+      go (Some rule) is = absurd (none run stage 0 (fail_end run stage rule) (
+        gap.told,
+        gap.one,
+        gap.there,
+        record {
+          itself = refl;
+          waits = waits;
+          verdicts = gap.verdicts;
+          are = gap.are;
+          rule = rule;
+          first = is;
+          gets = refl;
+        },
+      ))
 
   eligible : Least facts (IsPassedOver facts) None → Least facts (Fails facts moment) None →
       IsEligible facts moment gap.told gap.one run stage

@@ -17,11 +17,7 @@ use std::alloc::Global;
 /// `due` asks; the same holds of all facts afterwards. After Memory the journal has what it had, and
 /// behind that some of the facts that would have been added: take them away with
 /// `back_to_installed`.
-pub fn settle(
-    alloc: Global,
-    journal: &mut IndexedJournal,
-    moment: Moment,
-) -> Result<(), Memory>
+pub fn settle(alloc: Global, journal: &mut IndexedJournal, moment: Moment) -> Result<(), Memory>
     requires moment { moment ≤ last_moment }
     requires fit { AreFit journal.old.facts }
     ensures ok { OnOk result ((added : List Told) × Settles moment journal.old.facts added ×
