@@ -1,0 +1,11 @@
+pub mod Asking
+pub mod ByLocks
+pub mod Judging
+pub mod Members
+pub mod OneDue
+pub mod Opened
+pub mod Picking
+pub mod Ranges
+pub mod Scanned
+pub mod Stages
+pub mod Standing
