@@ -7,8 +7,8 @@ use Rattle.pl_facts.specs.declared.fact.Fact.{Fact}
 use Rattle.pl_locks.specs.Locks.{IsAt, IsLeastLaterRun, IsLeastSuperseded, IsNext, Locks}
 use Rattle.pl_locks.specs.declared.contender.Contender.{Contender}
 use Rattle.pl_rules.specs.declared.rule.Rule.TheVariants as rules
-use Rattle.pl_due.specs.Contention.{AreThose, Holds, IsContention, IsEligible}
-use Rattle.pl_due.specs.Due.{Next, Superseded, findings, locks}
+use Rattle.pl_due.specs.Contention.{IsContention, locks}
+use Rattle.pl_due.specs.Due.{Next, Superseded, findings}
 use Rattle.pl_due.specs.Least.{FirstOf}
 
 abbrev end_at : ℕ → ℕ → ℕ → Event
@@ -37,19 +37,16 @@ module _ (eligible holders : List Contender) (run stage : ℕ) (one : Contender)
   }
 
 pub by_these : (facts : List Fact) (moment : ℕ) (eligible holders : List Contender)
-    (found : Option Event) → AreThose facts (IsEligible facts moment) eligible →
-    AreThose facts (Holds facts) holders →
+    (found : Option Event) → IsContention facts moment (locks eligible holders) →
     FirstOf (Superseded (locks eligible holders) ∷ Next (locks eligible holders) ∷ []) found →
     FirstOf (drop 5 (findings facts moment)) found
-by_these facts moment eligible holders found left right (inl (event, is, gives)) =
-    inl (event, is, (locks eligible holders, record { eligible = left; holders = right }, gives))
-by_these facts moment eligible holders found left right (inr (none, inl (event, is, starts))) =
-    inr (
-      (locks eligible holders, record { eligible = left; holders = right }, none),
-      inl (event, is, (locks eligible holders, record { eligible = left; holders = right }, starts)),
-    )
-by_these facts moment eligible holders found left right (inr (none, inr (nothing, is))) =
-    inr (
-      (locks eligible holders, record { eligible = left; holders = right }, none),
-      inr ((locks eligible holders, record { eligible = left; holders = right }, nothing), is),
-    )
+by_these facts moment eligible holders found is (inl (event, some, gives)) =
+    inl (event, some, (locks eligible holders, is, gives))
+by_these facts moment eligible holders found is (inr (none, inl (event, some, starts))) = inr (
+  (locks eligible holders, is, none),
+  inl (event, some, (locks eligible holders, is, starts)),
+)
+by_these facts moment eligible holders found is (inr (none, inr (nothing, too))) = inr (
+  (locks eligible holders, is, none),
+  inr ((locks eligible holders, is, nothing), too),
+)

@@ -1,11 +1,12 @@
 pub mod Asking
 pub mod ByLocks
-pub mod Judging
+pub mod Fits
+pub mod Judged
 pub mod Members
 pub mod OneDue
+pub mod OneStage
 pub mod Opened
 pub mod Picking
 pub mod Ranges
 pub mod Scanned
-pub mod Stages
 pub mod Standing

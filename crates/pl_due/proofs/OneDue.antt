@@ -25,14 +25,14 @@ use Rattle.pl_rules.specs.declared.rule.Rule.TheVariants as rules
 use Rattle.pl_views.specs.CheckViews.{check_view}
 use Rattle.pl_due.specs.Checked.{AreVerdictsOf, all_checks}
 use Rattle.pl_due.specs.Contention.{AreThose, Holds, InRun, IsContention, IsEligible, IsOne}
-use Rattle.pl_due.specs.Contention.{contender_of}
-use Rattle.pl_due.specs.Due.{Among, IsDue, Next, Superseded, findings, locks}
+use Rattle.pl_due.specs.Contention.{contender_of, locks}
+use Rattle.pl_due.specs.Due.{Among, IsDue, Next, Superseded, findings}
 use Rattle.pl_due.specs.Kinds.{Fails, IsDone, IsPassedOver, JobIsPassedOver, TimesOut, fail_end}
 use Rattle.pl_due.specs.Least.{FirstOf, InStage, IsLeastOf, Least, OfStages}
 use Rattle.pl_due.specs.Least.{Precedes as Before}
 use Rattle.pl_due.specs.Nodes.{IsStageOf}
 use Rattle.pl_due.proofs.Members.{cons_cases, head_before, here, of_member, tail_pairs, there}
-use Rattle.pl_due.proofs.Stages.{moved, one_planned, one_told}
+use Rattle.pl_due.proofs.OneStage.{moved, one_planned, one_told}
 
 -- a finding that gives one thing alone
 pub record IsExact (finding : Option Event → Type 0) : Type 0 where

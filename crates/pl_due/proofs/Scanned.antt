@@ -14,7 +14,7 @@ use Rattle.pl_due.specs.Nodes.{IsStageOf}
 use Rattle.pl_due.specs.Open.{at_place}
 use Rattle.pl_due.specs.Scans.{FirstJob, FirstStage, HasOpenStages, IsBefore}
 use Rattle.pl_due.proofs.Members.{cons_cases, head_before, here, tail_pairs, there}
-use Rattle.pl_due.proofs.Stages.{moved}
+use Rattle.pl_due.proofs.OneStage.{moved}
 
 module _ (facts : List Fact) (kind : InStage) where
   -- ---- in one stage

@@ -58,6 +58,9 @@ pub record AreThose (facts : List Fact) (P : InRun) (stages : List Contender) : 
   pub all : (told : QueuedRun) (one : PlanStage) (run stage : ℕ) →
       IsStageOf facts run stage told one → P told one run stage → Any (IsAt run stage) stages
 
+abbrev pub locks : List Contender → List Contender → Locks
+locks eligible holders = record { eligible = eligible; holders = holders }
+
 -- the eligible stages and the holders
 pub record IsContention (facts : List Fact) (moment : ℕ) (locks : Locks) : Type 0 where
   pub eligible : AreThose facts (IsEligible facts moment) locks.eligible

@@ -39,9 +39,6 @@ Next locks (Some event) = Starts locks event
 
 -- ---- all seven kinds
 
-abbrev pub locks : List Contender → List Contender → Locks
-locks eligible holders = record { eligible = eligible; holders = holders }
-
 -- among the stages that are eligible and those that hold
 abbrev pub Among : List Fact → ℕ → (Locks → Option Event → Type 0) → Option Event → Type 0
 Among facts moment finding found =

@@ -4,16 +4,60 @@ ghost use Rattle.std.specs.Prelude.{◌≡◌, ◌≤◌, IfOk};
 ghost use Rattle.pl_due.specs.Asked.{IsAsked, facts_of};
 ghost use Rattle.pl_due.specs.Contention as spec;
 ghost use Rattle.pl_due.specs.Fit.{AreFit, last_moment};
-ghost use Rattle.pl_due.specs.Scans.{IsPicked, Picked};
+ghost use Rattle.pl_due.specs.Scans.{HasOpenStages, IsPicked, Picked};
 
 use crate::checked::exclusive_uses;
-use crate::eligible::Holding;
-use crate::open_stages::Place;
+use crate::eligible::{Eligible, Holding, Running};
+use crate::open_stages::{Place, open_stages};
 use crate::stage_at::StageAt;
 use pl_base::{ExactCopy, List, Memory, Moment};
 use pl_journal::Journal;
 use pl_locks::Contender;
+use pl_open_runs::IndexedJournal;
 use std::alloc::Global;
+
+/// The stages that contend for exclusive resources, by run, then by place: those that may be
+/// started as far as no other stands in their way, and those that run and hold what they use.
+#[derive(Drop)]
+pub struct Contention {
+    pub eligible: List<Contender>,
+    pub holders: List<Contender>,
+}
+
+/// Which stages contend at a moment. Only open runs are looked at. Each fact's moment is one that a
+/// clock tells, and each run's plan can run, as `due` asks. Memory comes where there is none, and
+/// nothing else.
+pub fn contention_at(
+    alloc: Global,
+    journal: &IndexedJournal,
+    moment: Moment,
+) -> Result<Contention, Memory>
+    requires moment { moment ≤ last_moment }
+    requires fit { AreFit journal.now.facts }
+    ensures { IfOk result (λ told. spec.IsContention journal.now.facts moment
+        (spec.locks told.eligible told.holders)) }
+{
+    let places = open_stages(alloc, journal)?;
+    contention_among(alloc, journal.journal(), moment, places.as_slice())
+}
+
+/// Which of the stages that haven't ended contend.
+pub(crate) fn contention_among(
+    alloc: Global,
+    journal: &Journal,
+    moment: Moment,
+    places: &[Place],
+) -> Result<Contention, Memory>
+    requires moment { moment ≤ last_moment }
+    requires fit { AreFit journal.now.facts }
+    requires places { HasOpenStages journal.now.facts places.now }
+    ensures { IfOk result (λ told. spec.IsContention journal.now.facts moment
+        (spec.locks told.eligible told.holders)) }
+{
+    let eligible = contenders(alloc, journal, moment, places, &Eligible)?;
+    let holders = contenders(alloc, journal, moment, places, &Running)?;
+    Ok(Contention { eligible, holders })
+}
 
 /// A stage as one that wants its exclusive resources.
 fn contender(alloc: Global, at: &StageAt<'_>) -> Result<Contender, Memory>
@@ -84,7 +128,7 @@ fn contender_at<H: Holding>(
 }
 
 /// Those of some stages of which something holds, in their order.
-pub(crate) fn contenders<H: Holding>(
+fn contenders<H: Holding>(
     alloc: Global,
     journal: &Journal,
     moment: Moment,

@@ -6,9 +6,9 @@
 
 mod checked;
 mod contention;
-mod due;
 mod eligible;
 mod ends;
+mod first_due;
 mod jobs;
 mod judging;
 mod laws;
@@ -18,5 +18,6 @@ mod scanning;
 mod stage_at;
 mod stages;
 
-pub use due::due;
+pub use contention::{Contention, contention_at};
+pub use first_due::due;
 pub use laws::due_laws;

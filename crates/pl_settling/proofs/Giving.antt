@@ -23,7 +23,7 @@ use Rattle.pl_due.specs.Least.{IsLeastOf}
 use Rattle.pl_due.specs.Nodes.{IsStageOf, awaits_agent, has_had, is_out_of_time, is_running}
 use Rattle.pl_due.specs.Nodes.{is_waiting}
 use Rattle.pl_due.proofs.Members.{any_of, of_member}
-use Rattle.pl_due.proofs.Stages.{one_planned}
+use Rattle.pl_due.proofs.OneStage.{one_planned}
 use Rattle.pl_due.proofs.Standing.{first_of_two, is_nothing, running_open, second_of_two}
 use Rattle.pl_due.proofs.Standing.{waiting_open}
 use Rattle.pl_settling.specs.Gives.{Gives}

@@ -18,7 +18,7 @@ use Rattle.pl_log.proofs.Naming.{exact_key}
 use Rattle.pl_plan.specs.declared.plan.PlanStage.{PlanStage}
 use Rattle.pl_due.specs.Checked.{exclusive_uses, is_exclusive}
 use Rattle.pl_due.specs.Nodes.{IsStageOf, is_running}
-use Rattle.pl_due.proofs.Stages.{one_planned}
+use Rattle.pl_due.proofs.OneStage.{one_planned}
 use Rattle.pl_due.proofs.Standing.{both, first_of_two, is_nothing, second_of_two}
 use Rattle.pl_settling.specs.Gives.{Gives}
 use Rattle.pl_settling.specs.Laws.{HasOneHolder, Occupies, WasNext}

@@ -23,7 +23,7 @@ use Rattle.pl_due.specs.Least.{Least}
 use Rattle.pl_due.specs.Nodes.{IsStageOf, condition, is_canceled, is_waiting}
 use Rattle.pl_due.proofs.Members.{of_member}
 use Rattle.pl_due.proofs.OneDue.{one_contention}
-use Rattle.pl_due.proofs.Stages.{one_planned, one_told}
+use Rattle.pl_due.proofs.OneStage.{one_planned, one_told}
 use Rattle.pl_settling.specs.Laws.{Gap}
 
 -- what isn't there where nothing is due

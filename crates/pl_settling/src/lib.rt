@@ -2,8 +2,8 @@
 #![tactic(auto)]
 
 mod laws;
-mod settle;
+mod settling;
 
 pub use laws::settling_laws;
 pub use pl_due::due;
-pub use settle::settle;
+pub use settling::settle;

@@ -1,6 +1,6 @@
 use Rattle.pl_due.specs.Fit.{AreFit}
 use Rattle.pl_settling.proofs.Turns.{SoFar}
-use Rattle.pl_settling.proofs.settle.settle.Given as goal
+use Rattle.pl_settling.proofs.settling.settle.Given as goal
 
 abbrev pub invariant-loop-_turn : goal.invariant-loop-_turn
 invariant-loop-_turn l = record {

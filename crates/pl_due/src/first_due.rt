@@ -1,12 +1,12 @@
 ghost use Rattle.std.specs.Prelude.{◌≤◌, ◌∷◌, [], IfOk, drop};
-ghost use Rattle.pl_due.specs.Due.{IsDue, Next, Superseded, findings, locks};
+ghost use Rattle.pl_due.specs.Contention.{locks};
+ghost use Rattle.pl_due.specs.Due.{IsDue, Next, Superseded, findings};
 ghost use Rattle.pl_due.specs.Least.{FirstOf};
 ghost use Rattle.pl_due.specs.Fit.{AreFit, last_moment};
 ghost use Rattle.pl_due.specs.Scans.{HasOpenStages};
 ghost use Rattle.pl_locks.specs.Kept.{IsOrdered};
 
-use crate::contention::contenders;
-use crate::eligible::{Eligible, Running};
+use crate::contention::contention_among;
 use crate::ends::superseded_end;
 use crate::jobs::{FalseJobs, OutOfTime};
 use crate::open_stages::{Place, open_stages};
@@ -153,9 +153,8 @@ fn by_locks(
     requires places { HasOpenStages journal.now.facts places.now }
     ensures { IfOk result (FirstOf (drop 5 (findings journal.now.facts moment))) }
 {
-    let eligible = contenders(alloc, journal, moment, places, &Eligible)?;
-    let holders = contenders(alloc, journal, moment, places, &Running)?;
-    among(alloc, eligible.as_slice(), holders.as_slice())
+    let told = contention_among(alloc, journal, moment, places)?;
+    among(alloc, told.eligible.as_slice(), told.holders.as_slice())
 }
 
 /// What is due among stages that may start and stages that hold their resources.
