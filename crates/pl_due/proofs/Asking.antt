@@ -1,6 +1,6 @@
 -- The checks of one use more are asked.
 use Rattle.std.proofs.Common.{◌≡◌, ◌<◌, ◌+◌, ◌&&◌, arith, ℕ, Bool, true, false, List, [], ◌∷◌, ◌++◌}
-use Rattle.std.proofs.Common.{length, get_or, take, flat_map, refl, sym, ap, ◌∙◌, subst}
+use Rattle.std.proofs.Common.{length, get_or, take, flat_map, None, refl, sym, ap, ◌∙◌, subst}
 use Rattle.std.specs.List.{filter, list_all}
 use Rattle.std.specs.Prelude.{◌==◌}
 use Rattle.std.proofs.lemmas.List.{append_assoc, append-nil, take_more}
@@ -13,6 +13,7 @@ use Rattle.pl_checks.specs.declared.view.CheckView.{CheckView}
 use Rattle.pl_facts.specs.declared.fact.Fact.{Fact}
 use Rattle.pl_judgement.specs.declared.judgement.Judgement.{Judgement}
 use Rattle.pl_judgement.specs.declared.kind.CheckKind.{CheckKind}
+use Rattle.pl_judgement.specs.declared.kind.CheckKind.TheVariants as kinds
 use Rattle.pl_judgement.specs.Kinds.{by_kind, is_of}
 use Rattle.pl_judgement.specs.Said.{IsJudgement}
 use Rattle.pl_due.specs.Checked.{all_checks, are_unguarded, checks_on}
@@ -78,3 +79,39 @@ none_on facts (key ∷ uses) h =
 pub unguarded : (facts : List Fact) (uses : List ResourceKey) → are_unguarded facts uses ≡ true →
     all_checks facts uses ≡ []
 unguarded facts uses h = ap by_kind (none_on facts uses h)
+
+pub judged_nothing : (facts : List Fact) (view : CheckView) (moment : ℕ) (uses : List ResourceKey)
+    (judgement : Judgement) → are_unguarded facts uses ≡ true → judgement.fail ≡ None →
+    judgement.wait ≡ None → IsJudgement (all_checks facts uses) view moment judgement
+judged_nothing facts view moment uses judgement none fail wait =
+    let P : List Check → Type 0 = λ checks. IsJudgement checks view moment judgement in
+    subst P (sym (unguarded facts uses none)) ([], tt, record { fail = fail; wait = wait })
+
+-- ---- all kinds
+
+four : {X : Type 0} (a b c d : List X) → ((a ++ b) ++ c) ++ d ≡ a ++ b ++ c ++ d
+four a b c d = append_assoc (a ++ b) c d ∙ append_assoc a b (c ++ d)
+
+abbrev Step : List Fact → List ResourceKey → CheckView → ℕ → CheckKind → Judgement → Judgement →
+    Type 0
+Step facts uses view moment kind old new = (before : List Check) →
+    IsJudgement before view moment old →
+    IsJudgement (before ++ filter (is_of kind) (flat_map (checks_on facts) uses)) view moment new
+
+pub asked_all : (facts : List Fact) (uses shown : List ResourceKey) (view : CheckView)
+    (moment : ℕ) (none one two three all : Judgement) → shown ≡ uses → none.fail ≡ None →
+    none.wait ≡ None → Step facts shown view moment kinds.RequiredTemplate none one →
+    Step facts shown view moment kinds.Branch one two →
+    Step facts shown view moment kinds.Approval two three →
+    Step facts shown view moment kinds.Hours three all →
+    IsJudgement (all_checks facts uses) view moment all
+asked_all facts uses shown view moment none one two three all same fail wait a b c d =
+    let checks = flat_map (checks_on facts) shown in
+    let P : List Check → Type 0 = λ checks. IsJudgement checks view moment all in
+    let first = filter (is_of kinds.RequiredTemplate) checks in
+    let second = filter (is_of kinds.Branch) checks in
+    let third = filter (is_of kinds.Approval) checks in
+    subst P (four first second third (filter (is_of kinds.Hours) checks)
+    ∙ ap (all_checks facts) same)
+    (d ((first ++ second) ++ third) (c (first ++ second) (b first
+    (a [] ([], tt, record { fail = fail; wait = wait })))))

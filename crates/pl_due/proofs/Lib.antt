@@ -2,6 +2,7 @@ pub mod Asking
 pub mod ByLocks
 pub mod Fits
 pub mod Judged
+pub mod Looping
 pub mod Members
 pub mod OneDue
 pub mod OneStage

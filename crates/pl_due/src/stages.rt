@@ -10,7 +10,7 @@ use crate::scanning::Kind;
 use crate::stage_at::StageAt;
 use pl_base::Memory;
 use pl_facts::Event;
-use pl_judgement::judgement_laws;
+use pl_judgement::{Judgement, judgement_laws};
 use pl_results::combined;
 use std::alloc::Global;
 
@@ -63,7 +63,8 @@ impl Kind for Failing {
         if !is_waiting(at) {
             return Ok(None);
         }
-        match judgement(alloc, at)?.fail {
+        let Judgement { fail, wait: _wait } = judgement(alloc, at)?;
+        match fail {
             Some(rule) => Ok(Some(fail_end(alloc, at.run, at.stage, rule)?)),
             None => Ok(None),
         }
