@@ -1,6 +1,7 @@
 //! Decisions about stages.
 
-ghost use Rattle.std.specs.Prelude.{◌≡◌, ◌++◌, IfOk, OnOk, false, not, if◌then◌else◌};
+ghost use Rattle.std.specs.Prelude.{◌≡◌, ◌++◌, IfOk, OnOk, false, not, if◌then◌else◌, flat_map};
+ghost use Rattle.std.specs.Prelude.{map};
 ghost use Rattle.std.specs.Option.{option_map_or};
 ghost use Rattle.pl_journal.specs.Runs as spec;
 ghost use Rattle.pl_journal.specs.Settings.{by};
@@ -16,7 +17,6 @@ use std::alloc::Global;
 impl Journal {
     /// The decisions about a stage: who decided, and whether it was approved. The latest decision
     /// of each counts, and the latest of these stands in front. Memory alone is an error.
-    #[tactic(auto, using(crate::proofs::Listing::listed_through))]
     pub fn decisions(
         &self,
         alloc: Global,
@@ -27,11 +27,7 @@ impl Journal {
     {
         let still = StillDecided { journal: self };
         let found = self.log.all_of(alloc, Key::Stage(run, stage), &still)?;
-        let mut told = List::new(alloc);
-        for logged in &found {
-            add_decision(alloc, &mut told, &logged.fact.event)?;
-        }
-        Ok(told)
+        all_told(alloc, found.as_slice())
     }
 
     /// Whether somebody approved a stage, by the latest decision.
@@ -85,6 +81,18 @@ fn is_same(verdict: Option<bool>, approve: bool) -> bool
         Some(false) => !approve,
         None => false,
     }
+}
+
+/// What facts tell of decisions, one after the other.
+fn all_told(alloc: Global, found: &[&Logged]) -> Result<List<(Text, bool)>, Memory>
+    ensures { IfOk result (λ told. told ≡
+        flat_map (λ fact. spec.decided fact.event) (map (λ one. one.now) found.now)) }
+{
+    let mut told = List::new(alloc);
+    for logged in found {
+        add_decision(alloc, &mut told, &logged.fact.event)?;
+    }
+    Ok(told)
 }
 
 /// Puts a decision behind the others. What is left after Memory isn't told.

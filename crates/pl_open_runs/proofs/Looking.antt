@@ -21,13 +21,17 @@ use Rattle.pl_open_runs.specs.Open.{has_open_stage, is_open_stage}
 
 -- ---- stages
 
+from_first : (n : ℕ) → 0 + n ≡ n
+from_first n = omega arith
+
 -- one open stage suffices
 pub one_open : (run stage stages : ℕ) (facts : List Fact) → stage < stages →
     is_open_stage run stage facts ≡ true → has_open_stage run stages facts ≡ true
 one_open run stage stages facts within is =
     list_any_at (λ one. is_open_stage run one facts) (range_with_len 0 stages) stage 0
     (omega (arith, length-range_with_len 0 stages))
-    (ap (λ one. is_open_stage run one facts) (get_or-range_with_len 0 stages stage 0 within) ∙ is)
+    (ap (λ one. is_open_stage run one facts)
+    (get_or-range_with_len 0 stages stage 0 within ∙ from_first stage) ∙ is)
 
 range_more : (a n : ℕ) → range_with_len a (suc n) ≡ range_with_len a n ++ (a + n) ∷ []
 range_more a zero = ap (λ k. k ∷ []) (omega arith)
@@ -39,8 +43,10 @@ pub none_more : (run stages : ℕ) (facts : List Fact) → has_open_stage run st
     is_open_stage run stages facts ≡ false → has_open_stage run (stages + 1) facts ≡ false
 none_more run stages facts before here =
     let test : ℕ → Bool = λ one. is_open_stage run one facts in
-    ap (λ n. list_any test (range_with_len 0 n)) (omega arith)
-    ∙ ap (list_any test) (range_more 0 stages)
+    let next : stages + 1 ≡ suc stages = omega arith in
+    ap (λ n. list_any test (range_with_len 0 n)) next
+    ∙ ap (list_any test)
+    (range_more 0 stages ∙ ap (λ n. range_with_len 0 stages ++ n ∷ []) (from_first stages))
     ∙ list_any-append test (range_with_len 0 stages) (stages ∷ [])
     ∙ (λ i. before i || (here i || false))
 

@@ -27,7 +27,7 @@ latest_holds P test (x ∷ xs) all = holds_by P (latest test xs) (test x) x
 
 -- ---- bounds
 
-later_bound : (a m : ℕ) (o : Option Fact) → a ≤ m → IfSome o (λ fact. fact.moment ≤ m) →
+pub later_bound : (a m : ℕ) (o : Option Fact) → a ≤ m → IfSome o (λ fact. fact.moment ≤ m) →
     later a o ≤ m
 later_bound a m None le h = le
 later_bound a m (Some fact) le h = omega (arith, h)
