@@ -1,9 +1,9 @@
 -- The checks of one use more are asked.
-use Rattle.std.proofs.Common.{◌≡◌, ◌<◌, ◌+◌, ◌&&◌, arith, ℕ, Bool, true, false, List, [], ◌∷◌, ◌++◌}
+use Rattle.std.proofs.Common.{◌≡◌, ◌<◌, ◌≤◌, ◌+◌, ◌&&◌, arith, ℕ, Bool, true, false, List, [], ◌∷◌, ◌++◌}
 use Rattle.std.proofs.Common.{length, get_or, take, flat_map, None, refl, sym, ap, ◌∙◌, subst}
 use Rattle.std.specs.List.{filter, list_all}
 use Rattle.std.specs.Prelude.{◌==◌}
-use Rattle.std.proofs.lemmas.List.{append_assoc, append-nil, take_more}
+use Rattle.std.proofs.lemmas.List.{append_assoc, append-nil, take_all, take_more}
 use Rattle.std.proofs.lemmas.List.Concat.{flat_map-cons, flat_map_single}
 use Rattle.std.proofs.lemmas.List.Elements.{filter-append}
 use Rattle.std.proofs.lemmas.Grind.{flat_map-append}
@@ -58,6 +58,15 @@ module _ (facts : List Fact) (view : CheckView) (moment : ℕ) (kind : CheckKind
       (checks_on facts key)))
       ∙ ap (λ all. before ++ filter (is_of kind) all) (sym (of_one_more count key within is)))
       (asks (before ++ some) (asked before starts))
+
+  pub asked_of_all : (count : ℕ) (now : Judgement) → length uses ≤ count → AskedOf count now →
+      (before : List Check) → IsJudgement before view moment start →
+      IsJudgement (before ++ filter (is_of kind) (flat_map (checks_on facts) uses)) view moment now
+  asked_of_all count now past asked = λ before starts.
+      let P : List ResourceKey → Type 0 = λ some.
+      IsJudgement (before ++ filter (is_of kind) (flat_map (checks_on facts) some)) view moment now
+      in
+      subst P (take_all uses count past) (asked before starts)
 
 -- ---- nothing guards them
 

@@ -18,6 +18,8 @@ use Rattle.pl_log.specs.Latest.{latest}
 use Rattle.pl_plan.specs.declared.plan.PlanJob.{PlanJob}
 use Rattle.pl_plan.specs.declared.plan.PlanStage.{PlanStage}
 use Rattle.pl_results.specs.Nodes.{CanRun, jobs_of}
+use Rattle.pl_due.specs.declared.stage_at.StageAt.{StageAt}
+use Rattle.pl_due.specs.Asked.{IsAsked, facts_of}
 use Rattle.pl_due.specs.Fit.{AreFit, CanRunIf, IsFit, last_moment}
 use Rattle.pl_due.specs.Nodes.{IsStageOf}
 
@@ -75,3 +77,21 @@ module _ (facts : List Fact) (run stage : ℕ) (told : QueuedRun) (one : PlanSta
 pub few_stages : (facts : List Fact) (run : ℕ) (told : QueuedRun) → AreFit facts →
     by run_told (queueing run facts) ≡ Some told → length told.compiled.plan.stages < 2 ^ 32
 few_stages facts run told fit is = (told_runs facts run told fit is).stages
+
+-- ---- of a stage that is asked about
+
+module _ (at : StageAt) (asked : IsAsked at) where
+  pub asked_runs : CanRun at.queued.now.compiled.plan
+  asked_runs = told_runs (facts_of at) at.run at.queued.now asked.fit asked.there.queued
+
+  pub asked_within : at.stage < length at.queued.now.compiled.plan.stages
+  asked_within = within (facts_of at) at.run at.stage at.queued.now at.planned.now asked.fit
+      asked.there
+
+  pub asked_jobs : jobs_of at.queued.now.compiled.plan at.stage ≡ at.planned.now.jobs
+  asked_jobs = jobs_are (facts_of at) at.run at.stage at.queued.now at.planned.now asked.fit
+      asked.there
+
+  pub few_jobs_at : length at.planned.now.jobs < 2 ^ 32
+  few_jobs_at = few_jobs (facts_of at) at.run at.stage at.queued.now at.planned.now asked.fit
+      asked.there

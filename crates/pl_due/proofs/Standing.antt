@@ -1,6 +1,7 @@
 -- Stages that haven't ended.
 use Rattle.std.proofs.Common.{◌≡◌, ◌&&◌, ℕ, Bool, true, false, List, Option, Some, None, is_some}
-use Rattle.std.proofs.Common.{is_none, refl, ap, ◌∙◌}
+use Rattle.std.proofs.Common.{Bor, is_none, not, refl, sym, ap, ◌∙◌}
+use Rattle.std.specs.Option.{option_copied}
 use Rattle.pl_facts.specs.declared.fact.Fact.{Fact}
 use Rattle.pl_journal.specs.Runs.{stage_end, stage_start}
 use Rattle.pl_plan.specs.declared.plan.PlanStage.{PlanStage}
@@ -24,6 +25,16 @@ both a b l r = ap (λ x. x && b) l ∙ r
 pub is_nothing : {X : Type 0} (o : Option X) → is_none o ≡ true → o ≡ None
 is_nothing None h = refl
 is_nothing (Some x) h = absurd (cc)
+
+-- what a look-up says, by the answer of its `is_none`
+pub some_by : {X : Type 0} (o : Option (Bor X)) (told : Option X) (none : Bool) →
+    option_copied o ≡ told → is_some o ≡ not none → is_some told ≡ not none
+some_by None told none is tells = sym (ap is_some is) ∙ tells
+some_by (Some x) told none is tells = sym (ap is_some is) ∙ tells
+
+pub none_when : {X : Type 0} (o : Option X) (b : Bool) → is_some o ≡ not b → is_none o ≡ b
+none_when o true tells = ap not tells
+none_when o false tells = ap not tells
 
 -- ---- stages
 
