@@ -2,6 +2,7 @@
 //! writes the answer to each. The form of the cases stands at their head.
 #![tactic(auto)]
 
+mod answers;
 mod asks;
 mod bodies;
 mod checks;
@@ -15,15 +16,16 @@ mod targets;
 mod words;
 mod written;
 
+use crate::answers::Answers;
 use crate::asks::answer_all;
-use pl_base::Text;
 use std::io;
 
 fn main(rt: HostRuntime) -> io::Result<()> {
     let cases = io::read_to_string(rt.alloc(), rt.reader())?;
-    let mut out = Text::new(rt.alloc());
-    if answer_all(rt.alloc(), &mut out, cases.as_str()).is_err() {
-        return Err(io::Error::from(io::ErrorKind::OutOfMemory));
+    let mut out = Answers::new(rt.alloc());
+    answer_all(rt.alloc(), &mut out, cases.as_str());
+    match out.text() {
+        Ok(text) => print!(rt; "{text}"),
+        Err(_) => Err(io::Error::from(io::ErrorKind::OutOfMemory)),
     }
-    print!(rt; "{}", out.as_str())
 }

@@ -1,56 +1,70 @@
 //! Replies.
 
+use crate::answers::Answers;
 use crate::jsons::sample;
 use crate::written::{put_shown, write_line};
-use pl_base::{List, Memory, Text};
+use pl_base::{List, Memory};
 use pl_requests::{Body, Reply};
 use pl_wire::{HttpFault, RequestFault, fault_reply, memory_reply, refused_reply, reply_bytes};
 use std::alloc::Global;
 use std::str;
 
 /// Writes bytes that are a text, the control characters by their pictures.
-fn put_bytes(out: &mut Text, bytes: &[u8]) -> Result<(), Memory> {
-    put_shown(out, str::from_utf8(bytes).unwrap_or("no text"))
+fn put_bytes(out: &mut Answers, bytes: &[u8]) {
+    put_shown(out, str::from_utf8(bytes).unwrap_or("no text"));
+    out.push("\n");
 }
 
-fn put_reply(alloc: Global, out: &mut Text, reply: &Reply) -> Result<(), Memory> {
-    let bytes = reply_bytes(alloc, reply)?;
-    put_bytes(out, bytes.as_slice())?;
-    out.push_str("\n")
-}
-
-fn answer_status(alloc: Global, out: &mut Text, status: u16, rest: &str) -> Result<(), Memory> {
-    match rest.split_once(' ') {
-        Some(("raw", text)) => {
-            let body = Body::Raw(List::from_slice(alloc, text.as_bytes())?);
-            put_reply(alloc, out, &Reply { status, body })
-        }
-        Some(("rule", rule)) => put_reply(alloc, out, &Reply::refusal(alloc, status, rule)?),
-        _ => match rest {
-            "sample" => put_reply(alloc, out, &Reply::json(status, sample(alloc)?)),
-            _ => {
-                let body = Body::Empty;
-                put_reply(alloc, out, &Reply { status, body })
-            }
-        },
+fn put_reply(alloc: Global, out: &mut Answers, reply: &Reply) {
+    match reply_bytes(alloc, reply) {
+        Ok(bytes) => put_bytes(out, bytes.as_slice()),
+        Err(_) => out.fail(),
     }
 }
 
-fn answer_fault(alloc: Global, out: &mut Text, fault: HttpFault) -> Result<(), Memory> {
-    put_reply(alloc, out, &fault_reply(alloc, fault)?)
+fn put_made(alloc: Global, out: &mut Answers, made: Result<Reply, Memory>) {
+    match made {
+        Ok(reply) => put_reply(alloc, out, &reply),
+        Err(_) => out.fail(),
+    }
 }
 
-fn answer_refused(alloc: Global, out: &mut Text, fault: RequestFault) -> Result<(), Memory> {
-    put_reply(alloc, out, &refused_reply(alloc, fault)?)
+fn raw(alloc: Global, status: u16, text: &str) -> Result<Reply, Memory> {
+    let body = Body::Raw(List::from_slice(alloc, text.as_bytes())?);
+    Ok(Reply { status, body })
+}
+
+/// A reply with the sample, or without a content.
+fn plain_reply(alloc: Global, status: u16, word: &str) -> Result<Reply, Memory> {
+    match word {
+        "sample" => Ok(Reply::json(status, sample(alloc)?)),
+        _ => Ok(Reply {
+            status,
+            body: Body::Empty,
+        }),
+    }
+}
+
+fn answer_status(alloc: Global, out: &mut Answers, status: u16, rest: &str) {
+    match rest.split_once(' ') {
+        Some(("raw", text)) => put_made(alloc, out, raw(alloc, status, text)),
+        Some(("rule", rule)) => put_made(alloc, out, Reply::refusal(alloc, status, rule)),
+        _ => put_made(alloc, out, plain_reply(alloc, status, rest)),
+    }
+}
+
+fn answer_fault(alloc: Global, out: &mut Answers, fault: HttpFault) {
+    put_made(alloc, out, fault_reply(alloc, fault));
+}
+
+fn answer_refused(alloc: Global, out: &mut Answers, fault: RequestFault) {
+    put_made(alloc, out, refused_reply(alloc, fault));
 }
 
 /// Writes the bytes of a reply.
-pub fn answer_reply(alloc: Global, out: &mut Text, line: &str) -> Result<(), Memory> {
+pub fn answer_reply(alloc: Global, out: &mut Answers, line: &str) {
     match line {
-        "memory" => {
-            put_bytes(out, memory_reply())?;
-            out.push_str("\n")
-        }
+        "memory" => put_bytes(out, memory_reply()),
         "head.bad" => answer_fault(alloc, out, HttpFault::HeadBad),
         "head.large" => answer_fault(alloc, out, HttpFault::HeadLarge),
         "length.missing" => answer_fault(alloc, out, HttpFault::LengthMissing),

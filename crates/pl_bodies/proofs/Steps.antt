@@ -1,22 +1,19 @@
 -- Objects without a member, and lists item by item.
 use Rattle.std.proofs.Common.{◌≡◌, ℕ, List, [], ◌∷◌, ◌++◌, Bool, true, false, cond, refl, sym, ap}
-use Rattle.std.proofs.Common.{◌∙◌, append_assoc, append-nil, Result, Ok, Err, map, reverse, subst}
+use Rattle.std.proofs.Common.{◌∙◌, append_assoc, Result, Ok, Err}
 use Rattle.std.proofs.Common.{Global, String, string_bytes, length, arith}
-use Rattle.std.proofs.lemmas.List.{reverse-append, reverse-reverse}
 use Rattle.std.specs.Cmp.Lexicographic.{slice_cmp}
 use Rattle.std.specs.BTreeMap.{is_at}
 use Rattle.std.specs.Map.{remove_entry}
 use Rattle.std.specs.Ordering.{is_eq, nat_cmp}
-use Rattle.serde_json.specs.Data.{Data, Items, no_items, item, Members, no_members, member}
-use Rattle.serde_json.specs.View.{view, items_view, members_view}
+use Rattle.serde_json.specs.Data.{Members, member}
+use Rattle.serde_json.specs.View.{view, members_view}
 use Rattle.serde_json.specs.declared.value.Value.{Value}
 use Rattle.pl_reading.specs.Steps.{◌>>=◌}
-use Rattle.pl_reading.specs.Answers.{Tells}
 use Rattle.pl_bodies.specs.declared.fault.BodyFault.{BodyFault}
-use Rattle.pl_bodies.specs.declared.fault.BodyFault.TheVariants.{Bad, Memory}
+use Rattle.pl_bodies.specs.declared.fault.BodyFault.TheVariants.{Bad}
 use Rattle.pl_bodies.specs.Atoms.{text_of}
-use Rattle.pl_bodies.specs.Fields.{Meant, each, each_named, no_more, without}
-use Rattle.pl_bodies.specs.Meaning.{told}
+use Rattle.pl_bodies.specs.Fields.{each_named, no_more, without}
 
 abbrev pub Entry : Type 0
 Entry = String Global × Value
@@ -45,26 +42,26 @@ abbrev pub behind : {X : Type 0} → List X → Result (List X) BodyFault → Re
 behind front rest = rest >>= λ more. Ok (front ++ more)
 
 item_behind :
-    {X : Type 0} (front : List X) (item : X) (rest : Result (List X) BodyFault) →
-    behind front (rest >>= λ more. Ok (item ∷ more)) ≡ behind (front ++ item ∷ []) rest
-item_behind front item (Ok more) = ap Ok (sym (append_assoc front (item ∷ []) more))
-item_behind front item (Err fault) = refl
+    {X : Type 0} (front : List X) (one : X) (rest : Result (List X) BodyFault) →
+    behind front (rest >>= λ more. Ok (one ∷ more)) ≡ behind (front ++ one ∷ []) rest
+item_behind front one (Ok more) = ap Ok (sym (append_assoc front (one ∷ []) more))
+item_behind front one (Err fault) = refl
 
 -- one member more of an object of texts
 pub one_named :
     {X : Type 0} (make : List ℕ → List ℕ → X) (whole : Result (List X) BodyFault)
     (old new : List X) (here rest : List Entry) (name : String Global) (value : Value)
-    (text : List ℕ) (item : X) → here ≡ (name, value) ∷ rest → text_of (view value) ≡ Ok text →
-    item ≡ make (string_bytes name) text → new ≡ old ++ item ∷ [] →
+    (text : List ℕ) (one : X) → here ≡ (name, value) ∷ rest → text_of (view value) ≡ Ok text →
+    one ≡ make (string_bytes name) text → new ≡ old ++ one ∷ [] →
     whole ≡ behind old (each_named make (members_view here)) →
     whole ≡ behind new (each_named make (members_view rest))
-one_named make whole old new here rest name value text item is told made pushed so_far =
+one_named make whole old new here rest name value text one is text_is made pushed so_far =
     so_far ∙ ap (λ (es : List Entry). behind old (each_named make (members_view es))) is
     ∙ ap (λ t. behind old (t >>= λ said. each_named make (members_view rest) >>= λ more.
-    Ok (make (string_bytes name) said ∷ more))) told
+    Ok (make (string_bytes name) said ∷ more))) text_is
     ∙ item_behind old (make (string_bytes name) text) (each_named make (members_view rest))
     ∙ ap (λ front. behind front (each_named make (members_view rest)))
-    (sym (pushed ∙ ap (λ one. old ++ one ∷ []) made))
+    (sym (pushed ∙ ap (λ x. old ++ x ∷ []) made))
 
 -- ---- no member is left
 

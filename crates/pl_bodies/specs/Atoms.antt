@@ -1,5 +1,5 @@
 -- Texts, flags and numbers.
-use Rattle.std.specs.Prelude.{ℕ, nat_le, Bool, ◌||◌, List, Option, Some, None, Result, Ok, Err}
+use Rattle.std.specs.Prelude.{ℕ, nat_le, Bool, ◌||◌, List, Result, Ok, Err}
 use Rattle.std.specs.Prelude.{if◌then◌else◌, option_and_then}
 use Rattle.std.specs.Option.{is_some}
 use Rattle.jiff_tz.specs.PosixReader.{read_whole}

@@ -156,10 +156,10 @@ fn sources_of(
 /// (clause `written`), which is the template or one that it calls, itself or by files that it calls
 /// (clause `closure`). Each origin in a step tells places of used files or of run arguments, its
 /// borders lead into files among the sources, and what no argument and no expression gave stands
-/// where its borders lead from the root file, along paths that these files say (clause `known`).
-/// And each scalar and key in a step that no argument gave and no expression made says what is
-/// written where it stands (clause `texts`; Microsoft Learn, Azure Pipelines, "Security through
-/// templates").
+/// where its borders lead from the root file, along the paths under `template` of the items that
+/// call (clause `known`). And each scalar and key in a step that no argument gave and no expression
+/// made says what is written where it stands (clause `texts`; Microsoft Learn, Azure Pipelines,
+/// "Security through templates").
 pub fn compile(
     alloc: Global,
     files: &FileSet,

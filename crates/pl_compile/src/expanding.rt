@@ -53,9 +53,9 @@ fn told(alloc: Global, expanded: Result<Expanded, ExpandFault>) -> Result<Expand
 /// calls, itself or by files that it calls (clause `closure`). Each origin in the whole tree tells
 /// places of used files or of run arguments, its borders lead into used files that are there, and
 /// what no argument and no expression gave stands where its borders lead from the root file, along
-/// paths that these files say (clause `known`). And each scalar and key that no argument gave and
-/// no expression made says what is written where it stands (clause `texts`; Microsoft Learn, Azure
-/// Pipelines, "Security through templates").
+/// the paths under `template` of the items that call (clause `known`). And each scalar and key that
+/// no argument gave and no expression made says what is written where it stands (clause `texts`;
+/// Microsoft Learn, Azure Pipelines, "Security through templates").
 pub fn expanded(
     alloc: Global,
     files: &FileSet,

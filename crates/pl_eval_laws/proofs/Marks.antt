@@ -1,5 +1,5 @@
 -- What the scalars and keys of a tree say, by the parts of the tree.
-use Rattle.std.proofs.Common.{◌≡◌, ℕ, Option, Some, None, List, [], ◌∷◌, ◌++◌, map}
+use Rattle.std.proofs.Common.{◌≡◌, ℕ, Some, None, List, [], ◌∷◌, ◌++◌, map}
 use Rattle.std.proofs.Common.{ap, refl, subst, sym, ◌∙◌, rules}
 use Rattle.pl_base.specs.declared.origin.Origin.{Origin}
 use Rattle.pl_base.specs.declared.value.Value.{Value, out-Value, roll-Value, the_lemmas}
@@ -11,24 +11,11 @@ use Rattle.pl_base.specs.declared.value.MarkedPair.{MarkedPair}
 use Rattle.pl_eval_laws.specs.Marks.{Marks, ValueMarks, together, mark, key, said_at}
 use Rattle.pl_eval_laws.specs.Marks.{collection, alone, node_step, marks_of, value_marks, marks_in}
 use Rattle.pl_expr.specs.Conversions.{text_of}
-use Rattle.pl_eval_laws.proofs.Leads.{Opened, rolled, opened_array, opened_object}
+use Rattle.pl_eval_laws.proofs.Leads.{Opened, rolled, opened_array, opened_object, atom_by, atom_of}
 use Rattle.pl_eval_laws.proofs.Lists.{Has}
 
 abbrev pub marks_below : Value → Marks
 marks_below one = (value_marks one).marks
-
--- a layer's own atom
-abbrev pub atom_by : Opened → Option Value
-atom_by (Array items) = None
-atom_by (Object pairs) = None
-atom_by Null = Some value.Null
-atom_by (Truth truth) = Some (value.Bool truth)
-atom_by (Number number) = Some (value.Number number)
-atom_by (Version segments) = Some (value.Version segments)
-atom_by (Str text) = Some (value.Str text)
-
-abbrev pub atom_of : Value → Option Value
-atom_of one = atom_by (out-Value one)
 
 abbrev layer_seen : Opened → ValueMarks
 layer_seen (Array items) = collection (map marks_of items)

@@ -1,7 +1,8 @@
 -- What holds of all origins of a tree, of the calls that its mappings would be, and of what its
 -- scalars and keys say, by its parts.
 use Rattle.std.proofs.Common.{◌≡◌, ℕ, ℤ, Bool, Option, Some, None, List, [], ◌∷◌, map, sym, subst}
-use Rattle.std.proofs.Common.{◌++◌, rules}
+use Rattle.std.proofs.Common.{rules}
+use Rattle.std.specs.Prelude.{codes}
 use Rattle.std.specs.List.{AllByRecursion as Each}
 use Rattle.pl_base.specs.declared.origin.Origin.{Origin}
 use Rattle.pl_base.specs.declared.place.Place.{Place}
@@ -11,15 +12,18 @@ use Rattle.pl_base.specs.declared.value.Value.TheOpen.{Null, Bool as Truth, Numb
 use Rattle.pl_base.specs.declared.value.Value.TheOpen.{Version, Str, Array, Object}
 use Rattle.pl_base.specs.declared.value.MarkedNode.{MarkedNode}
 use Rattle.pl_base.specs.declared.value.MarkedPair.{MarkedPair}
-use Rattle.pl_eval_laws.specs.Marks.{Said, key as key_said, scalar, Mark, Marks, mark, said_at}
+use Rattle.pl_eval_laws.specs.Marks.{Said, key as key_said, scalar, Mark, Marks, said_at}
 use Rattle.pl_eval_laws.specs.Marks.{together as marks_together, marks_of, marks_in, IsTold}
+use Rattle.pl_eval_laws.specs.Marks.{IsOfFiles}
 use Rattle.pl_eval_laws.specs.Trees.{Origins, together, origins_of, origins_below, origins_in}
 use Rattle.pl_eval_laws.proofs.Leads.{Opened, lead, led_by, head_in, head_by, head_of, leads_of}
 use Rattle.pl_eval_laws.proofs.Leads.{leads_below, leads_in, node_leads, pair_leads, layer_leads}
-use Rattle.pl_eval_laws.proofs.Leads.{opened_leads, opened_is, rolled}
-use Rattle.pl_eval_laws.proofs.Marks.{marks_below, atom_by, atom_of, node_marks, pair_marks}
+use Rattle.pl_eval_laws.proofs.Leads.{opened_leads, opened_is, rolled, Head, Lead, Leads}
+use Rattle.pl_eval_laws.proofs.Leads.{together as leads_together, atom_by, atom_of}
+use Rattle.pl_eval_laws.proofs.Marks.{marks_below, node_marks, pair_marks}
 use Rattle.pl_eval_laws.proofs.Marks.{opened_marks, layer_marks}
 use Rattle.pl_eval_laws.proofs.Lists.{Has, each_append, each_front, each_back, each_implies}
+use Rattle.pl_eval_laws.proofs.Lists.{each_of}
 
 -- ---- the origins of a tree, by those of its parts
 
@@ -51,12 +55,14 @@ layer_origins (Str text) = search (rules, the_lemmas)
 layer_origins (Array items) = search (rules, the_lemmas)
 layer_origins (Object pairs) = search (rules, the_lemmas)
 
--- ---- what is asked of a tree: of each origin, and of what its scalars and keys say where they are
--- written
+-- ---- what is asked of a tree: of each origin, of what its scalars and keys say where they are
+-- written, and of an item that calls, where its path is written: of its place, of the path's, and
+-- of the path
 
 pub record Asked : Type 1 where
   pub own : Origin → Type 0
   pub says : Place → Said → Type 0
+  pub calls : Place → Place → Value → Type 0
 
 -- what is asked of a key or a scalar that says so
 abbrev pub Told : Asked → Origin → Said → Type 0
@@ -70,7 +76,11 @@ Atom P origin atom = Has (λ one. Told P origin (scalar one)) atom
 
 -- of origins alone
 abbrev pub only : (Origin → Type 0) → Asked
-only own = record { own = own; says = λ place said. Unit {0} }
+only own = record {
+  own = own;
+  says = λ place said. Unit {0};
+  calls = λ at from path. Unit {0};
+}
 
 -- what asks nothing
 abbrev pub Any : Asked
@@ -78,18 +88,34 @@ Any = only (λ origin. Unit {0})
 
 -- ---- a predicate of all origins, and one of the calls that the mappings would be
 
+-- what is asked of an item whose path comes from there
+abbrev pub Calling : Asked → Origin → Origin → Value → Type 0
+Calling L item path one = Each IsOfFiles path.crossings → L.calls item.source path.source one
+
+-- a mapping calls whose first key is `template`, and whose value under it is an atom
+abbrev pub Begun : Asked → Origin → Head → Type 0
+Begun L item head = head.key ≡ codes "template" → Has (Calling L item head.path) head.atom
+
+abbrev pub Leading : Asked → Origin → Head → Type 0
+Leading L item head = L.own (lead item head.path) × Begun L item head
+
+abbrev pub IsLed : Asked → Lead → Type 0
+IsLed L one = Leading L one.item one.head
+
 unfoldable pub NodeFrom : Asked → Asked → MarkedNode → Type 0
 NodeFrom P L node =
-    Each P.own (origins_of node) × (Each L.own (leads_of node) × Each (Marked P) (marks_of node))
+    Each P.own (origins_of node)
+    × (Each (IsLed L) (leads_of node) × Each (Marked P) (marks_of node))
 
 unfoldable pub ValueFrom : Asked → Asked → Value → Type 0
 ValueFrom P L one =
     Each P.own (origins_below one)
-    × (Each L.own (leads_below one) × Each (Marked P) (marks_below one))
+    × (Each (IsLed L) (leads_below one) × Each (Marked P) (marks_below one))
 
 unfoldable pub PairFrom : Asked → Asked → MarkedPair → Type 0
 PairFrom P L pair =
-    Each P.own (origins_in pair) × (Each L.own (leads_in pair) × Each (Marked P) (marks_in pair))
+    Each P.own (origins_in pair)
+    × (Each (IsLed L) (leads_in pair) × Each (Marked P) (marks_in pair))
 
 abbrev pub OpenedFrom : Asked → Asked → Opened → Type 0
 OpenedFrom P L (Array items) = Each (NodeFrom P L) items
@@ -97,8 +123,28 @@ OpenedFrom P L (Object pairs) = Each (PairFrom P L) pairs
 OpenedFrom P L atom = Unit {0}
 
 -- the call that a node would be, where it is a mapping
-abbrev pub Led : Asked → Origin → Option Origin → Type 0
-Led L origin head = Has (λ path. L.own (lead origin path)) head
+abbrev pub Led : Asked → Origin → Option Head → Type 0
+Led L origin head = Has (Leading L origin) head
+
+-- where a mapping's first value comes from
+abbrev pub HeadOwn : Asked → Head → Type 0
+HeadOwn P head = P.own head.path
+
+leads_from :
+    {X : Type 0} (f : X → Leads) (xs : List X) (Q : Lead → Type 0) →
+    Each (λ x. Each Q (f x)) xs → Each Q (leads_together (map f xs))
+leads_from f [] Q all = tt
+leads_from f (x ∷ xs) Q all =
+    each_append Q (f x) (leads_together (map f xs)) all.0 (leads_from f xs Q all.1)
+
+leads_apart :
+    {X : Type 0} (f : X → Leads) (xs : List X) (Q : Lead → Type 0) →
+    Each Q (leads_together (map f xs)) → Each (λ x. Each Q (f x)) xs
+leads_apart f [] Q all = tt
+leads_apart f (x ∷ xs) Q all = (
+  each_front Q (f x) (leads_together (map f xs)) all,
+  leads_apart f xs Q (each_back Q (f x) (leads_together (map f xs)) all),
+)
 
 marks_from :
     {X : Type 0} (f : X → Marks) (xs : List X) (Q : Mark → Type 0) →
@@ -133,17 +179,15 @@ module _ (P : Origin → Type 0) where
     apart_from f xs (each_back P (f x) (together (map f xs)) all),
   )
 
-  led_listed : (origin : Origin) (head : Option Origin) → Has (λ path. P (lead origin path)) head →
-      Each P (led_by origin head)
-  led_listed origin None led = tt
-  led_listed origin (Some path) led = (led, tt)
-
-  listed_led : (origin : Origin) (head : Option Origin) → Each P (led_by origin head) →
-      Has (λ path. P (lead origin path)) head
-  listed_led origin None all = tt
-  listed_led origin (Some path) all = all.0
-
 module _ (P : Asked) (origin : Origin) where
+  led_listed : (head : Option Head) → Led P origin head → Each (IsLed P) (led_by origin head)
+  led_listed None led = tt
+  led_listed (Some head) led = (led, tt)
+
+  listed_led : (head : Option Head) → Each (IsLed P) (led_by origin head) → Led P origin head
+  listed_led None all = tt
+  listed_led (Some head) all = all.0
+
   atom_listed : (atom : Option Value) → Atom P origin atom → Each (Marked P) (said_at origin atom)
   atom_listed None told = tt
   atom_listed (Some one) told = (told, tt)
@@ -183,9 +227,9 @@ module _ (P L : Asked) where
   node_from origin one own told below led = (
     subst (Each P.own) (sym (node_origins origin one)) (own, below.0),
     (
-      subst (Each L.own) (sym (node_leads origin one))
-          (each_append L.own (led_by origin (head_of one)) (leads_below one)
-          (led_listed L.own origin (head_of one) led) below.1.0),
+      subst (Each (IsLed L)) (sym (node_leads origin one))
+          (each_append (IsLed L) (led_by origin (head_of one)) (leads_below one)
+          (led_listed L origin (head_of one) led) below.1.0),
       subst (Each (Marked P)) (sym (node_marks origin one))
           (each_append (Marked P) (said_at origin (atom_of one)) (marks_below one)
           (atom_listed P origin (atom_of one) told) below.1.1),
@@ -200,7 +244,7 @@ module _ (P L : Asked) where
   pair_from key key_origin item own told below = (
     subst (Each P.own) (sym (pair_origins key key_origin item)) (own, below.0),
     (
-      subst (Each L.own) (sym (pair_leads key key_origin item)) below.1.0,
+      subst (Each (IsLed L)) (sym (pair_leads key key_origin item)) below.1.0,
       subst (Each (Marked P)) (sym (pair_marks key key_origin item)) (told, below.1.1),
     ),
   )
@@ -210,7 +254,7 @@ module _ (P L : Asked) where
   layer_from layer parts = (
     subst (Each P.own) (sym (layer_origins layer)) (origins layer parts),
     (
-      subst (Each L.own) (sym (layer_leads layer)) (leads layer parts),
+      subst (Each (IsLed L)) (sym (layer_leads layer)) (leads layer parts),
       subst (Each (Marked P)) (sym (layer_marks layer)) (marks layer parts),
     ),
   )
@@ -218,33 +262,33 @@ module _ (P L : Asked) where
       origins : (layer : Opened) → OpenedFrom P L layer → Each P.own (opened_origins layer)
       origins (Array items) parts =
           together_from P.own origins_of items
-          (lefts (λ x. Each P.own (origins_of x)) (λ x. Each L.own (leads_of x))
+          (lefts (λ x. Each P.own (origins_of x)) (λ x. Each (IsLed L) (leads_of x))
           (λ x. Each (Marked P) (marks_of x)) items parts)
       origins (Object pairs) parts =
           together_from P.own origins_in pairs
-          (lefts (λ x. Each P.own (origins_in x)) (λ x. Each L.own (leads_in x))
+          (lefts (λ x. Each P.own (origins_in x)) (λ x. Each (IsLed L) (leads_in x))
           (λ x. Each (Marked P) (marks_in x)) pairs parts)
       origins atom parts = tt
 
-      leads : (layer : Opened) → OpenedFrom P L layer → Each L.own (opened_leads layer)
+      leads : (layer : Opened) → OpenedFrom P L layer → Each (IsLed L) (opened_leads layer)
       leads (Array items) parts =
-          together_from L.own leads_of items
-          (middles (λ x. Each P.own (origins_of x)) (λ x. Each L.own (leads_of x))
+          leads_from leads_of items (IsLed L)
+          (middles (λ x. Each P.own (origins_of x)) (λ x. Each (IsLed L) (leads_of x))
           (λ x. Each (Marked P) (marks_of x)) items parts)
       leads (Object pairs) parts =
-          together_from L.own leads_in pairs
-          (middles (λ x. Each P.own (origins_in x)) (λ x. Each L.own (leads_in x))
+          leads_from leads_in pairs (IsLed L)
+          (middles (λ x. Each P.own (origins_in x)) (λ x. Each (IsLed L) (leads_in x))
           (λ x. Each (Marked P) (marks_in x)) pairs parts)
       leads atom parts = tt
 
       marks : (layer : Opened) → OpenedFrom P L layer → Each (Marked P) (opened_marks layer)
       marks (Array items) parts =
           marks_from marks_of items (Marked P)
-          (rights (λ x. Each P.own (origins_of x)) (λ x. Each L.own (leads_of x))
+          (rights (λ x. Each P.own (origins_of x)) (λ x. Each (IsLed L) (leads_of x))
           (λ x. Each (Marked P) (marks_of x)) items parts)
       marks (Object pairs) parts =
           marks_from marks_in pairs (Marked P)
-          (rights (λ x. Each P.own (origins_in x)) (λ x. Each L.own (leads_in x))
+          (rights (λ x. Each P.own (origins_in x)) (λ x. Each (IsLed L) (leads_in x))
           (λ x. Each (Marked P) (marks_in x)) pairs parts)
       marks atom parts = tt
 
@@ -328,13 +372,13 @@ module _ (P L : Asked) where
   unfolding NodeFrom ValueFrom
   node_parts node all =
       let own = subst (Each P.own) (node_origins node.origin node.value) all.0 in
-      let below = subst (Each L.own) (node_leads node.origin node.value) all.1.0 in
+      let below = subst (Each (IsLed L)) (node_leads node.origin node.value) all.1.0 in
       let told = subst (Each (Marked P)) (node_marks node.origin node.value) all.1.1 in (
         own.0,
         (
           own.1,
           (
-            each_back L.own (led_by node.origin (head_of node.value)) (leads_below node.value)
+            each_back (IsLed L) (led_by node.origin (head_of node.value)) (leads_below node.value)
                 below,
             each_back (Marked P) (said_at node.origin (atom_of node.value))
                 (marks_below node.value) told,
@@ -345,9 +389,9 @@ module _ (P L : Asked) where
   pub node_led : (node : MarkedNode) → NodeFrom P L node → Led L node.origin (head_of node.value)
   unfolding NodeFrom
   node_led node all =
-      listed_led L.own node.origin (head_of node.value)
-      (each_front L.own (led_by node.origin (head_of node.value)) (leads_below node.value)
-      (subst (Each L.own) (node_leads node.origin node.value) all.1.0))
+      listed_led L node.origin (head_of node.value)
+      (each_front (IsLed L) (led_by node.origin (head_of node.value)) (leads_below node.value)
+      (subst (Each (IsLed L)) (node_leads node.origin node.value) all.1.0))
 
   -- what a scalar says
   pub node_told : (node : MarkedNode) → NodeFrom P L node → Atom P node.origin (atom_of node.value)
@@ -362,12 +406,13 @@ module _ (P L : Asked) where
   unfolding NodeFrom PairFrom
   pair_parts pair all =
       let own = subst (Each P.own) (pair_origins pair.key pair.key_origin pair.item) all.0 in
-      let told = subst (Each (Marked P)) (pair_marks pair.key pair.key_origin pair.item) all.1.1 in (
+      let is = pair_marks pair.key pair.key_origin pair.item in
+      let told = subst (Each (Marked P)) is all.1.1 in (
         own.0,
         (
           own.1,
           (
-            subst (Each L.own) (pair_leads pair.key pair.key_origin pair.item) all.1.0,
+            subst (Each (IsLed L)) (pair_leads pair.key pair.key_origin pair.item) all.1.0,
             told.1,
           ),
         ),
@@ -384,20 +429,21 @@ module _ (P L : Asked) where
   unfolding NodeFrom ValueFrom PairFrom
   layer_parts layer all =
       by layer (subst (Each P.own) (layer_origins layer) all.0)
-      (subst (Each L.own) (layer_leads layer) all.1.0)
+      (subst (Each (IsLed L)) (layer_leads layer) all.1.0)
       (subst (Each (Marked P)) (layer_marks layer) all.1.1)
     where
-      by : (layer : Opened) → Each P.own (opened_origins layer) → Each L.own (opened_leads layer) →
+      by : (layer : Opened) → Each P.own (opened_origins layer) →
+          Each (IsLed L) (opened_leads layer) →
           Each (Marked P) (opened_marks layer) → OpenedFrom P L layer
       by (Array items) origins leads marks =
-          thrice (λ x. Each P.own (origins_of x)) (λ x. Each L.own (leads_of x))
+          thrice (λ x. Each P.own (origins_of x)) (λ x. Each (IsLed L) (leads_of x))
           (λ x. Each (Marked P) (marks_of x)) items
-          (apart_from P.own origins_of items origins) (apart_from L.own leads_of items leads)
+          (apart_from P.own origins_of items origins) (leads_apart leads_of items (IsLed L) leads)
           (marks_apart marks_of items (Marked P) marks)
       by (Object pairs) origins leads marks =
-          thrice (λ x. Each P.own (origins_in x)) (λ x. Each L.own (leads_in x))
+          thrice (λ x. Each P.own (origins_in x)) (λ x. Each (IsLed L) (leads_in x))
           (λ x. Each (Marked P) (marks_in x)) pairs
-          (apart_from P.own origins_in pairs origins) (apart_from L.own leads_in pairs leads)
+          (apart_from P.own origins_in pairs origins) (leads_apart leads_in pairs (IsLed L) leads)
           (marks_apart marks_in pairs (Marked P) marks)
       by atom origins leads marks = tt
 
@@ -406,35 +452,62 @@ module _ (P L : Asked) where
       layer_parts (out-Value one) (subst (ValueFrom P L) (sym (rolled one)) all)
 
   pub first_from : (pairs : List MarkedPair) → Each (PairFrom P L) pairs →
-      Has P.own (head_in pairs)
+      Has (HeadOwn P) (head_in pairs)
   first_from [] all = tt
   first_from (pair ∷ pairs) all = (node_parts pair.item (pair_parts pair all.0).1).0
 
-  head_within : (layer : Opened) → OpenedFrom P L layer → Has P.own (head_by layer)
+  head_within : (layer : Opened) → OpenedFrom P L layer → Has (HeadOwn P) (head_by layer)
   head_within (Object pairs) all = first_from pairs all
   head_within atom all = tt
 
   -- the first value of a mapping
-  pub head_from : (one : Value) → ValueFrom P L one → Has P.own (head_of one)
+  pub head_from : (one : Value) → ValueFrom P L one → Has (HeadOwn P) (head_of one)
   head_from one all = head_within (out-Value one) (value_parts one all)
 
 pub led_from :
-    (P L : Origin → Type 0) (origin : Origin) → ((path : Origin) → P path → L (lead origin path)) →
-    (head : Option Origin) → Has P head → Has (λ path. L (lead origin path)) head
-led_from P L origin leads None has = tt
-led_from P L origin leads (Some path) has = leads path has
+    (P L : Asked) (origin : Origin) →
+    ((path : Origin) → P.own path → L.own (lead origin path)) →
+    (head : Option Head) → Has (HeadOwn P) head → Has (Begun L origin) head → Led L origin head
+led_from P L origin leads None has begun = tt
+led_from P L origin leads (Some head) has begun = (leads head.path has, begun)
+
+-- what is asked of a call with another's words
+pub begun_implies :
+    (L M : Asked) (item at : Origin) (key : List ℕ) (path from : Origin) (atom : Option Value) →
+    ((one : Value) → Calling L item path one → Calling M at from one) →
+    Begun L item (record { key = key; path = path; atom = atom }) →
+    Begun M at (record { key = key; path = from; atom = atom })
+begun_implies L M item at key path from None calls begun is = tt
+begun_implies L M item at key path from (Some one) calls begun is = calls one (begun is)
+
+-- where nothing is asked
+pub nothing_led : (leads : Leads) → Each (IsLed Any) leads
+nothing_led =
+    each_of (IsLed Any) (λ one. (tt, λ is. nothing one.item one.head.path one.head.atom))
+  where
+    nothing : (item path : Origin) (atom : Option Value) → Has (Calling Any item path) atom
+    nothing item path None = tt
+    nothing item path (Some one) = λ files. tt
 
 -- ---- other predicates
 
 module _ (P Q L M : Asked) (origins : (origin : Origin) → P.own origin → Q.own origin)
     (leads : (origin : Origin) → L.own origin → M.own origin)
+    (calls : (item path : Origin) (one : Value) → Calling L item path one → Calling M item path one)
     (says : (origin : Origin) (said : Said) → Told P origin said → Told Q origin said) where
+  led_implies : (one : Lead) → IsLed L one → IsLed M one
+  led_implies one led = (
+    leads (lead one.item one.head.path) led.0,
+    begun_implies L M one.item one.item one.head.key one.head.path one.head.path one.head.atom
+        (calls one.item one.head.path) led.1,
+  )
+
   pub node_implies : (node : MarkedNode) → NodeFrom P L node → NodeFrom Q M node
   unfolding NodeFrom
   node_implies node all = (
     each_implies P.own Q.own origins _ all.0,
     (
-      each_implies L.own M.own leads _ all.1.0,
+      each_implies (IsLed L) (IsLed M) led_implies _ all.1.0,
       each_implies (Marked P) (Marked Q) (λ one. says one.origin one.said) _ all.1.1,
     ),
   )
@@ -444,7 +517,7 @@ module _ (P Q L M : Asked) (origins : (origin : Origin) → P.own origin → Q.o
   pair_implies pair all = (
     each_implies P.own Q.own origins _ all.0,
     (
-      each_implies L.own M.own leads _ all.1.0,
+      each_implies (IsLed L) (IsLed M) led_implies _ all.1.0,
       each_implies (Marked P) (Marked Q) (λ one. says one.origin one.said) _ all.1.1,
     ),
   )

@@ -1,6 +1,5 @@
 -- How a run stands, as JSON.
-use Rattle.std.specs.Prelude.{List, [], ◌∷◌, map, Some, codes}
-use Rattle.std.specs.List.{zip}
+use Rattle.std.specs.Prelude.{List, [], ◌∷◌, map, Some, None, codes}
 use Rattle.pl_facts.specs.declared.fact.QueuedRun.{QueuedRun}
 use Rattle.pl_json.specs.declared.json.Json.{Json}
 use Rattle.pl_json.specs.declared.json.Json.TheVariants as json
@@ -44,6 +43,19 @@ progress_members progress =
 
 -- ---- jobs, stages and runs
 
+-- each item beside what is told at its place, or beside a default where nothing is told any more
+abbrev pub beside : {X Y : Type 0} → Y → List X → List Y → List (X × Y)
+beside default [] told = []
+beside default (x ∷ items) [] = (x, default) ∷ beside default items []
+beside default (x ∷ items) (y ∷ told) = (x, y) ∷ beside default items told
+
+-- a job and a stage of which nothing is told weren't started
+abbrev pub unstarted_job : JobStatus
+unstarted_job = record { agent = None; progress = Waiting }
+
+abbrev pub unstarted_stage : StageStatus
+unstarted_stage = record { progress = Waiting; jobs = [] }
+
 -- a job by its label, and the agent that took it, if one did
 abbrev pub job_status : PlanJob × JobStatus → Json
 job_status told =
@@ -53,7 +65,8 @@ job_status told =
 
 abbrev pub stage_status : PlanStage × StageStatus → Json
 stage_status told =
-    object (member (codes "jobs") (json.Array (map job_status (zip told.0.jobs told.1.jobs)))
+    object (member (codes "jobs") (json.Array (map job_status (beside unstarted_job told.0.jobs
+    told.1.jobs)))
     ∷ text (codes "name") told.0.name
     ∷ progress_members told.1.progress)
 
@@ -65,5 +78,5 @@ run_object run status =
     ∷ text (codes "ref") run.compiled.sources.root.git_ref
     ∷ text (codes "requester") run.requester
     ∷ number (codes "run") run.run
-    ∷ member (codes "stages") (json.Array (map stage_status (zip run.compiled.plan.stages
-    status.stages))) ∷ [])
+    ∷ member (codes "stages") (json.Array (map stage_status (beside unstarted_stage
+    run.compiled.plan.stages status.stages))) ∷ [])

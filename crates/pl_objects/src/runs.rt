@@ -1,21 +1,23 @@
-ghost use Rattle.std.specs.Prelude.{◌≡◌, ◌++◌, map, IfOk, OnOk};
-ghost use Rattle.std.specs.List.{zip};
+ghost use Rattle.std.specs.Prelude.{◌≡◌, ◌++◌, get_or, map, IfOk, OnOk};
 ghost use Rattle.pl_json.specs.declared.json.Json.TheVariants as json;
-ghost use Rattle.pl_objects.specs.Runs.{job_status, progress_members, result_in, rule_in};
-ghost use Rattle.pl_objects.specs.Runs.{run_object, stage_status, state_of};
+ghost use Rattle.pl_objects.specs.Runs.{beside, job_status, progress_members, result_in, rule_in};
+ghost use Rattle.pl_objects.specs.Runs.{run_object, stage_status, state_of, unstarted_job};
+ghost use Rattle.pl_objects.specs.Runs.{unstarted_stage};
+ghost use Rattle.pl_refusals.specs.Rows.{text_or_null};
 
 use crate::status::{JobStatus, Progress, RunStatus, StageStatus};
-use pl_base::{List, Memory};
+use pl_base::{ExactCopy, List, Memory, Shared, Text};
 use pl_facts::QueuedRun;
 use pl_json::{Json, Member};
 use pl_plan::{PlanJob, PlanStage, label_of};
-use pl_refusals::{number, outcome_name, push, rule_object, state_name, text, text_or_null, word};
+use pl_refusals::{number, outcome_name, push, rule_object, state_name, text, word};
 use pl_rules::State;
 use std::alloc::Global;
 
 /// How a run stands: whether it was canceled, its pipeline, the ref under which its root file was
-/// read, who queued it, its number, and its stages in order, each with its jobs. Memory where
-/// memory is wanting.
+/// read, who queued it, its number, and its stages in order, each with its jobs. A stage or a job
+/// of the plan of which the status tells nothing wasn't started; what it tells behind the last one
+/// isn't shown. Memory where memory is wanting.
 pub fn run_object(alloc: Global, run: &QueuedRun, status: &RunStatus) -> Result<Json, Memory>
     ensures { IfOk result (λ made. made ≡ run_object run.now status.now) }
 {
@@ -30,6 +32,16 @@ pub fn run_object(alloc: Global, run: &QueuedRun, status: &RunStatus) -> Result<
     Json::object(alloc, members)
 }
 
+/// What is told at a place, or else the default.
+fn told_at<'a, T>(told: &'a List<T>, at: usize, default: &'a T) -> &'a T
+    ensures { result.now ≡ get_or told.now at default.now }
+{
+    match told.get(at) {
+        Some(one) => one,
+        None => default,
+    }
+}
+
 /// Stages, each with how it stands.
 fn stages_array(
     alloc: Global,
@@ -37,16 +49,15 @@ fn stages_array(
     statuses: &List<StageStatus>,
 ) -> Result<Json, Memory>
     ensures { IfOk result (λ made. made ≡ json.Array (map stage_status
-        (zip stages.now statuses.now))) }
+        (beside unstarted_stage stages.now statuses.now))) }
 {
+    let unstarted = StageStatus {
+        progress: Progress::Waiting,
+        jobs: List::new(alloc),
+    };
     let mut items = List::new(alloc);
-    for at in 0..stages.len() {
-        let Some(stage) = stages.get(at) else {
-            return Ok(Json::Array(items));
-        };
-        let Some(status) = statuses.get(at) else {
-            return Ok(Json::Array(items));
-        };
+    for (at, stage) in stages.as_slice().iter().enumerate() {
+        let status = told_at(statuses, at, &unstarted);
         items.push(stage_status(alloc, stage, status)?)?;
     }
     Ok(Json::Array(items))
@@ -70,26 +81,41 @@ fn jobs_array(
     statuses: &List<JobStatus>,
 ) -> Result<Json, Memory>
     ensures { IfOk result (λ made. made ≡ json.Array (map job_status
-        (zip jobs.now statuses.now))) }
+        (beside unstarted_job jobs.now statuses.now))) }
 {
+    let unstarted = JobStatus {
+        agent: None,
+        progress: Progress::Waiting,
+    };
     let mut items = List::new(alloc);
-    for at in 0..jobs.len() {
-        let Some(job) = jobs.get(at) else {
-            return Ok(Json::Array(items));
-        };
-        let Some(status) = statuses.get(at) else {
-            return Ok(Json::Array(items));
-        };
+    for (at, job) in jobs.as_slice().iter().enumerate() {
+        let status = told_at(statuses, at, &unstarted);
         items.push(job_status(alloc, job, status)?)?;
     }
     Ok(Json::Array(items))
+}
+
+/// The agent that took a job, else null.
+fn agent_in(alloc: Global, agent: &Option<Shared<Text>>) -> Result<Json, Memory>
+    ensures { IfOk result (λ made. made ≡ text_or_null agent.now) }
+{
+    match agent {
+        Some(agent) => text_json(alloc, agent),
+        None => Ok(Json::Null),
+    }
+}
+
+fn text_json(alloc: Global, told: &Text) -> Result<Json, Memory>
+    ensures { IfOk result (λ made. made ≡ json.Text told.now) }
+{
+    Ok(Json::Text(told.copy(alloc)?))
 }
 
 fn job_status(alloc: Global, job: &PlanJob, status: &JobStatus) -> Result<Json, Memory>
     ensures { IfOk result (λ made. made ≡ job_status (job.now, status.now)) }
 {
     let mut members = List::new(alloc);
-    let agent = text_or_null(alloc, &status.agent)?;
+    let agent = agent_in(alloc, &status.agent)?;
     push(alloc, &mut members, "agent", agent)?;
     let label = Json::Text(label_of(alloc, job)?);
     push(alloc, &mut members, "job", label)?;

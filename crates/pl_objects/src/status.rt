@@ -18,7 +18,7 @@ pub struct StageStatus {
 /// How a job stands: the agent that took it, if one did, and how far it has come.
 #[derive(Debug, Drop)]
 pub struct JobStatus {
-    pub agent: Option<Text>,
+    pub agent: Option<Shared<Text>>,
     pub progress: Progress,
 }
 

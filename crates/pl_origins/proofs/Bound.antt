@@ -13,7 +13,7 @@ use Rattle.pl_base.specs.declared.node.Node.{Node}
 use Rattle.pl_base.specs.declared.node.NodeBody.{NodeBody, out-NodeBody, roll-NodeBody, the_lemmas}
 use Rattle.pl_base.specs.declared.node.NodePair.{NodePair}
 use Rattle.pl_base.specs.declared.node.NodeBody.TheOpen.{Scalar, Seq, Map}
-use Rattle.pl_base.specs.declared.value.Value.{Value, out-Value}
+use Rattle.pl_base.specs.declared.value.Value.{Value, out-Value, the_lemmas as the_values}
 use Rattle.pl_base.specs.declared.value.Value as value
 use Rattle.pl_base.specs.declared.value.Value.TheOpen as layer
 use Rattle.pl_base.specs.declared.value.MarkedNode.{MarkedNode}
@@ -43,34 +43,43 @@ use Rattle.pl_params.specs.Declaring.{declares_from, declares}
 use Rattle.pl_params.specs.Judging.{allows, judged_read, judged}
 use Rattle.pl_params.specs.Kinds.{number_from, boolean_from, is_item, items_from, value_as}
 use Rattle.pl_params.specs.Kinds.{with_value, read_as}
-use Rattle.pl_params.specs.Nodes.{under}
+use Rattle.pl_params.specs.Nodes.{under, text_in}
 use Rattle.pl_params.specs.Steps.{in_turn}
 use Rattle.pl_reading.specs.Steps.{◌>>=◌}
 use Rattle.pl_calls.specs.Parameters.{parameter_told, declared_by, bound_to}
 use Rattle.pl_calls.specs.Parts.{Body}
-use Rattle.pl_eval_laws.proofs.Leads.{Opened}
+use Rattle.pl_eval_laws.proofs.Leads.{Opened, head_at, head_in, head_of, array_head, object_head}
+use Rattle.pl_eval_laws.proofs.Leads.{atom_by, atom_of}
 use Rattle.pl_eval_laws.specs.Marks.{Said, key as key_said, scalar, IsOfFiles}
-use Rattle.pl_eval_laws.proofs.Marks.{atom_by, atom_of, atom_value, text_atom, str_atom}
+use Rattle.pl_eval_laws.proofs.Marks.{atom_value, text_atom, str_atom}
 use Rattle.pl_eval_laws.proofs.Marks.{array_atom, object_atom}
 use Rattle.pl_eval_laws.proofs.Lists.{Has, has_map, each_append, each_found}
-use Rattle.pl_eval_laws.proofs.Trees.{Asked, Told, Atom, only, node_told}
+use Rattle.pl_eval_laws.proofs.Trees.{Asked, Told, Atom, Calling, Begun, only, node_told}
 use Rattle.pl_eval_laws.proofs.Trees.{NodeFrom, ValueFrom, PairFrom, OpenedFrom, node_from}
 use Rattle.pl_eval_laws.proofs.Trees.{pair_from, array_from, object_from, text_from, text_node}
 use Rattle.pl_eval_laws.proofs.Trees.{number_node, truth_node, array_node, node_parts, value_parts}
 use Rattle.pl_eval_laws.proofs.Trees.{head_from, led_from, node_implies}
-use Rattle.pl_origins.proofs.Frames.{Seen, SeenFrom, Reads, ParameterFrom, none_told}
+use Rattle.pl_origins.proofs.Frames.{Seen, SeenFrom, Reads, ParameterFrom, none_told, none_calling}
 use Rattle.pl_origins.proofs.Induction.{BodyParts, written_induction}
 use Rattle.pl_origins.proofs.Moved.{moved_from}
 use Rattle.pl_origins.proofs.Nodes.{Site, NodeIn, PairIn, BodyIn, node_in, pair_in, said_in}
-use Rattle.pl_origins.proofs.Nodes.{node_says, pair_says}
+use Rattle.pl_origins.proofs.Nodes.{node_says, pair_says, Stood, beginning_of, firsts_of}
 
 -- ---- what is written in a file, as a value
+
+-- an item as it is written: a mapping that begins with `template`
+abbrev WrittenAs : Site → Place → Place → Value → Type 0
+WrittenAs R at from one =
+    (text : List ℕ)
+    × ((one ≡ value.Str text)
+    × R.begins at (record { key = codes "template"; place = from; text = text }))
 
 -- what stands in a file behind such borders, and what is said there
 abbrev pub Stands : Site → List Crossing → Asked
 Stands R crossings = record {
   own = λ origin. R.at origin.source × (origin.crossings ≡ crossings);
   says = R.says;
+  calls = WrittenAs R;
 }
 
 module _ (R : Site) (crossings : List Crossing) where
@@ -124,7 +133,7 @@ module _ (R : Site) (crossings : List Crossing) where
 
   -- a scalar says its text
   layer_atom :
-      (place : Place) (layer : Body) → Each (R.says place) (said_in layer) →
+      (place : Place) (layer : Body) → Each (Stood R place) (said_in layer) →
       Atom S (origin_at crossings place) (atom_of (literal_body crossings (roll-NodeBody layer)))
   layer_atom place (Scalar text) says =
       let is : value.Str text ≡ literal_body crossings (roll-NodeBody (Scalar text)) =
@@ -147,12 +156,126 @@ module _ (R : Site) (crossings : List Crossing) where
       (subst (Atom S (origin_at crossings place)) (sym (object_atom _)) tt)
 
   body_atom :
-      (place : Place) (one : NodeBody) → Each (R.says place) (said_in (out-NodeBody one)) →
+      (place : Place) (one : NodeBody) → Each (Stood R place) (said_in (out-NodeBody one)) →
       Atom S (origin_at crossings place) (atom_of (literal_body crossings one))
   body_atom place one says =
       subst (λ (body : NodeBody). Atom S (origin_at crossings place)
       (atom_of (literal_body crossings body))) (rolled_body one)
       (layer_atom place (out-NodeBody one) says)
+
+  text_head : (text : List ℕ) → head_of (value.Str text) ≡ None
+  text_head text = search (rules, the_values)
+
+  -- a mapping begins as it is written
+  value_atom : (one : NodeBody) →
+      Has (λ atom. atom ≡ value.Str (text_in (out-NodeBody one)))
+      (atom_of (literal_body crossings one))
+  value_atom one =
+      subst (λ (body : NodeBody). Has (λ atom. atom ≡ value.Str (text_in (out-NodeBody body)))
+      (atom_of (literal_body crossings body))) (rolled_body one) (by (out-NodeBody one))
+    where
+      at : (layer : Body) (found : Option Value) →
+          atom_of (literal_body crossings (roll-NodeBody layer)) ≡ found →
+          Has (λ atom. atom ≡ value.Str (text_in layer)) found →
+          Has (λ atom. atom ≡ value.Str (text_in (out-NodeBody (roll-NodeBody layer))))
+          (atom_of (literal_body crossings (roll-NodeBody layer)))
+      at layer found is has =
+          subst (λ (body : Body). Has (λ atom. atom ≡ value.Str (text_in body))
+          (atom_of (literal_body crossings (roll-NodeBody layer)))) (sym (opened_is layer))
+          (subst (Has (λ atom. atom ≡ value.Str (text_in layer))) (sym is) has)
+
+      by : (layer : Body) →
+          Has (λ atom. atom ≡ value.Str (text_in (out-NodeBody (roll-NodeBody layer))))
+          (atom_of (literal_body crossings (roll-NodeBody layer)))
+      by (Scalar text) =
+          let is : literal_body crossings (roll-NodeBody (Scalar text)) ≡ value.Str text =
+          search (rules, the_lemmas) in
+          at (Scalar text) (Some (value.Str text)) (ap atom_of is ∙ str_atom text) refl
+      by (Seq items) =
+          let is : literal_body crossings (roll-NodeBody (Seq items))
+          ≡ value.Array (map (literal crossings) items) = search (rules, the_lemmas) in
+          at (Seq items) None (ap atom_of is ∙ array_atom _) tt
+      by (Map pairs) =
+          let is : literal_body crossings (roll-NodeBody (Map pairs))
+          ≡ value.Object (map (literal_pair crossings) pairs) = search (rules, the_lemmas) in
+          at (Map pairs) None (ap atom_of is ∙ object_atom _) tt
+
+  head_is : (pair : NodePair) →
+      head_at (literal_pair crossings pair) ≡ record {
+        key = pair.key;
+        path = origin_at crossings pair.item.place;
+        atom = atom_of (literal_body crossings pair.item.body);
+      }
+  head_is pair = by pair.key pair.key_place pair.item.place pair.item.body
+    where
+      by : (key : List ℕ) (key_place place : Place) (body : NodeBody) →
+          head_at (literal_pair crossings (record {
+            key = key;
+            key_place = key_place;
+            item = record { place = place; body = body };
+          })) ≡ record {
+            key = key;
+            path = origin_at crossings place;
+            atom = atom_of (literal_body crossings body);
+          }
+      by key key_place place body = search (rules, the_lemmas)
+
+  pair_begun : (place : Place) (pair : NodePair) → R.begins place (beginning_of pair) →
+      Begun S (origin_at crossings place) (head_at (literal_pair crossings pair))
+  pair_begun place pair stands =
+      subst (Begun S (origin_at crossings place)) (sym (head_is pair))
+      (λ is. by (atom_of (literal_body crossings pair.item.body)) (value_atom pair.item.body)
+      (subst (λ (key : List ℕ). R.begins place (record {
+        key = key;
+        place = pair.item.place;
+        text = text_in (out-NodeBody pair.item.body);
+      })) is stands))
+    where
+      by : (atom : Option Value) →
+          Has (λ atom. atom ≡ value.Str (text_in (out-NodeBody pair.item.body))) atom →
+          R.begins place (record {
+            key = codes "template";
+            place = pair.item.place;
+            text = text_in (out-NodeBody pair.item.body);
+          }) →
+          Has (Calling S (origin_at crossings place) (origin_at crossings pair.item.place)) atom
+      by None is stands = tt
+      by (Some one) is stands =
+          λ files. (text_in (out-NodeBody pair.item.body), (is, stands))
+
+  layer_begun :
+      (place : Place) (layer : Body) → Each (Stood R place) (said_in layer) →
+      Has (Begun S (origin_at crossings place))
+      (head_of (literal_body crossings (roll-NodeBody layer)))
+  layer_begun place (Scalar text) says =
+      let is : value.Str text ≡ literal_body crossings (roll-NodeBody (Scalar text)) =
+      search (rules, the_lemmas) in
+      subst (λ (one : Value). Has (Begun S (origin_at crossings place)) (head_of one)) is
+      (subst (Has (Begun S (origin_at crossings place))) (sym (text_head text)) tt)
+  layer_begun place (Seq items) says =
+      let is : value.Array (map (literal crossings) items)
+      ≡ literal_body crossings (roll-NodeBody (Seq items)) = search (rules, the_lemmas) in
+      subst (λ (one : Value). Has (Begun S (origin_at crossings place)) (head_of one)) is
+      (subst (Has (Begun S (origin_at crossings place))) (sym (array_head _)) tt)
+  layer_begun place (Map pairs) says =
+      let is : value.Object (map (literal_pair crossings) pairs)
+      ≡ literal_body crossings (roll-NodeBody (Map pairs)) = search (rules, the_lemmas) in
+      subst (λ (one : Value). Has (Begun S (origin_at crossings place)) (head_of one)) is
+      (subst (Has (Begun S (origin_at crossings place)))
+      (sym (object_head (map (literal_pair crossings) pairs))) (first pairs says.1))
+    where
+      first : (pairs : List NodePair) → Each (Stood R place) (firsts_of pairs) →
+          Has (Begun S (origin_at crossings place)) (head_in (map (literal_pair crossings) pairs))
+      first [] says = tt
+      first (pair ∷ pairs) says = pair_begun place pair says.0
+
+  body_begun :
+      (place : Place) (one : NodeBody) → Each (Stood R place) (said_in (out-NodeBody one)) →
+      Has (Begun S (origin_at crossings place)) (head_of (literal_body crossings one))
+  body_begun place one says =
+      subst (λ (body : NodeBody). Has (Begun S (origin_at crossings place))
+      (head_of (literal_body crossings body))) (rolled_body one)
+      (layer_begun place (out-NodeBody one) says)
 
   of_layer :
       (layer : Body) → BodyParts NodeClaim PairClaim layer → BodyClaim (roll-NodeBody layer)
@@ -172,8 +295,8 @@ module _ (R : Site) (crossings : List Crossing) where
       subst (NodeFrom S S) is
       (node_from S S (origin_at crossings place) _ (parts.0, refl)
       (body_atom place one (node_says R node within)) (claim parts.1)
-      (led_from S.own S.own (origin_at crossings place) (λ path stands. (parts.0, stands.1)) _
-      (head_from S S _ (claim parts.1))))
+      (led_from S S (origin_at crossings place) (λ path stands. (parts.0, stands.1)) _
+      (head_from S S _ (claim parts.1)) (body_begun place one (node_says R node within))))
 
   of_pair :
       (key : List ℕ) (key_place : Place) (item : Node) → NodeClaim item →
@@ -200,6 +323,7 @@ module _ (R : Site) (crossings : List Crossing) where
 
 module _ (P L Q M : Asked) (owns : (origin : Origin) → P.own origin → Q.own origin)
     (leads : (origin : Origin) → L.own origin → M.own origin)
+    (calls : (item path : Origin) (one : Value) → Calling L item path one → Calling M item path one)
     (tells : (origin : Origin) (said : Said) → Told P origin said → Told Q origin said)
     (reads : (of : ParamKind) (origin : Origin) (before after : Value) →
     Told P origin (scalar before) → value_as of before ≡ Some after →
@@ -209,7 +333,7 @@ module _ (P L Q M : Asked) (owns : (origin : Origin) → P.own origin → Q.own 
 
   -- from before on
   kept : (node : MarkedNode) → NodeFrom P L node → NodeFrom Q M node
-  kept = node_implies P Q L M owns leads tells
+  kept = node_implies P Q L M owns leads calls tells
 
   module _ (origin : Origin) (own : Q.own origin) where
     abbrev Whole : Value → Type 0
@@ -387,7 +511,7 @@ module _ (R : Site) where
 
   item_in_file :
       (before : List Param) (node : Node) (body : Body) → R.at node.place →
-      Each (R.says node.place) (said_in body) → BodyIn R body →
+      Each (Stood R node.place) (said_in body) → BodyIn R body →
       IfOk (item_from before node body) ParamIn
   item_in_file before node (Scalar text) stands says below = tt
   item_in_file before node (Seq items) stands says below = tt
@@ -423,7 +547,17 @@ abbrev InFile : Site → Asked → Asked
 InFile R Q = record {
   own = λ origin. R.at origin.source × (origin.crossings ≡ []);
   says = Q.says;
+  calls = Q.calls;
 }
+
+-- an item of a default, as it is written
+written_calls :
+    (R : Site) (Q : Asked) → Reads R Q → (item path : Origin) (one : Value) →
+    Calling (Stands R []) item path one → Calling (InFile R Q) item path one
+written_calls R Q reads item path one calls files =
+    let is = calls files in
+    subst (Q.calls item.source path.source) (sym is.1.0)
+    (reads.calls item.source path.source is.0 is.1.1)
 
 -- G and M are asked of what is given, and Q of the frame that it is bound in
 module _ (G M Q : Asked) (R : Site) (reads : Reads R Q)
@@ -444,7 +578,7 @@ module _ (G M Q : Asked) (R : Site) (reads : Reads R Q)
   default_by :
       (param : Param) (node : Node) (judgement : Judged) →
       JudgedFrom (Stands R []) (Stands R []) (InFile R Q) (InFile R Q)
-      (λ origin stands. stands) (λ origin stands. stands)
+      (λ origin stands. stands) (λ origin stands. stands) (written_calls R Q reads)
       (λ origin said told files. reads.says origin.source said (told files))
       (λ of origin before after told is files.
       reads.default origin.source of before after (told files) is) judgement →
@@ -460,7 +594,7 @@ module _ (G M Q : Asked) (R : Site) (reads : Reads R Q)
   default_from param (Some node) within =
       default_by param node (judged param.kind param.values (literal [] node))
       (judged_from (Stands R []) (Stands R []) (InFile R Q) (InFile R Q)
-      (λ origin stands. stands) (λ origin stands. stands)
+      (λ origin stands. stands) (λ origin stands. stands) (written_calls R Q reads)
       (λ origin said told files. reads.says origin.source said (told files))
       (λ of origin before after told is files.
       reads.default origin.source of before after (told files) is)
@@ -468,8 +602,8 @@ module _ (G M Q : Asked) (R : Site) (reads : Reads R Q)
 
   given_by :
       (param : Param) (given : Given) (judgement : Judged) →
-      JudgedFrom G M G M (λ origin own. own) (λ origin own. own) (λ origin said told. told) taken
-      judgement →
+      JudgedFrom G M G M (λ origin own. own) (λ origin own. own)
+      (λ item path one calls. calls) (λ origin said told. told) taken judgement →
       IfOk (given_judged param given judgement) BoundFrom
   given_by param given (Fits one) all = all
   given_by param given NotOfType all = tt
@@ -481,7 +615,8 @@ module _ (G M Q : Asked) (R : Site) (reads : Reads R Q)
   bound_by param None within all = default_from param param.default within.1
   bound_by param (Some given) within all =
       given_by param given (judged param.kind param.values given.value)
-      (judged_from G M G M (λ origin own. own) (λ origin own. own) (λ origin said told. told) taken
+      (judged_from G M G M (λ origin own. own) (λ origin own. own)
+      (λ item path one calls. calls) (λ origin said told. told) taken
       param.kind param.values given.value all)
 
   param_bound :
@@ -655,12 +790,16 @@ module _ (Q : Asked) (R : Site) (reads : Reads R Q) (crossings : List Crossing)
       moved_from (GivenIn Q R reads) (Seen Q R) (CallIn Q R reads) Q (across (Argument name at))
       (λ origin takes. takes name at stands) (λ origin takes. takes name at stands)
       (λ item path. refl)
+      (λ item path one own calls. none_calling Q (across (Argument name at) item) path
+      path.crossings (Argument name at) one (λ none. none))
       (λ origin said own told. none_told Q origin.crossings (Argument name at) origin.source said
       (λ none. none)) one all
   parameter_by false name place one all at stands =
       moved_from (InFile R Q) (Seen Q R) (InFile R Q) Q
       (crossed crossings) (λ origin within. (literal_is origin.source within.0, literal_is))
       (λ origin within. literal_is origin.source within.0) (λ item path. refl)
+      (λ item path one within calls files.
+      calls (subst (λ (crossings : List Crossing). Each IsOfFiles crossings) (sym within.1) tt))
       (λ origin said within told files.
       told (subst (λ (crossings : List Crossing). Each IsOfFiles crossings) (sym within.1) tt))
       one all

@@ -1,5 +1,5 @@
 -- What calls of templates give.
-use Rattle.std.proofs.Common.{◌≡◌, ℕ, zero, suc, subst, Option, Some, None, Result, List, []}
+use Rattle.std.proofs.Common.{◌≡◌, ℕ, zero, suc, ap, subst, Option, Some, None, Result, List, []}
 use Rattle.std.proofs.Common.{◌∷◌, ◌++◌, map, refl, Bool, true, false, cond}
 use Rattle.std.specs.Prelude.{IfOk, codes}
 use Rattle.std.specs.List.{AllByRecursion as Each}
@@ -42,22 +42,22 @@ use Rattle.pl_recursion.specs.Expanding.{expanded}
 use Rattle.pl_recursion.specs.Following.{Follow, scope_of}
 use Rattle.pl_recursion.specs.Levels.{variable_item, items_of, items_from, frame_for, deeper}
 use Rattle.pl_recursion.specs.Levels.{call_by, followed}
-use Rattle.pl_eval_laws.proofs.Leads.{Opened, head_by}
+use Rattle.pl_eval_laws.proofs.Leads.{Opened, Head, head_by, atom_by, atom_of}
 use Rattle.pl_eval_laws.specs.Marks.{scalar}
-use Rattle.pl_eval_laws.proofs.Marks.{atom_by, atom_of, atom_value}
+use Rattle.pl_eval_laws.proofs.Marks.{atom_value}
 use Rattle.pl_eval_laws.proofs.Lists.{Has, each_map}
-use Rattle.pl_eval_laws.proofs.Trees.{Asked, Told, Atom, node_told, pair_told}
+use Rattle.pl_eval_laws.proofs.Trees.{Asked, Told, Atom, Calling, node_told, pair_told}
 use Rattle.pl_eval_laws.proofs.Trees.{NodeFrom, PairFrom, OpenedFrom, Led, pair_from, text_node}
 use Rattle.pl_eval_laws.proofs.Trees.{object_node, node_parts, node_led, pair_parts, value_parts}
 use Rattle.pl_origins.proofs.Bound.{ParamIn, AreBound, Takeable, declared_in, bound_to_from}
 use Rattle.pl_origins.proofs.Bound.{parameters_from}
 use Rattle.pl_origins.proofs.Expanded.{expanded_gives}
-use Rattle.pl_origins.proofs.Following.{FollowedFrom, FollowFrom}
+use Rattle.pl_origins.proofs.Following.{FollowedFrom, FollowFrom, IsTemplate}
 use Rattle.pl_origins.proofs.Frames.{Seen, Keeps, Reads, FrameFrom, ParameterFrom}
 use Rattle.pl_origins.proofs.Moved.{moved_from}
 use Rattle.pl_origins.proofs.Nodes.{Site, NodeIn, PairIn, BodyIn, node_in, under_in}
 use Rattle.pl_origins.proofs.Scalars.{OneFrom}
-use Rattle.pl_origins.proofs.Steps.{Gives, ok_then, any_then, plain_then, static_then, first_then}
+use Rattle.pl_origins.proofs.Steps.{Gives, ok_then, plain_then, static_then, first_then}
 use Rattle.pl_origins.proofs.Steps.{used_then, used_static_then, alone_gives, given}
 
 -- ---- the frame behind a border
@@ -83,7 +83,8 @@ module _ (P Q : Asked) (R : Site) (reads : Reads R Q) (crossing : Crossing)
   each_given (pair ∷ arguments) all = (
     moved_from P G P M (across crossing) argument_is
         (λ origin is name place stands. (argument_is origin is name place stands).0)
-        (λ item path. refl) (λ origin said own told files. tt) pair.item
+        (λ item path. refl) (λ item path one own calls files. tt)
+        (λ origin said own told files. tt) pair.item
         (pair_parts P P pair all.0).1,
     each_given arguments all.1,
   )
@@ -152,12 +153,18 @@ module _ (R : Site) where
 
 -- ---- the item of a call
 
+-- what is asked of a call whose path that text is
+abbrev pub CallsBy : Asked → Origin → Origin → List ℕ → Type 0
+CallsBy P item path text = (one : Value) × ((cast_text one ≡ text) × Calling P item path one)
+
 -- A path's text is said where it comes from, which is behind the borders that the call tells.
 abbrev pub PathFrom : Asked → Called → Type 0
 PathFrom P call =
     (place : Place)
     × (P.own (record { source = place; crossings = call.crossings })
-    × Told P (record { source = place; crossings = call.crossings }) (scalar (Str call.path)))
+    × (Told P (record { source = place; crossings = call.crossings }) (scalar (Str call.path))
+    × CallsBy P (record { source = call.at; crossings = call.crossings })
+    (record { source = place; crossings = call.crossings }) call.path))
 
 module _ (P : Asked) where
   abbrev pub CallFrom : Called → Type 0
@@ -200,59 +207,69 @@ module _ (P : Asked) where
       keeps.text path.origin.source (cast_text path.value)
       (keeps.cast path.origin.source path.value (told files))
 
-  own_atom :
-      (path : MarkedNode) (atom : Option Value) → Has (λ atom. atom ≡ path.value) atom →
-      Atom P path.origin atom → Has (λ atom. Told P path.origin (scalar path.value)) atom
-  own_atom path None is told = tt
-  own_atom path (Some atom) is told =
-      subst (λ (one : Value). Told P path.origin (scalar one)) is told
+  -- what is known of an item's path
+  abbrev PathIs : Origin → MarkedNode → List ℕ → Type 0
+  PathIs item path text =
+      Told P path.origin (scalar (Str text)) × CallsBy P item path.origin text
 
   -- the text that an atom is cast to is said too
+  own_atom :
+      (keeps : Keeps P.says) (item : Origin) (path : MarkedNode) (atom : Option Value) →
+      Has (λ atom. atom ≡ path.value) atom → Atom P path.origin atom →
+      Has (Calling P item path.origin) atom →
+      Has (λ atom. PathIs item path (cast_text path.value)) atom
+  own_atom keeps item path None is told calls = tt
+  own_atom keeps item path (Some atom) is told calls = (
+    cast_again keeps path (subst (λ (one : Value). Told P path.origin (scalar one)) is told),
+    (atom, (ap cast_text is, calls)),
+  )
+
   path_told :
-      (keeps : Keeps P.says) (opened : Opened) (path : MarkedNode) → P.own path.origin →
-      Has (λ atom. Told P path.origin (scalar path.value)) (atom_by opened) →
-      IfOk (text_from opened path)
-      (λ text. Told P path.origin (scalar (Str text)))
-  path_told keeps (layer.Array items) path own told = tt
-  path_told keeps (layer.Object pairs) path own told = tt
-  path_told keeps layer.Null path own told = cast_again keeps path told
-  path_told keeps (layer.Bool truth) path own told = cast_again keeps path told
-  path_told keeps (layer.Number number) path own told = cast_again keeps path told
-  path_told keeps (layer.Version segments) path own told = cast_again keeps path told
-  path_told keeps (layer.Str text) path own told = cast_again keeps path told
+      (opened : Opened) (path : MarkedNode) (Q : List ℕ → Type 0) →
+      Has (λ atom. Q (cast_text path.value)) (atom_by opened) → IfOk (text_from opened path) Q
+  path_told (layer.Array items) path Q known = tt
+  path_told (layer.Object pairs) path Q known = tt
+  path_told layer.Null path Q known = known
+  path_told (layer.Bool truth) path Q known = known
+  path_told (layer.Number number) path Q known = known
+  path_told (layer.Version segments) path Q known = known
+  path_told (layer.Str text) path Q known = known
 
   path_from :
-      (keeps : Keeps P.says) (path : MarkedNode) → NodeFrom P P path →
-      IfOk (path_text path) (λ text. Told P path.origin (scalar (Str text)))
-  path_from keeps path all =
-      path_told keeps (out-Value path.value) path (node_parts P P path all).0
-      (own_atom path (atom_of path.value) (atom_value path.value) (node_told P P path all))
+      (keeps : Keeps P.says) (item : Origin) (path : MarkedNode) → NodeFrom P P path →
+      Has (Calling P item path.origin) (atom_of path.value) →
+      IfOk (path_text path) (PathIs item path)
+  path_from keeps item path all calls =
+      path_told (out-Value path.value) path (PathIs item path)
+      (own_atom keeps item path (atom_of path.value) (atom_value path.value)
+      (node_told P P path all) calls)
 
   call_inside :
       (keeps : Keeps P.says) (opened : Opened) (own : Origin) → Led P own (head_by opened) →
+      Has (λ (head : Head). head.key ≡ codes "template") (head_by opened) →
       OpenedFrom P P opened → IfOk (call_from opened own.source) CallFrom
-  call_inside keeps (layer.Object []) own led all = tt
-  call_inside keeps (layer.Object (pair ∷ pairs)) own led all =
+  call_inside keeps (layer.Object []) own led template all = tt
+  call_inside keeps (layer.Object (pair ∷ pairs)) own led template all =
       let path = (pair_parts P P pair all.0).1 in
-      ok_then (λ text. Told P pair.item.origin (scalar (Str text))) CallFrom
-      (path_text pair.item) _ (path_from keeps pair.item path)
+      ok_then (PathIs own pair.item) CallFrom
+      (path_text pair.item) _ (path_from keeps own pair.item path (led.1 template))
       (λ text told. ok_then (Each (PairFrom P P)) CallFrom (arguments_behind [] pairs) _
       (arguments_inside [] pairs tt all.1)
       (λ arguments are. (
-        led,
+        led.0,
         ((pair.item.origin.source, ((node_parts P P pair.item path).0, told)), are),
       )))
-  call_inside keeps (layer.Array items) own led all = tt
-  call_inside keeps layer.Null own led all = tt
-  call_inside keeps (layer.Bool truth) own led all = tt
-  call_inside keeps (layer.Number number) own led all = tt
-  call_inside keeps (layer.Version segments) own led all = tt
-  call_inside keeps (layer.Str text) own led all = tt
+  call_inside keeps (layer.Array items) own led template all = tt
+  call_inside keeps layer.Null own led template all = tt
+  call_inside keeps (layer.Bool truth) own led template all = tt
+  call_inside keeps (layer.Number number) own led template all = tt
+  call_inside keeps (layer.Version segments) own led template all = tt
+  call_inside keeps (layer.Str text) own led template all = tt
 
-  pub call_of_from : Keeps P.says → (item : MarkedNode) → NodeFrom P P item →
+  pub call_of_from : Keeps P.says → (item : MarkedNode) → NodeFrom P P item → IsTemplate item →
       IfOk (call_of item) CallFrom
-  call_of_from keeps item all =
-      call_inside keeps (out-Value item.value) item.origin (node_led P P item all)
+  call_of_from keeps item all template =
+      call_inside keeps (out-Value item.value) item.origin (node_led P P item all) template
       (value_parts P P item.value (node_parts P P item all).1)
 
   -- ---- what a call gives in its item's place
@@ -273,7 +290,7 @@ module _ (P : Asked) where
               (λ files. keeps.value at pair.key (told files)) parts.1,
           tt,
         ),
-      ) parts.0
+      ) (parts.0, λ is. absurd (cc))
 
   pub variables_from :
       Keeps P.says → (pairs : List MarkedPair) → Each (PairFrom P P) pairs →
@@ -372,9 +389,10 @@ module _ (P : Asked) (R : FileKey → Site) (K : Place → List ℕ → FileKey 
       (next : Option Follow) → Has (FollowFrom P U) next →
       FollowFrom P U (call_by next opens)
   call_gives next follows frame form item count used =
-      let H : Type 0 = NodeFrom P P item in
+      let H : Type 0 = NodeFrom P P item × IsTemplate item in
       let S = FollowedFrom P in
-      first_then U (CallFrom P) S H used (call_of item) _ (call_of_from P borders.keeps item)
+      first_then U (CallFrom P) S H used (call_of item) _
+      (λ h. call_of_from P borders.keeps item h.0 h.1)
       (λ call. static_then U (FollowFrom P U) S (H × CallFrom P call) used (deeper next call.at) _
       (deeper_from next call.at follows)
       (λ follow goes. used_static_then U (FileIn R)

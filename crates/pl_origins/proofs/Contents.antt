@@ -21,7 +21,7 @@ use Rattle.pl_directives.specs.Contents.{add_items, add_pairs, put_pair, distinc
 use Rattle.pl_directives.specs.Contents.{node_of, finished, absorbed_of, absorbed}
 use Rattle.pl_eval_laws.proofs.Leads.{Opened, head_in, head_by, object_head, array_head}
 use Rattle.pl_eval_laws.proofs.Lists.{Has, each_append}
-use Rattle.pl_eval_laws.proofs.Trees.{Asked}
+use Rattle.pl_eval_laws.proofs.Trees.{Asked, Begun, HeadOwn}
 use Rattle.pl_eval_laws.proofs.Trees.{NodeFrom, PairFrom, OpenedFrom, array_node, object_node}
 use Rattle.pl_eval_laws.proofs.Trees.{node_parts, value_parts, led_from}
 use Rattle.pl_origins.proofs.Frames.{Seen}
@@ -31,12 +31,18 @@ use Rattle.pl_origins.proofs.Steps.{ok_then}
 
 -- pairs, whose first value is seen in their frame
 abbrev pub PairsFrom : Asked → Site → List MarkedPair → Type 0
-PairsFrom P R pairs = Each (PairFrom P P) pairs × Has (Seen P R).own (head_in pairs)
+PairsFrom P R pairs = Each (PairFrom P P) pairs × Has (HeadOwn (Seen P R)) (head_in pairs)
 
 abbrev pub ContentFrom : Asked → Site → Content → Type 0
 ContentFrom P R Unknown = Unit {0}
 ContentFrom P R (Items items) = Each (NodeFrom P P) items
 ContentFrom P R (Pairs pairs) = PairsFrom P R pairs
+
+-- what is asked of a mapping that stands there
+abbrev pub Headed : Asked → Origin → Content → Type 0
+Headed P origin Unknown = Unit {0}
+Headed P origin (Items items) = Unit {0}
+Headed P origin (Pairs pairs) = Has (Begun P origin) (head_in pairs)
 
 abbrev pub ProgressFrom : Asked → Site → Progress → Type 0
 ProgressFrom P R progress = ContentFrom P R progress.content
@@ -120,45 +126,49 @@ module _ (P : Asked) (R : Site) where
   -- ---- the whole collection, which stands in the frame's file
 
   module _ (origin : Origin) (own : (Seen P R).own origin) (here : R.at origin.source) where
+    abbrev BegunFrom : List MarkedPair → Type 0
+    BegunFrom pairs = PairsFrom P R pairs × Has (Begun P origin) (head_in pairs)
+
     distinct_by :
-        (double : Option Place) (pairs : List MarkedPair) → PairsFrom P R pairs →
-        IfOk (distinct double pairs) (PairsFrom P R)
+        (double : Option Place) (pairs : List MarkedPair) → BegunFrom pairs →
+        IfOk (distinct double pairs) BegunFrom
     distinct_by None pairs all = all
     distinct_by (Some place) pairs all = tt
 
     pub object_of_from :
-        (pairs : List MarkedPair) → PairsFrom P R pairs →
+        (pairs : List MarkedPair) → PairsFrom P R pairs → Has (Begun P origin) (head_in pairs) →
         IfOk (object_of origin pairs) (HeldFrom P R)
-    object_of_from pairs all =
-        ok_then (PairsFrom P R) (HeldFrom P R) (distinct (first_double pairs) pairs) _
-        (distinct_by (first_double pairs) pairs all)
+    object_of_from pairs all begun =
+        ok_then BegunFrom (HeldFrom P R) (distinct (first_double pairs) pairs) _
+        (distinct_by (first_double pairs) pairs (all, begun))
         (λ pairs all. (
-          object_node P P origin own.0 pairs all.0
-              (led_from (Seen P R).own P.own origin (λ path seen. seen.1 origin.source here)
-              (head_in pairs) all.1),
-          (own, subst (Has (Seen P R).own) (sym (object_head pairs)) all.1),
+          object_node P P origin own.0 pairs all.0.0
+              (led_from (Seen P R) P origin (λ path seen. seen.1 origin.source here)
+              (head_in pairs) all.0.1 all.1),
+          (own, subst (Has (HeadOwn (Seen P R))) (sym (object_head pairs)) all.0.1),
         ))
 
     node_of_from :
-        (content : Content) → ContentFrom P R content →
+        (content : Content) → ContentFrom P R content → Headed P origin content →
         IfOk (node_of origin content) (HeldFrom P R)
-    node_of_from (Items items) all = (
+    node_of_from (Items items) all headed = (
       array_node P P origin own.0 items all,
-      (own, subst (Has (Seen P R).own) (sym (array_head items)) tt),
+      (own, subst (Has (HeadOwn (Seen P R))) (sym (array_head items)) tt),
     )
-    node_of_from (Pairs pairs) all = object_of_from pairs all
-    node_of_from Unknown all = object_of_from [] (tt, tt)
+    node_of_from (Pairs pairs) all headed = object_of_from pairs all headed
+    node_of_from Unknown all headed = object_of_from [] (tt, tt) tt
 
     pub finished_from :
-        (progress : Progress) → ProgressFrom P R progress →
+        (progress : Progress) → ProgressFrom P R progress → Headed P origin progress.content →
         IfOk (finished origin progress) (OneFrom P R)
-    finished_from progress all =
+    finished_from progress all headed =
         ok_then (HeldFrom P R) (OneFrom P R) (node_of origin progress.content) _
-        (node_of_from progress.content all) (λ node all. all)
+        (node_of_from progress.content all headed) (λ node all. all)
 
   absorbed_by :
       (opened : Opened) (problem : ExpandProblem) (place : Place) (progress : Progress) →
-      OpenedFrom P P opened → Has (Seen P R).own (head_by opened) → ProgressFrom P R progress →
+      OpenedFrom P P opened → Has (HeadOwn (Seen P R)) (head_by opened) →
+      ProgressFrom P R progress →
       IfOk (absorbed_of opened problem place progress) (ProgressFrom P R)
   absorbed_by (layer.Array items) problem place progress below head all =
       ok_then (ProgressFrom P R) (ProgressFrom P R) (as_items problem place progress)

@@ -1,9 +1,8 @@
 -- What a file's node gives in a frame.
-use Rattle.std.proofs.Common.{◌≡◌, ℕ, Bool, true, false, None, List, []}
-use Rattle.std.proofs.Common.{◌∷◌, map, sym, subst, rules}
+use Rattle.std.proofs.Common.{◌≡◌, ℕ, Bool, true, false, None, Ok, Err, List, []}
+use Rattle.std.proofs.Common.{◌∷◌, map, refl, sym, subst, rules}
 use Rattle.std.specs.Prelude.{IfOk}
 use Rattle.std.specs.List.{AllByRecursion as Each}
-use Rattle.pl_base.specs.declared.origin.Origin.{Origin}
 use Rattle.pl_base.specs.declared.place.FileKey.{FileKey}
 use Rattle.pl_base.specs.declared.place.Place.{Place}
 use Rattle.pl_base.specs.declared.node.Node.{Node}
@@ -28,6 +27,7 @@ use Rattle.pl_directives.specs.declared.manner.Kind.TheVariants as kind
 use Rattle.pl_directives.specs.declared.manner.Manner.{Manner}
 use Rattle.pl_directives.specs.declared.manner.Manner.TheVariants.{Empty, Stays, Splices, Mixed}
 use Rattle.pl_directives.specs.declared.manner.Manner.TheVariants.{Unclosed}
+use Rattle.pl_directives.specs.declared.progress.Chain.{Chain}
 use Rattle.pl_directives.specs.declared.progress.Chain.TheVariants.{Closed}
 use Rattle.pl_directives.specs.declared.progress.Progress.{Progress}
 use Rattle.pl_directives.specs.declared.region.Region.{Region}
@@ -52,20 +52,23 @@ use Rattle.pl_directives.specs.declared.progress.Counted.{Counted}
 use Rattle.pl_calls.specs.Parts.{Body}
 use Rattle.pl_eval_laws.specs.Marks.{key as key_said, scalar as scalar_said}
 use Rattle.pl_eval_laws.proofs.Lists.{Has}
-use Rattle.pl_eval_laws.proofs.Trees.{Asked, Told, pair_from}
-use Rattle.pl_origins.proofs.Contents.{ProgressFrom, nothing_from, as_items_from}
+use Rattle.pl_eval_laws.proofs.Trees.{Asked, Told, HeadOwn, pair_from}
+use Rattle.pl_origins.proofs.Beginnings.{MappingHeaded, SequenceHeaded, pairs_headed}
+use Rattle.pl_origins.proofs.Beginnings.{sequence_headed}
+use Rattle.pl_origins.proofs.Contents.{Headed, ProgressFrom, nothing_from, as_items_from}
 use Rattle.pl_origins.proofs.Contents.{as_pairs_from, put_pair_from, finished_from, absorbed_from}
 use Rattle.pl_origins.proofs.Following.{FollowFrom, add_item_gives, splice_gives, spread_gives}
 use Rattle.pl_origins.proofs.Following.{KeptFrom, settling_gives}
-use Rattle.pl_origins.proofs.Frames.{Seen, SeenFrom, FrameFrom, turn_from, literal_seen}
+use Rattle.pl_origins.proofs.Frames.{Seen, SeenFrom, Reads, FrameFrom, turn_from, literal_seen}
 use Rattle.pl_origins.proofs.Induction.{BodyParts, written_induction}
 use Rattle.pl_origins.proofs.Nodes.{Site, NodeIn, PairIn, BodyIn, node_in, node_says, pair_in}
-use Rattle.pl_origins.proofs.Nodes.{pair_says, said_in}
+use Rattle.pl_origins.proofs.Nodes.{pair_says, said_in, Stood}
+use Rattle.pl_origins.proofs.Plainly.{by_scalar, asks_unless}
 use Rattle.pl_origins.proofs.Scalars.{OneFrom, KeyFrom, ActionFrom, scalar_value_from}
 use Rattle.pl_origins.proofs.Scalars.{given_value_from, key_by_from, key_asks_from, SeenOne}
 use Rattle.pl_origins.proofs.Scalars.{seen_tree}
 use Rattle.pl_origins.proofs.Scalars.{seen_held, text_held}
-use Rattle.pl_origins.proofs.Steps.{Gives, ok_then, any_then, given, implied, done_gives}
+use Rattle.pl_origins.proofs.Steps.{Used, Gives, ok_then, any_then, given, implied, done_gives}
 use Rattle.pl_origins.proofs.Steps.{alone_gives}
 use Rattle.pl_origins.proofs.Steps.{plain_then, first_then, used_then}
 
@@ -85,14 +88,18 @@ module _ (P : Asked) (R : Site) (frame : Frame) (from : FrameFrom P R frame)
       (from.reads.says place (scalar_said (Str text)) says))
 
   path_text_from :
-      (form : ScalarForm) (text : List ℕ) → R.says place (scalar_said (Str text)) →
+      (form : ScalarForm) (text : List ℕ) → form_of text ≡ form →
+      R.says place (scalar_said (Str text)) →
       IfOk (path_text_by form text frame place) (KeyFrom P R)
-  path_text_from Plain text says =
+  path_text_from Plain text is says =
       (literal_seen P R frame from place stands, plain_told text says)
-  path_text_from (Whole inside) text says = key_by_from P R frame from place stands (Whole inside)
-  path_text_from (Joined pieces) text says =
+  path_text_from (Whole inside) text is says =
+      key_by_from P R frame from place stands (Whole inside)
+      (by_scalar R place text (asks_unless text (Whole inside) is tt) says)
+  path_text_from (Joined pieces) text is says =
       key_by_from P R frame from place stands (Joined pieces)
-  path_text_from Unclosed text says = key_by_from P R frame from place stands Unclosed
+      (by_scalar R place text (asks_unless text (Joined pieces) is tt) says)
+  path_text_from Unclosed text is says = tt
 
   path_at_from :
       (text : List ℕ) → R.says place (scalar_said (Str text)) → (count : ℕ) →
@@ -100,23 +107,24 @@ module _ (P : Asked) (R : Site) (frame : Frame) (from : FrameFrom P R frame)
   path_at_from text says count =
       any_then (OneFrom P R) (entered place count) _
       (λ count. ok_then (KeyFrom P R) (OneFrom P R) (path_text_by (form_of text) text frame place) _
-      (path_text_from (form_of text) text says)
+      (path_text_from (form_of text) text refl says)
       (λ path own. text_held P R path.origin path.key own.0
       (λ files. from.reads.keeps.text path.origin.source path.key (own.1 files))))
 
 -- what a node of that shape says where it stands
-abbrev pub ShapeSays : Site → Place → Shape → Type 0
-ShapeSays R place (scalar text) = R.says place (scalar_said (Str text))
-ShapeSays R place (sequence fill) = Unit {0}
-ShapeSays R place (mapping manner fill) = Unit {0}
+abbrev pub ShapeSays : Asked → Site → Place → Shape → Type 0
+ShapeSays P R place (scalar text) = R.says place (scalar_said (Str text))
+ShapeSays P R place (sequence fill) = SequenceHeaded P fill
+ShapeSays P R place (mapping manner fill) =
+    (reads : Reads R P) → MappingHeaded P R reads place fill
 
-abbrev pub StandsAs : Site → Place → Shape → Type 0
-StandsAs R place shape = R.at place × ShapeSays R place shape
+abbrev pub StandsAs : Asked → Site → Place → Shape → Type 0
+StandsAs P R place shape = R.at place × ShapeSays P R place shape
 
 module _ (P : Asked) (R : Site) (frame : Frame) (from : FrameFrom P R frame)
     (place : Place) where
   pub path_from :
-      (shape : Shape) → StandsAs R place shape → (count : ℕ) →
+      (shape : Shape) → StandsAs P R place shape → (count : ℕ) →
       IfOk (path_by shape place frame count) (OneFrom P R)
   path_from (scalar text) stands count =
       path_at_from P R frame from place stands.0 text stands.1 count
@@ -133,9 +141,18 @@ kept_held P R node one all kept =
       kept.0,
       (
         subst (Seen P R).own (sym kept.1.0) held.1.0,
-        subst (Has (Seen P R).own) (sym kept.1.1) held.1.1,
+        subst (Has (HeadOwn (Seen P R))) (sym kept.1.1.0) held.1.1,
       ),
     )
+
+-- with what holds whatever is asked
+with_ok :
+    {X : Type 0} (U : List FileKey → Type 0) (Q S : X → Type 0) (H : Type 0) (used : List FileKey)
+    (step : Used X) → Gives U H used step Q → (H → IfOk step (λ both. S both.0)) →
+    Gives U H used step (λ x. Q x × S x)
+with_ok U Q S H used (Ok both) gives more =
+    (gives.0, λ ends h. (gives.1 ends h, more h))
+with_ok U Q S H used (Err fault) gives more = tt
 
 module _ (P : Asked) (R : Site) (U : List FileKey → Type 0) where
   abbrev pub Held : Type 0 → Frame → Progress → Type 0
@@ -155,7 +172,7 @@ module _ (P : Asked) (R : Site) (U : List FileKey → Type 0) where
   ShapeFrom (mapping manner fill) = FillingFrom fill
 
   abbrev pub PartFrom : Part → Type 0
-  PartFrom part = StandsAs R part.place part.shape × ShapeFrom part.shape
+  PartFrom part = StandsAs P R part.place part.shape × ShapeFrom part.shape
 
   abbrev pub EntryFrom : Entry → Type 0
   EntryFrom entry =
@@ -188,7 +205,7 @@ module _ (P : Asked) (R : Site) (U : List FileKey → Type 0) where
 
     scalar_gives :
         (text : List ℕ) (H : Type 0) (frame : Frame) (region : Region) (place : Place) (count : ℕ)
-        (used : List FileKey) → StandsAs R place (scalar text) → (H → FrameFrom P R frame) →
+        (used : List FileKey) → StandsAs P R place (scalar text) → (H → FrameFrom P R frame) →
         Gives U H used (scalar_at text (scope_of follow frame region) place count used)
         (OneFrom P R)
     scalar_gives text H frame region place count used stands from =
@@ -198,26 +215,48 @@ module _ (P : Asked) (R : Site) (U : List FileKey → Type 0) where
 
     -- ---- a node as a value
 
+    -- a collection that stands in the file
+    abbrev HeadedFrom : Frame → Place → Progress → Type 0
+    HeadedFrom frame place inner =
+        ProgressFrom P R inner × Headed P (literal_at frame place) inner.content
+
+    begun_filled :
+        (of : Kind) (chain : Chain) (fill : Filling) → FillingFrom fill → (H : Type 0)
+        (place : Place) (frame : Frame) (region : Region) (count : ℕ) (used : List FileKey) →
+        (H → FrameFrom P R frame) →
+        (H → IfOk (fill (scope_of follow frame region) (begun of chain count) used)
+        (λ both. Headed P (literal_at frame place) both.0.content)) →
+        Gives U H used (fill (scope_of follow frame region) (begun of chain count) used)
+        (HeadedFrom frame place)
+    begun_filled of chain fill fills H place frame region count used from heads =
+        with_ok U (ProgressFrom P R)
+        (λ (inner : Progress). Headed P (literal_at frame place) inner.content) H used
+        (fill (scope_of follow frame region) (begun of chain count) used)
+        (filled fill fills H frame region (begun of chain count) used from
+        (λ h. nothing_from P R of)) heads
+
     collected_gives :
         (of : Kind) (fill : Filling) → FillingFrom fill → (H : Type 0) (place : Place)
         (frame : Frame) (region : Region) (count : ℕ) (used : List FileKey) → R.at place →
         (H → FrameFrom P R frame) →
+        (H → (count : ℕ) → IfOk (fill (scope_of follow frame region) (begun of Closed count) used)
+        (λ both. Headed P (literal_at frame place) both.0.content)) →
         Gives U H used (collected of fill place (scope_of follow frame region) count used)
         (OneFrom P R)
-    collected_gives of fill fills H place frame region count used stands from =
+    collected_gives of fill fills H place frame region count used stands from heads =
         plain_then U (OneFrom P R) H used (entered place count) _
-        (λ count. used_then U (ProgressFrom P R) (OneFrom P R) H used
+        (λ count. used_then U (HeadedFrom frame place) (OneFrom P R) H used
         (fill (scope_of follow frame region) (begun of Closed count) used) _
-        (filled fill fills H frame region (begun of Closed count) used from
-        (λ h. nothing_from P R of))
-        (λ inner later. alone_gives U (OneFrom P R) (H × ProgressFrom P R inner) later
+        (begun_filled of Closed fill fills H place frame region count used from
+        (λ h. heads h count))
+        (λ inner later. alone_gives U (OneFrom P R) (H × HeadedFrom frame place inner) later
         (finished (literal_at frame place) inner)
         (λ h. finished_from P R (literal_at frame place)
-        (literal_seen P R frame (from h.0) place stands) stands inner h.1)))
+        (literal_seen P R frame (from h.0) place stands) stands inner h.1.0 h.1.1)))
 
     pub value_gives :
         (shape : Shape) → ShapeFrom shape → (H : Type 0) (place : Place) (frame : Frame)
-        (region : Region) (count : ℕ) (used : List FileKey) → StandsAs R place shape →
+        (region : Region) (count : ℕ) (used : List FileKey) → StandsAs P R place shape →
         (H → FrameFrom P R frame) →
         Gives U H used (value_by shape place (scope_of follow frame region) count used)
         (OneFrom P R)
@@ -225,15 +264,19 @@ module _ (P : Asked) (R : Site) (U : List FileKey → Type 0) where
         scalar_gives text H frame region place count used stands from
     value_gives (sequence fill) fills H place frame region count used stands from =
         collected_gives kind.Items fill fills H place frame region count used stands.0 from
+        (λ h count. stands.1 Closed count (scope_of follow frame region) used
+        (literal_at frame place))
     value_gives (mapping manner fill) fills H place frame region count used stands from =
         collected_gives kind.Pairs fill fills H place frame region count used stands.0 from
+        (λ h count. stands.1 (from h).reads kind.Pairs Closed count (scope_of follow frame region)
+        used)
 
     -- ---- a node in a directive's place
 
     body_by_gives :
         (shape : Shape) → ShapeFrom shape → (H : Type 0) (place : Place) (problem : ExpandProblem)
         (frame : Frame) (region : Region) (progress : Progress) (used : List FileKey) →
-        StandsAs R place shape → (H → FrameFrom P R frame) → (H → ProgressFrom P R progress) →
+        StandsAs P R place shape → (H → FrameFrom P R frame) → (H → ProgressFrom P R progress) →
         Gives U H used (body_by shape place problem (scope_of follow frame region) progress used)
         (ProgressFrom P R)
     body_by_gives (scalar text) fills H place problem frame region progress used stands from all =
@@ -381,8 +424,8 @@ module _ (P : Asked) (R : Site) (U : List FileKey → Type 0) where
     mapping_gives :
         (manner : Manner) (fill : Filling) → FillingFrom fill → (H : Type 0) (place : Place)
         (frame : Frame) (region : Region) (count : ℕ) (progress : Progress)
-        (used : List FileKey) → R.at place → (H → FrameFrom P R frame) →
-        (H → ProgressFrom P R progress) →
+        (used : List FileKey) → StandsAs P R place (mapping manner fill) →
+        (H → FrameFrom P R frame) → (H → ProgressFrom P R progress) →
         Gives U H used
         (mapping_behind manner fill place (scope_of follow frame region) (with_count count progress)
         used)
@@ -391,33 +434,36 @@ module _ (P : Asked) (R : Site) (U : List FileKey → Type 0) where
         first_then U (OneFrom P R) (ProgressFrom P R) H used
         (finished (literal_at frame place) (begun kind.Pairs Closed count)) _
         (λ h. finished_from P R (literal_at frame place)
-        (literal_seen P R frame (from h) place stands) stands (begun kind.Pairs Closed count)
-        (tt, tt))
+        (literal_seen P R frame (from h) place stands.0) stands.0 (begun kind.Pairs Closed count)
+        (tt, tt) tt)
         (λ one. add_item_gives P R U follow follows frame region (H × OneFrom P R one) one.node
         (with_chain Closed (with_count one.count progress)) used (λ h. h.1.0) (λ h. all h.0))
     mapping_gives Stays fill fills H place frame region count progress used stands from all =
-        used_then U (ProgressFrom P R) (ProgressFrom P R) H used
+        used_then U (HeadedFrom frame place) (ProgressFrom P R) H used
         (fill (scope_of follow frame (of_item region)) (begun kind.Pairs progress.chain count) used)
-        _ (filled fill fills H frame (of_item region) (begun kind.Pairs progress.chain count) used
-        from (λ h. (tt, tt)))
-        (λ inner later. first_then U (OneFrom P R) (ProgressFrom P R) (H × ProgressFrom P R inner)
-        later (finished (literal_at frame place) inner) _
+        _ (begun_filled kind.Pairs progress.chain fill fills H place frame (of_item region) count
+        used from
+        (λ h. stands.1 (from h).reads kind.Pairs progress.chain count
+        (scope_of follow frame (of_item region)) used))
+        (λ inner later. first_then U (OneFrom P R) (ProgressFrom P R)
+        (H × HeadedFrom frame place inner) later (finished (literal_at frame place) inner) _
         (λ h. finished_from P R (literal_at frame place)
-        (literal_seen P R frame (from h.0) place stands) stands inner h.1)
+        (literal_seen P R frame (from h.0) place stands.0) stands.0 inner h.1.0 h.1.1)
         (λ one. add_item_gives P R U follow follows frame region
-        ((H × ProgressFrom P R inner) × OneFrom P R one) one.node
+        ((H × HeadedFrom frame place inner) × OneFrom P R one) one.node
         (with_chain inner.chain (with_count inner.count progress)) later (λ h. h.1.0)
         (λ h. all h.0.0)))
     mapping_gives (Splices of) fill fills H place frame region count progress used stands from
         all =
-        used_then U (ProgressFrom P R) (ProgressFrom P R) H used
+        used_then U (HeadedFrom frame place) (ProgressFrom P R) H used
         (fill (scope_of follow frame (of_item region)) (begun of progress.chain count) used) _
-        (filled fill fills H frame (of_item region) (begun of progress.chain count) used from
-        (λ h. nothing_from P R of))
-        (λ inner later. splice_gives P R U follow follows frame region (H × ProgressFrom P R inner)
-        (literal_at frame place) inner.content
-        (with_chain inner.chain (with_count inner.count progress)) later stands
-        (λ h. literal_seen P R frame (from h.0) place stands) (λ h. h.1) (λ h. all h.0))
+        (begun_filled of progress.chain fill fills H place frame (of_item region) count used from
+        (λ h. stands.1 (from h).reads of progress.chain count
+        (scope_of follow frame (of_item region)) used))
+        (λ inner later. splice_gives P R U follow follows frame region
+        (H × HeadedFrom frame place inner) (literal_at frame place) inner.content
+        (with_chain inner.chain (with_count inner.count progress)) later stands.0
+        (λ h. literal_seen P R frame (from h.0) place stands.0) (λ h. h.1) (λ h. all h.0))
     mapping_gives (Mixed other) fill fills H place frame region count progress used stands from
         all = tt
     mapping_gives (Unclosed key) fill fills H place frame region count progress used stands from
@@ -425,7 +471,7 @@ module _ (P : Asked) (R : Site) (U : List FileKey → Type 0) where
 
     item_by_gives :
         (shape : Shape) → ShapeFrom shape → (H : Type 0) (place : Place) (frame : Frame)
-        (region : Region) (progress : Progress) (used : List FileKey) → StandsAs R place shape →
+        (region : Region) (progress : Progress) (used : List FileKey) → StandsAs P R place shape →
         (H → FrameFrom P R frame) → (H → ProgressFrom P R progress) →
         Gives U H used (item_by shape place (scope_of follow frame region) progress used)
         (ProgressFrom P R)
@@ -446,13 +492,15 @@ module _ (P : Asked) (R : Site) (U : List FileKey → Type 0) where
         (collected kind.Items fill place (scope_of follow frame (inside region)) progress.count
         used) _
         (collected_gives kind.Items fill fills H place frame (inside region) progress.count used
-        stands.0 from)
+        stands.0 from
+        (λ h count. stands.1 Closed count (scope_of follow frame (inside region)) used
+        (literal_at frame place)))
         (λ one later. add_item_gives P R U follow follows frame region (H × OneFrom P R one)
         one.node
         (with_chain Closed (with_count one.count progress)) later (λ h. h.1.0) (λ h. all h.0))
     item_by_gives (mapping manner fill) fills H place frame region progress used stands from all =
         plain_then U (ProgressFrom P R) H used (entered place progress.count) _
-        (λ count. mapping_gives manner fill fills H place frame region count progress used stands.0
+        (λ count. mapping_gives manner fill fills H place frame region count progress used stands
         from all)
 
     items_give :
@@ -525,32 +573,32 @@ module _ (P : Asked) (R : Site) (U : List FileKey → Type 0) where
 
   -- what is said there
   layer_says :
-      (place : Place) (layer : Body) → Each (R.says place) (said_in layer) →
-      ShapeSays R place (shape_of (roll-NodeBody layer))
+      (place : Place) (layer : Body) → Each (Stood R place) (said_in layer) →
+      ShapeSays P R place (shape_of (roll-NodeBody layer))
   layer_says place (Scalar text) says =
       let is : scalar text ≡ shape_of (roll-NodeBody (Scalar text)) =
       search (rules, the_lemmas) in
-      subst (ShapeSays R place) is says.0
+      subst (ShapeSays P R place) is says.0
   layer_says place (Seq items) says =
       let is :
       sequence (items_behind (map part_of items)) ≡ shape_of (roll-NodeBody (Seq items)) =
       search (rules, the_lemmas) in
-      subst (ShapeSays R place) is tt
+      subst (ShapeSays P R place) is (sequence_headed P (map part_of items))
   layer_says place (Map pairs) says =
       let is :
       mapping (manner_of (map facet_of (map entry_of pairs))) (pairs_behind (map entry_of pairs))
       ≡ shape_of (roll-NodeBody (Map pairs)) =
       search (rules, the_lemmas) in
-      subst (ShapeSays R place) is tt
+      subst (ShapeSays P R place) is (λ reads. pairs_headed P R reads place pairs says.1)
 
   rolled : (body : NodeBody) → roll-NodeBody (out-NodeBody body) ≡ body
   rolled body = search (rules, the_lemmas)
 
   shape_says :
-      (place : Place) (one : NodeBody) → Each (R.says place) (said_in (out-NodeBody one)) →
-      ShapeSays R place (shape_of one)
+      (place : Place) (one : NodeBody) → Each (Stood R place) (said_in (out-NodeBody one)) →
+      ShapeSays P R place (shape_of one)
   shape_says place one says =
-      subst (λ (body : NodeBody). ShapeSays R place (shape_of body)) (rolled one)
+      subst (λ (body : NodeBody). ShapeSays P R place (shape_of body)) (rolled one)
       (layer_says place (out-NodeBody one) says)
 
   of_layer :

@@ -1,11 +1,12 @@
 -- Items that are put into a list, and values that expressions gave, where calls are followed.
-use Rattle.std.proofs.Common.{◌≡◌, ℕ, Option, Some, None, Ok, Err, List, [], ◌∷◌, ◌++◌, map}
-use Rattle.std.proofs.Common.{refl, ap, sym, subst, ◌∙◌, rules}
+use Rattle.std.proofs.Common.{◌≡◌, ℕ, Bool, true, false, cond, Option, Some, None, Ok, Err, List}
+use Rattle.std.proofs.Common.{[], ◌∷◌, ◌++◌, map, refl, ap, sym, subst, ◌∙◌, rules}
+use Rattle.std.specs.Prelude.{codes}
+use Rattle.pl_literal.specs.Items.{is}
 use Rattle.std.specs.List.{AllByRecursion as Each}
 use Rattle.std.specs.Option.{option_or}
 use Rattle.pl_base.specs.declared.origin.Origin.{Origin}
 use Rattle.pl_base.specs.declared.place.FileKey.{FileKey}
-use Rattle.pl_base.specs.declared.place.Place.{Place}
 use Rattle.pl_base.specs.declared.value.Value.{Value, out-Value, roll-Value, the_lemmas}
 use Rattle.pl_base.specs.declared.value.Value.TheVariants as value
 use Rattle.pl_base.specs.declared.value.Value.TheOpen.{Null, Bool as Truth, Number}
@@ -19,7 +20,7 @@ use Rattle.pl_directives.specs.declared.progress.Progress.{Progress}
 use Rattle.pl_directives.specs.declared.region.Form.{Form}
 use Rattle.pl_directives.specs.declared.region.Region.{Region}
 use Rattle.pl_directives.specs.Contents.{with_count, object_of}
-use Rattle.pl_directives.specs.Regions.{call_form, inside, under}
+use Rattle.pl_directives.specs.Regions.{call_form, is_template, form_at, inside, under}
 use Rattle.pl_recursion.specs.declared.followed.Followed.{Followed}
 use Rattle.pl_recursion.specs.declared.followed.SettledPairs.{SettledPairs}
 use Rattle.pl_recursion.specs.declared.followed.SettledValue.{SettledValue}
@@ -32,17 +33,20 @@ use Rattle.pl_recursion.specs.Settling.{pairs_and, pair_behind, pairs_behind, ar
 use Rattle.pl_recursion.specs.Settling.{object_settled, node_settled, value_seen, node_seen}
 use Rattle.pl_recursion.specs.Settling.{atom_settled, pair_seen, node_settling}
 use Rattle.pl_recursion.proofs.Itself.{node_itself}
-use Rattle.pl_eval_laws.proofs.Leads.{Opened, head_in, head_of, object_head, array_head}
-use Rattle.pl_eval_laws.proofs.Leads.{opened_array, opened_object}
+use Rattle.pl_eval_laws.proofs.Leads.{Opened, Head, head_at, head_in, head_by, head_of}
+use Rattle.pl_eval_laws.proofs.Leads.{object_head, array_head}
+use Rattle.pl_eval_laws.proofs.Leads.{opened_array, opened_object, atom_of}
 use Rattle.pl_eval_laws.specs.Marks.{key as key_said}
-use Rattle.pl_eval_laws.proofs.Marks.{atom_of, array_atom, object_atom}
-use Rattle.pl_eval_laws.proofs.Lists.{each_append}
+use Rattle.pl_eval_laws.proofs.Marks.{array_atom, object_atom}
+use Rattle.pl_eval_laws.proofs.Lists.{Has, each_append}
 use Rattle.pl_eval_laws.proofs.Trees.{Asked, Told, Atom, node_told, pair_told}
 use Rattle.pl_eval_laws.proofs.Trees.{NodeFrom, ValueFrom, PairFrom, OpenedFrom, Led, node_from}
 use Rattle.pl_eval_laws.proofs.Trees.{pair_from, array_from, object_from, node_parts, pair_parts}
 use Rattle.pl_eval_laws.proofs.Trees.{value_parts, node_led, null_from, truth_from, number_from}
 use Rattle.pl_eval_laws.proofs.Trees.{version_from, text_from}
-use Rattle.pl_origins.proofs.Contents.{ContentFrom, ProgressFrom, add_items_from, object_of_from}
+use Rattle.pl_origins.proofs.Contents.{ContentFrom, ProgressFrom, Headed, add_items_from}
+use Rattle.pl_origins.proofs.Contents.{object_of_from}
+use Rattle.pl_origins.proofs.Plainly.{same_text}
 use Rattle.pl_origins.proofs.Frames.{Seen}
 use Rattle.pl_origins.proofs.Induction.{Parts, node_induction}
 use Rattle.pl_origins.proofs.Nodes.{Site}
@@ -53,11 +57,39 @@ use Rattle.pl_origins.proofs.Steps.{first_then}
 abbrev pub FollowedFrom : Asked → Followed → Type 0
 FollowedFrom P more = Each (NodeFrom P P) more.items
 
+-- an item's first key is `template`
+abbrev pub IsTemplate : MarkedNode → Type 0
+IsTemplate item = Has (λ (head : Head). head.key ≡ codes "template") (head_of item.value)
+
 -- a call gives what the predicate holds of, where it holds of the call's item
 abbrev pub FollowFrom : Asked → (List FileKey → Type 0) → Follow → Type 0
 FollowFrom P U follow =
     (frame : Frame) (form : Form) (item : MarkedNode) (count : ℕ) (used : List FileKey) →
-    Gives U (NodeFrom P P item) used (follow frame form item count used) (FollowedFrom P)
+    Gives U (NodeFrom P P item × IsTemplate item) used (follow frame form item count used)
+    (FollowedFrom P)
+
+-- what is followed is such an item
+call_is : (region : Region) (item : MarkedNode) (form : Form) →
+    call_form region item ≡ Some form → IsTemplate item
+call_is region item form called = by (out-Value item.value) called
+  where
+    named : (key : List ℕ) (found : Option Form) (b : Bool) →
+        is key (codes "template") ≡ b → cond b found None ≡ Some form → key ≡ codes "template"
+    named key found true same called = same_text key (codes "template") same
+    named key found false same called = absurd (cc)
+
+    by : (opened : Opened) →
+        cond (is_template opened) (form_at region) None ≡ Some form →
+        Has (λ (head : Head). head.key ≡ codes "template") (head_by opened)
+    by (Object []) called = tt
+    by (Object (pair ∷ pairs)) called =
+        named pair.key (form_at region) (is pair.key (codes "template")) refl called
+    by (Array items) called = tt
+    by Null called = tt
+    by (Truth truth) called = tt
+    by (Number number) called = tt
+    by (Version segments) called = tt
+    by (Str text) called = tt
 
 module _ (P : Asked) (R : Site) (U : List FileKey → Type 0) (follow : Follow)
     (follows : FollowFrom P U follow) (frame : Frame) (region : Region) where
@@ -65,17 +97,18 @@ module _ (P : Asked) (R : Site) (U : List FileKey → Type 0) (follow : Follow)
 
   add_by_gives :
       (form : Option Form) (H : Type 0) (item : MarkedNode) (progress : Progress)
-      (used : List FileKey) → (H → NodeFrom P P item) → (H → ProgressFrom P R progress) →
+      (used : List FileKey) → call_form region item ≡ form → (H → NodeFrom P P item) →
+      (H → ProgressFrom P R progress) →
       Gives U H used (add_by form (scope_of follow frame region) item progress used)
       (ProgressFrom P R)
-  add_by_gives None H item progress used own all =
+  add_by_gives None H item progress used called own all =
       alone_gives U (ProgressFrom P R) H used _
       (λ h. add_items_from P R item.origin.source (item ∷ []) progress (own h, tt) (all h))
-  add_by_gives (Some form) H item progress used own all =
+  add_by_gives (Some form) H item progress used called own all =
       used_then U (FollowedFrom P) (ProgressFrom P R) H used
       (follow frame form item progress.count used) _
-      (given U (FollowedFrom P) (NodeFrom P P item) H used
-      (follow frame form item progress.count used) own
+      (given U (FollowedFrom P) (NodeFrom P P item × IsTemplate item) H used
+      (follow frame form item progress.count used) (λ h. (own h, call_is region item form called))
       (follows frame form item progress.count used))
       (λ more later. alone_gives U (ProgressFrom P R) (H × FollowedFrom P more) later _
       (λ h. add_items_from P R item.origin.source more.items (with_count more.count progress) h.1
@@ -86,12 +119,12 @@ module _ (P : Asked) (R : Site) (U : List FileKey → Type 0) (follow : Follow)
       (H → NodeFrom P P item) → (H → ProgressFrom P R progress) →
       Gives U H used (add_item (scope_of follow frame region) item progress used) (ProgressFrom P R)
   add_item_gives H item progress used own all =
-      add_by_gives (call_form region item) H item progress used own all
+      add_by_gives (call_form region item) H item progress used refl own all
 
   pub splice_gives :
       (H : Type 0) (origin : Origin) (content : Content) (progress : Progress)
       (used : List FileKey) → R.at origin.source → (H → (Seen P R).own origin) →
-      (H → ContentFrom P R content) →
+      (H → ContentFrom P R content × Headed P origin content) →
       (H → ProgressFrom P R progress) →
       Gives U H used (splice (scope_of follow frame region) origin content progress used)
       (ProgressFrom P R)
@@ -99,12 +132,12 @@ module _ (P : Asked) (R : Site) (U : List FileKey → Type 0) (follow : Follow)
       done_gives U (ProgressFrom P R) H used progress all
   splice_gives H origin (Items items) progress used here own below all =
       alone_gives U (ProgressFrom P R) H used _
-      (λ h. add_items_from P R origin.source items progress (below h) (all h))
+      (λ h. add_items_from P R origin.source items progress (below h).0 (all h))
   splice_gives H origin (Pairs []) progress used here own below all =
       done_gives U (ProgressFrom P R) H used progress all
   splice_gives H origin (Pairs (pair ∷ pairs)) progress used here own below all =
       first_then U (HeldFrom P R) (ProgressFrom P R) H used (object_of origin (pair ∷ pairs)) _
-      (λ h. object_of_from P R origin (own h) here (pair ∷ pairs) (below h))
+      (λ h. object_of_from P R origin (own h) here (pair ∷ pairs) (below h).0 (below h).1)
       (λ item. add_item_gives (H × HeldFrom P R item) item progress used (λ h. h.1.0)
       (λ h. all h.0))
 
@@ -140,11 +173,13 @@ module _ (P : Asked) (R : Site) (U : List FileKey → Type 0) (follow : Follow)
 
 -- ---- a value that an expression gave, once it stands in its place
 
--- it comes from where it came from, and so does its first value
+-- it comes from where it came from, and so does its first value; an atom stays as it is
 abbrev pub KeptFrom : Asked → MarkedNode → Counted → Type 0
 KeptFrom P node one =
     NodeFrom P P one.node
-    × ((one.node.origin ≡ node.origin) × (head_of one.node.value ≡ head_of node.value))
+    × ((one.node.origin ≡ node.origin)
+    × ((head_of one.node.value ≡ head_of node.value)
+    × (atom_of one.node.value ≡ atom_of node.value)))
 
 module _ (P : Asked) (U : List FileKey → Type 0) where
   abbrev Settles : {X : Type 0} → Type 0 → Settling X → (X → Type 0) → Type 0
@@ -157,7 +192,7 @@ module _ (P : Asked) (U : List FileKey → Type 0) where
       ValueFrom P P one.value
       × ((head_of one.value ≡ head_of before) × (atom_of one.value ≡ atom_of before))
 
-  abbrev PairsSettled : SettledPairs → Option Origin → SettledPairs → Type 0
+  abbrev PairsSettled : SettledPairs → Option Head → SettledPairs → Type 0
   PairsSettled before head all =
       Each (PairFrom P P) all.pairs
       × (head_in all.pairs ≡ option_or (head_in before.pairs) head)
@@ -195,31 +230,43 @@ module _ (P : Asked) (U : List FileKey → Type 0) where
       (subst (λ (key : List ℕ). Told P pair.key_origin (key_said key)) (sym (key_text pair))
       (pair_told P P pair own))
 
-  nothing_or : (head : Option Origin) → head ≡ option_or head None
+  nothing_or : (head : Option Head) → head ≡ option_or head None
   nothing_or None = refl
-  nothing_or (Some origin) = refl
+  nothing_or (Some head) = refl
 
-  either_or : (head next : Option Origin) (origin : Origin) →
-      option_or (option_or head (Some origin)) next ≡ option_or head (Some origin)
-  either_or None next origin = refl
-  either_or (Some first) next origin = refl
+  either_or : (before next : Option Head) (head : Head) →
+      option_or (option_or before (Some head)) next ≡ option_or before (Some head)
+  either_or None next head = refl
+  either_or (Some first) next head = refl
 
-  put_behind : (pairs : List MarkedPair) (pair : MarkedPair) (origin : Origin) →
-      pair.item.origin ≡ origin →
-      head_in (pairs ++ pair ∷ []) ≡ option_or (head_in pairs) (Some origin)
-  put_behind [] pair origin is = ap (λ origin. Some origin) is
-  put_behind (first ∷ pairs) pair origin is = refl
+  put_behind : (pairs : List MarkedPair) (pair : MarkedPair) (head : Head) →
+      head_at pair ≡ head →
+      head_in (pairs ++ pair ∷ []) ≡ option_or (head_in pairs) (Some head)
+  put_behind [] pair head is = ap (λ (head : Head). Some head) is
+  put_behind (first ∷ pairs) pair head is = refl
+
+  -- a pair with the value that became of its own
+  pair_kept : (pair : MarkedPair) (node : MarkedNode) → node.origin ≡ pair.item.origin →
+      atom_of node.value ≡ atom_of pair.item.value →
+      head_at (record {
+        key = (pair_seen pair).itself.key;
+        key_origin = (pair_seen pair).itself.key_origin;
+        item = node;
+      }) ≡ head_at pair
+  pair_kept pair node origin atom =
+      let key = key_text pair in
+      λ i. record { key = key i; path = origin i; atom = atom i }
 
   module _ (follow : Follow) (follows : FollowFrom P U follow) (frame : Frame) (region : Region)
     where
       item_settles :
           (form : Option Form) (H : Type 0) (item : MarkedNode) (before : Followed)
-          (used : List FileKey) → NodeClaim item → (H → NodeFrom P P item) →
-          (H → FollowedFrom P before) →
+          (used : List FileKey) → call_form region (node_seen item).itself ≡ form →
+          NodeClaim item → (H → NodeFrom P P item) → (H → FollowedFrom P before) →
           Gives U H used (item_settled form (node_seen item) (scope_of follow frame region) before
           used)
           (FollowedFrom P)
-      item_settles None H item before used claim own all =
+      item_settles None H item before used called claim own all =
           used_then U (KeptFrom P item) (FollowedFrom P) H used
           ((node_seen item).settled (scope_of follow frame (inside region)) before.count used) _
           (given U (KeptFrom P item) (NodeFrom P P item) H used
@@ -228,12 +275,16 @@ module _ (P : Asked) (U : List FileKey → Type 0) where
           (λ one later. done_gives U (FollowedFrom P) (H × KeptFrom P item one) later
           (items_and before one)
           (λ h. each_append (NodeFrom P P) before.items (one.node ∷ []) (all h.0) (h.1.0, tt)))
-      item_settles (Some form) H item before used claim own all =
+      item_settles (Some form) H item before used called claim own all =
           used_then U (FollowedFrom P) (FollowedFrom P) H used
           (follow frame form (node_seen item).itself before.count used) _
-          (given U (FollowedFrom P) (NodeFrom P P (node_seen item).itself) H used
+          (given U (FollowedFrom P)
+          (NodeFrom P P (node_seen item).itself × IsTemplate (node_seen item).itself) H used
           (follow frame form (node_seen item).itself before.count used)
-          (λ h. subst (NodeFrom P P) (sym (node_itself item)) (own h))
+          (λ h. (
+            subst (NodeFrom P P) (sym (node_itself item)) (own h),
+            call_is region (node_seen item).itself form called,
+          ))
           (follows frame form (node_seen item).itself before.count used))
           (λ more later. done_gives U (FollowedFrom P) (H × FollowedFrom P more) later
           (items_with before more)
@@ -251,7 +302,7 @@ module _ (P : Asked) (U : List FileKey → Type 0) where
           used_then U (FollowedFrom P) (FollowedFrom P) H used
           (item_behind (node_seen item) (scope_of follow frame region) before used)
           (items_behind (map node_seen items) (scope_of follow frame region))
-          (item_settles (call_form region (node_seen item).itself) H item before used claims.0
+          (item_settles (call_form region (node_seen item).itself) H item before used refl claims.0
           (λ h. (own h).0) all)
           (λ after later. items_settle (H × FollowedFrom P after) items after later claims.1
           (λ h. (own h.0).1) (λ h. h.1))
@@ -260,17 +311,17 @@ module _ (P : Asked) (U : List FileKey → Type 0) where
           (H : Type 0) (pair : MarkedPair) (before : SettledPairs) (used : List FileKey) →
           PairClaim pair → (H → PairFrom P P pair) → (H → Each (PairFrom P P) before.pairs) →
           Gives U H used (pair_behind (pair_seen pair) (scope_of follow frame region) before used)
-          (PairsSettled before (Some pair.item.origin))
+          (PairsSettled before (Some (head_at pair)))
       pair_settles H pair before used claim own all =
           let seen = pair_seen pair in
           let inner = under seen.itself.key region in
-          used_then U (KeptFrom P pair.item) (PairsSettled before (Some pair.item.origin)) H used
+          used_then U (KeptFrom P pair.item) (PairsSettled before (Some (head_at pair))) H used
           (seen.settled (scope_of follow frame inner) before.count used) _
           (given U (KeptFrom P pair.item) (NodeFrom P P pair.item) H used
           (seen.settled (scope_of follow frame inner) before.count used)
           (λ h. (pair_parts P P pair (own h)).1)
           (claim follow frame inner before.count used follows))
-          (λ one later. done_gives U (PairsSettled before (Some pair.item.origin))
+          (λ one later. done_gives U (PairsSettled before (Some (head_at pair)))
           (H × KeptFrom P pair.item one) later (pairs_and before seen.itself one)
           (λ h. (
             each_append (PairFrom P P) before.pairs _ (all h.0) (
@@ -279,7 +330,7 @@ module _ (P : Asked) (U : List FileKey → Type 0) where
                   (key_told pair (own h.0)) h.1.0,
               tt,
             ),
-            put_behind before.pairs _ pair.item.origin h.1.1.0,
+            put_behind before.pairs _ (head_at pair) (pair_kept pair one.node h.1.1.0 h.1.1.1.1),
           )))
 
       pairs_settle :
@@ -293,30 +344,30 @@ module _ (P : Asked) (U : List FileKey → Type 0) where
           done_gives U (PairsSettled before None) H used before
           (λ h. (all h, nothing_or (head_in before.pairs)))
       pairs_settle H (pair ∷ pairs) before used claims own all =
-          used_then U (PairsSettled before (Some pair.item.origin))
-          (PairsSettled before (Some pair.item.origin)) H used
+          used_then U (PairsSettled before (Some (head_at pair)))
+          (PairsSettled before (Some (head_at pair))) H used
           (pair_behind (pair_seen pair) (scope_of follow frame region) before used)
           (pairs_behind (map pair_seen pairs) (scope_of follow frame region))
           (pair_settles H pair before used claims.0 (λ h. (own h).0) all)
           (λ after later. first_kept H pair pairs before after
           (pairs_behind (map pair_seen pairs) (scope_of follow frame region) after later) later
-          (pairs_settle (H × PairsSettled before (Some pair.item.origin) after) pairs after later
+          (pairs_settle (H × PairsSettled before (Some (head_at pair)) after) pairs after later
           claims.1 (λ h. (own h.0).1) (λ h. h.1.0)))
         where
           first_kept :
               (H : Type 0) (pair : MarkedPair) (pairs : List MarkedPair)
               (before after : SettledPairs) (step : Used SettledPairs) (later : List FileKey) →
-              Gives U (H × PairsSettled before (Some pair.item.origin) after) later step
+              Gives U (H × PairsSettled before (Some (head_at pair)) after) later step
               (PairsSettled after (head_in pairs)) →
-              Gives U (H × PairsSettled before (Some pair.item.origin) after) later step
-              (PairsSettled before (Some pair.item.origin))
+              Gives U (H × PairsSettled before (Some (head_at pair)) after) later step
+              (PairsSettled before (Some (head_at pair)))
           first_kept H pair pairs before after (Ok both) later gives = (
             gives.0,
             λ ends h.
                 let settled = gives.1 ends h in (
                   settled.0,
                   settled.1 ∙ (ap (λ head. option_or head (head_in pairs)) h.1.1
-                      ∙ either_or (head_in before.pairs) (head_in pairs) pair.item.origin),
+                      ∙ either_or (head_in before.pairs) (head_in pairs) (head_at pair)),
                 ),
           )
           first_kept H pair pairs before after (Err fault) later gives = tt
@@ -445,7 +496,7 @@ module _ (P : Asked) (U : List FileKey → Type 0) where
         node_from P P origin settled.value (node_parts P P node h.0).0
             (subst (Atom P origin) (sym h.1.1.1) (node_told P P node h.0)) h.1.0
             (subst (Led P origin) (sym h.1.1.0) (node_led P P node h.0)),
-        (refl, h.1.1.0),
+        (refl, (h.1.1.0, h.1.1.1)),
       ))))
 
   of_pair :

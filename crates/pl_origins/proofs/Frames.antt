@@ -1,5 +1,5 @@
 -- What an expression gives in a frame, where a predicate holds of all origins that the frame has.
-use Rattle.std.proofs.Common.{◌≡◌, ℕ, Bool, true, false, cond, Option, Some, Result, Ok, Err}
+use Rattle.std.proofs.Common.{◌≡◌, ℕ, Bool, true, false, cond, Option, Some, None, Result, Ok, Err}
 use Rattle.std.proofs.Common.{List, [], ◌∷◌, ◌++◌, map, reverse, refl, sym, subst, ◌∙◌}
 use Rattle.std.specs.Prelude.{IfOk, codes}
 use Rattle.std.specs.FinMap as finite
@@ -38,13 +38,13 @@ use Rattle.pl_directives.specs.Scalars.{told_at, value_at}
 use Rattle.pl_eval_laws.specs.Marks.{Said, key as key_said, scalar, IsOfFiles}
 use Rattle.pl_eval_laws.proofs.Lists.{Has, each_append, each_back, each_front, each_map, each_of}
 use Rattle.pl_eval_laws.proofs.Lists.{each_one}
-use Rattle.pl_eval_laws.proofs.Leads.{head_in}
-use Rattle.pl_eval_laws.proofs.Trees.{Asked, Told, Marked}
+use Rattle.pl_eval_laws.proofs.Leads.{Head, head_in}
+use Rattle.pl_eval_laws.proofs.Trees.{Asked, Told, Marked, Begun, Calling}
 use Rattle.pl_eval_laws.proofs.Trees.{NodeFrom, PairFrom, Any, pair_from, object_node, led_from}
-use Rattle.pl_eval_laws.proofs.Trees.{first_from}
+use Rattle.pl_eval_laws.proofs.Trees.{first_from, nothing_led}
 use Rattle.pl_eval_laws.proofs.Evaluated.{evaluated}
 use Rattle.pl_origins.proofs.Moved.{all_moved_from}
-use Rattle.pl_origins.proofs.Nodes.{Site}
+use Rattle.pl_origins.proofs.Nodes.{Site, Asks}
 
 -- What is seen in a frame has P itself, and so has a call that stands in the frame's file and whose
 -- path it is. R holds of the places of that file that are spoken of.
@@ -55,6 +55,7 @@ Seen P R = record {
       × ((place : Place) → R.at place →
       P.own (record { source = place; crossings = origin.crossings }));
   says = P.says;
+  calls = P.calls;
 }
 
 -- a tree that is seen in a frame: calls in it have P
@@ -74,12 +75,18 @@ pub record Keeps (says : Place → Said → Type 0) : Type 0 where
       says place (key_said (codes "value"))
 
 -- What the file of a frame says is what is asked, as it stands there or as a parameter's type reads
--- it of a default.
+-- it of a default. An item calls there that begins with `template`, and one that an expression
+-- gives.
 pub record Reads (R : Site) (P : Asked) : Type 0 where
   pub says : (place : Place) (said : Said) → R.says place said → P.says place said
   pub default :
       (place : Place) (of : ParamKind) (before after : Value) → R.says place (scalar before) →
       value_as of before ≡ Some after → P.says place (scalar after)
+  pub calls :
+      (at from : Place) (text : List ℕ) →
+      R.begins at (record { key = codes "template"; place = from; text = text }) →
+      P.calls at from (Str text)
+  pub asked : (at from : Place) (one : Value) → Asks R at → P.calls at from one
   pub keeps : Keeps P.says
 
 -- a parameter: where it is declared, its name there, and what an expression takes of it
@@ -109,6 +116,14 @@ pub none_told :
     (IsOfFiles crossing → ⊥) →
     Told P (record { source = place; crossings = crossings ++ crossing ∷ [] }) said
 none_told P crossings crossing place said none files =
+    absurd (none (each_back IsOfFiles crossings (crossing ∷ []) files).0)
+
+-- nor is a call whose path comes from there
+pub none_calling :
+    (P : Asked) (item at : Origin) (crossings : List Crossing) (crossing : Crossing) (one : Value) →
+    (IsOfFiles crossing → ⊥) →
+    Calling P item (record { source = at.source; crossings = crossings ++ crossing ∷ [] }) one
+none_calling P item at crossings crossing one none files =
     absurd (none (each_back IsOfFiles crossings (crossing ∷ []) files).0)
 
 pub made_told :
@@ -141,11 +156,11 @@ has_some :
 has_some P found x has is = subst (Has P) is has
 
 -- of a tree that is made anew nothing is asked
-anything : (node : MarkedNode) → NodeFrom Any Any node
+pub anything : (node : MarkedNode) → NodeFrom Any Any node
 unfolding NodeFrom
 anything node = (
   each_of Any.own (λ origin. tt) _,
-  (each_of Any.own (λ origin. tt) _, each_of (Marked Any) (λ one files. tt) _),
+  (nothing_led _, each_of (Marked Any) (λ one files. tt) _),
 )
 
 module _ (P : Asked) (R : Site) (frame : Frame) (from : FrameFrom P R frame)
@@ -173,11 +188,12 @@ module _ (P : Asked) (R : Site) (frame : Frame) (from : FrameFrom P R frame)
       -- a mapping that is made there
       pub made_object :
           (pairs : List MarkedPair) → Each (PairFrom (Seen P R) P) pairs →
+          Has (Begun P (made_at frame place)) (head_in pairs) →
           SeenFrom P R (made (made_at frame place) (Object pairs))
-      made_object pairs all =
+      made_object pairs all begun =
           object_node (Seen P R) P (made_at frame place) made_seen pairs all
-          (led_from (Seen P R).own P.own (made_at frame place) (λ path seen. seen.1 place stands)
-          (head_in pairs) (first_from (Seen P R) P pairs all))
+          (led_from (Seen P R) P (made_at frame place) (λ path seen. seen.1 place stands)
+          (head_in pairs) (first_from (Seen P R) P pairs all) begun)
 
       parameter_from :
           (parameter : Parameter) → ParameterFrom P R parameter →
@@ -187,17 +203,15 @@ module _ (P : Asked) (R : Site) (frame : Frame) (from : FrameFrom P R frame)
           (taken place parameter) (from.literal parameter.place all.0.0, from.literal)
           (λ files. all.0.1) (all.1 place stands)
 
-      parameters_from : SeenFrom P R (parameters_at frame place)
-      parameters_from =
-          made_object _ (each_map (ParameterFrom P R) (PairFrom (Seen P R) P)
-          (parameter_pair frame place) parameter_from frame.parameters from.parameters)
-
       variable_from : (one : Variable) → PairFrom (Seen P R) P (variable_pair frame place one)
       variable_from one =
           pair_from (Seen P R) P one.name (made_at frame place) _ made_seen
           (made_told P frame place (key_said one.name))
           (all_moved_from Any (Seen P R) Any P (λ _. made_at frame place) (λ _ _. made_seen)
-          (λ _ _. made_seen.0) (λ _ _. refl) (λ _ said _ _. made_told P frame place said)
+          (λ _ _. made_seen.0) (λ _ _. refl)
+          (λ item path one _ _. none_calling P (made_at frame place) (made_at frame place)
+          frame.crossings Made one (λ none. none))
+          (λ _ said _ _. made_told P frame place said)
           (made_at frame place) one.value
           (anything (made (made_at frame place) one.value)))
 
@@ -207,9 +221,28 @@ module _ (P : Asked) (R : Site) (frame : Frame) (from : FrameFrom P R frame)
       each_variable_from [] = tt
       each_variable_from (one ∷ variables) = (variable_from one, each_variable_from variables)
 
+    -- where an expression stands
+    module _ (place : Place) (stands : R.at place) (asks : Asks R place) where
+      -- of a mapping that it makes there nothing more is asked
+      given_there : (path : Origin) (atom : Option Value) →
+          Has (Calling P (made_at frame place) path) atom
+      given_there path None = tt
+      given_there path (Some one) = λ files. from.reads.asked place path.source one asks
+
+      asked_there : (head : Option Head) → Has (Begun P (made_at frame place)) head
+      asked_there None = tt
+      asked_there (Some head) = λ is. given_there head.path head.atom
+
+      parameters_from : SeenFrom P R (parameters_at frame place)
+      parameters_from =
+          made_object place stands _ (each_map (ParameterFrom P R) (PairFrom (Seen P R) P)
+          (parameter_pair frame place) (parameter_from place stands) frame.parameters
+          from.parameters) (asked_there _)
+
       variables_from : SeenFrom P R (variables_at frame place)
       variables_from =
-          made_object _ (each_variable_from frame.variables)
+          made_object place stands _ (each_variable_from place stands frame.variables)
+          (asked_there _)
 
       abbrev EntryFrom : Named → Type 0
       EntryFrom entry = SeenFrom P R entry.1
@@ -242,7 +275,8 @@ module _ (P : Asked) (R : Site) (frame : Frame) (from : FrameFrom P R frame)
           IfOk (told_at place (meant_by frame place read)) (SeenFrom P R)
       meant_from text (Ok expr) is =
           told_from (means (known_at frame place) (made_at frame place) expr)
-          (evaluated (Seen P R) P (made_at frame place) made_seen (made_told P frame place)
+          (evaluated (Seen P R) P (made_at frame place) (made_seen place stands)
+          (made_told P frame place)
           (known_at frame place) known_from Compile 50 expr (parses_given Compile text expr is))
       meant_from text (Err fault) is = tt
 

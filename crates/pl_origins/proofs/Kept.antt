@@ -23,14 +23,14 @@ use Rattle.pl_eval_laws.proofs.Lists.{each_implies, each_of}
 use Rattle.pl_eval_laws.specs.Trees.{origins_of}
 use Rattle.pl_eval_laws.proofs.Trees.{Asked, Marked, NodeFrom, node_implies, only}
 use Rattle.pl_origins.specs.Behind.{IsTreeThrough, KeepsWhatWasExtended}
-use Rattle.pl_origins.specs.Through.{extended_in, IsThrough}
+use Rattle.pl_origins.specs.Through.{extended_in}
 use Rattle.pl_origins.proofs.Called.{Borders, FileIn, OpensFrom, followed_gives}
 use Rattle.pl_origins.proofs.Expanded.{expanded_gives}
 use Rattle.pl_origins.proofs.Following.{FollowFrom}
 use Rattle.pl_origins.proofs.Frames.{Seen, SeenFrom, Keeps, Reads, FrameFrom, ParameterFrom}
 use Rattle.pl_origins.proofs.Leading.{leads_follow}
 use Rattle.pl_origins.proofs.Moved.{moved_from}
-use Rattle.pl_origins.proofs.Nodes.{Site, site, NodeIn, anywhere}
+use Rattle.pl_origins.proofs.Nodes.{Site, site, NodeIn, anywhere, nothing_said}
 use Rattle.pl_origins.proofs.Scalars.{OneFrom}
 use Rattle.pl_origins.proofs.Steps.{Used, Gives, implied}
 
@@ -64,6 +64,8 @@ pub silent_reads : (R : Site) (own : Origin → Type 0) → Reads R (only own)
 silent_reads R own = record {
   says = λ place said says. tt;
   default = λ place of before after says is. tt;
+  calls = λ at from text begins. tt;
+  asked = λ at from one asks. tt;
   keeps = silent_keeps;
 }
 
@@ -81,7 +83,7 @@ opens_anything opens = record {
   file =
       λ at path used. any_ok (λ both. FileIn NoPlace both.0)
       (λ both. any_ok (NodeIn (NoPlace both.0.key)) (anywhere (NoPlace both.0.key) (λ place. tt)
-      (λ place said. tt))
+      (nothing_said (λ place. Unit {0})))
       (file_node both.0.file))
       (opens at path used);
   used =
@@ -156,8 +158,10 @@ module _ (files : List FileKey) where
         SeenFrom Extending (NoPlace file) node
     seen_kept node all =
         node_implies Extending SeenThere Extending Extending
-        (λ origin is. (is, λ place stands. is)) (λ origin is. is) (λ origin said told. told) node
-        (leads_follow Extending Extending (λ item path is_item is_path. is_path) node all
+        (λ origin is. (is, λ place stands. is)) (λ origin is. is)
+        (λ item path one calls. calls) (λ origin said told. told) node
+        (leads_follow Extending Extending (λ item path is_item is_path. is_path)
+        (λ at from one. tt) node all
         (each_of (Marked Extending) (λ one files. tt) (marks_of node)))
 
     taken_kept :
@@ -175,7 +179,8 @@ module _ (files : List FileKey) where
           argument_kept name place origin seen.0,
           λ at stands. argument_kept name place origin seen.0,
         ))
-        (argument_kept name place) (λ item path. refl) (λ origin said own told files. tt) one
+        (argument_kept name place) (λ item path. refl) (λ item path one own calls files. tt)
+        (λ origin said own told files. tt) one
         (seen_kept one all)
     taken_kept false name at place one all = seen_kept one all
 
@@ -218,7 +223,7 @@ keeps file levels opens frame node region count used behind =
     (implied NoFiles (OneFrom (Extending (file ∷ [])) (NoPlace file))
     (λ one. IsTreeThrough file one.node) (Unit {0}) used step (λ one h held. held.0.0)
     (expanded_gives (Extending (file ∷ [])) (NoPlace file) NoFiles node
-    (anywhere (NoPlace file) (λ place. tt) (λ place said. tt) node) (Unit {0}) (followed levels
-    opens) frame region
+    (anywhere (NoPlace file) (λ place. tt) (nothing_said (λ place. Unit {0})) node) (Unit {0})
+    (followed levels opens) frame region
     count used (follow_kept (file ∷ []) levels opens)
     (λ h. frame_kept (file ∷ []) file frame behind.crossings behind.parameters behind.loops)))

@@ -1,5 +1,6 @@
 -- The calls that the mappings of a tree would be, where a predicate of its origins tells of them.
-use Rattle.std.proofs.Common.{ℕ, List, [], ◌∷◌, subst}
+use Rattle.std.proofs.Common.{ℕ, Option, Some, None, List, [], ◌∷◌, subst}
+use Rattle.pl_base.specs.declared.place.Place.{Place}
 use Rattle.std.specs.List.{AllByRecursion as Each}
 use Rattle.pl_base.specs.declared.origin.Origin.{Origin}
 use Rattle.pl_base.specs.declared.value.Value.{Value, roll-Value}
@@ -7,17 +8,26 @@ use Rattle.pl_base.specs.declared.value.Value.TheOpen.{Array, Object}
 use Rattle.pl_base.specs.declared.value.MarkedNode.{MarkedNode}
 use Rattle.pl_base.specs.declared.value.MarkedPair.{MarkedPair}
 use Rattle.pl_eval_laws.specs.Trees.{origins_of}
-use Rattle.pl_eval_laws.proofs.Leads.{Opened, lead, head_of, leads_of, opened_is}
-use Rattle.pl_eval_laws.proofs.Lists.{each_of}
+use Rattle.pl_eval_laws.proofs.Leads.{Opened, lead, head_of, leads_of, opened_is, Head}
+use Rattle.pl_eval_laws.proofs.Lists.{Has}
 use Rattle.pl_eval_laws.specs.Marks.{marks_of}
 use Rattle.pl_eval_laws.proofs.Trees.{Asked, Marked, node_told, pair_told}
 use Rattle.pl_eval_laws.proofs.Trees.{NodeFrom, ValueFrom, PairFrom, OpenedFrom, Any, node_from}
 use Rattle.pl_eval_laws.proofs.Trees.{pair_from, layer_from, node_parts, pair_parts, value_parts}
-use Rattle.pl_eval_laws.proofs.Trees.{head_from, led_from}
+use Rattle.pl_eval_laws.proofs.Trees.{head_from, led_from, Begun, Calling, nothing_led}
 use Rattle.pl_origins.proofs.Induction.{Parts, node_induction}
 
 module _ (P M : Asked)
-    (leads : (item path : Origin) → P.own item → P.own path → M.own (lead item path)) where
+    (leads : (item path : Origin) → P.own item → P.own path → M.own (lead item path))
+    (calls : (at from : Place) (one : Value) → M.calls at from one) where
+  begun_there : (item path : Origin) (atom : Option Value) → Has (Calling M item path) atom
+  begun_there item path None = tt
+  begun_there item path (Some one) = λ files. calls item.source path.source one
+
+  has_begun : (origin : Origin) (head : Option Head) → Has (Begun M origin) head
+  has_begun origin None = tt
+  has_begun origin (Some head) = λ is. begun_there origin head.path head.atom
+
   abbrev ValueClaim : Value → Type 0
   ValueClaim one = ValueFrom P Any one → ValueFrom P M one
 
@@ -54,8 +64,8 @@ module _ (P M : Asked)
       let parts = node_parts P Any node all in
       let below = claim parts.1 in
       node_from P M origin one parts.0 (node_told P Any node all) below
-      (led_from P.own M.own origin (λ path is. leads origin path parts.0 is) (head_of one)
-      (head_from P M one below))
+      (led_from P M origin (λ path is. leads origin path parts.0 is) (head_of one)
+      (head_from P M one below) (has_begun origin (head_of one)))
 
   of_pair :
       (key : List ℕ) (key_origin : Origin) (item : MarkedNode) → NodeClaim item →
@@ -70,4 +80,4 @@ module _ (P M : Asked)
   unfolding NodeFrom
   leads_follow node all marks =
       node_induction ValueClaim NodeClaim PairClaim of_layer of_node of_pair node
-      (all, (each_of Any.own (λ origin. tt) (leads_of node), marks))
+      (all, (nothing_led (leads_of node), marks))

@@ -3,11 +3,13 @@ pub mod Induction
 pub mod Leading
 pub mod Moved
 pub mod Nodes
+pub mod Plainly
 pub mod Frames
 pub mod Scalars
 pub mod Contents
 pub mod Bound
 pub mod Following
+pub mod Beginnings
 pub mod Expanded
 pub mod Called
 pub mod Kept

@@ -11,10 +11,11 @@ use Rattle.pl_base.specs.declared.value.Value.TheOpen.{Version, Str, Array, Obje
 use Rattle.pl_base.specs.declared.value.MarkedNode.{MarkedNode}
 use Rattle.pl_base.specs.declared.value.MarkedPair.{MarkedPair, fold-MarkedPair}
 use Rattle.pl_frame.specs.Trees.{moved, all_moved, moved_value, moved_node, moved_pair}
-use Rattle.pl_eval_laws.proofs.Leads.{Opened, lead, head_in, head_by, head_of, opened_is, rolled}
+use Rattle.pl_eval_laws.proofs.Leads.{Opened, lead, Head, head_at, head_in, head_by, head_of}
+use Rattle.pl_eval_laws.proofs.Leads.{opened_is, rolled, atom_by, atom_of}
 use Rattle.pl_eval_laws.specs.Marks.{Said, key as key_said, scalar}
-use Rattle.pl_eval_laws.proofs.Marks.{atom_by, atom_of}
 use Rattle.pl_eval_laws.proofs.Trees.{Asked, Told, Atom, node_told, pair_told}
+use Rattle.pl_eval_laws.proofs.Trees.{Calling, begun_implies}
 use Rattle.pl_eval_laws.proofs.Trees.{NodeFrom, ValueFrom, PairFrom, Led, node_from, pair_from}
 use Rattle.pl_eval_laws.proofs.Trees.{node_parts, node_led, pair_parts, value_parts, array_from}
 use Rattle.pl_eval_laws.proofs.Trees.{object_from, null_from, truth_from, number_from, text_from}
@@ -25,47 +26,9 @@ abbrev pair_moved : (Origin → Origin) → MarkedPair → MarkedPair
 pair_moved move =
     fold-MarkedPair Value MarkedNode MarkedPair moved_value (moved_node move) (moved_pair move)
 
--- ---- the first value of a mapping is moved
+-- ---- the first pair of a mapping is moved
 
 module _ (move : Origin → Origin) where
-  pair_moves : (pair : MarkedPair) → (pair_moved move pair).item.origin ≡ move pair.item.origin
-  pair_moves pair =
-      by pair.key pair.key_origin pair.item.origin pair.item.value
-    where
-      by : (key : List ℕ) (key_origin origin : Origin) (one : Value) →
-          (pair_moved move (record {
-            key = key;
-            key_origin = key_origin;
-            item = record { origin = origin; value = one };
-          })).item.origin ≡ move origin
-      by key key_origin origin one = search (rules, the_lemmas)
-
-  first_moves :
-      (pairs : List MarkedPair) →
-      head_in (map (pair_moved move) pairs) ≡ option_map move (head_in pairs)
-  first_moves [] = refl
-  first_moves (pair ∷ pairs) = ap (λ origin. Some origin) (pair_moves pair)
-
-  layer_head :
-      (layer : Opened) →
-      head_of (all_moved move (roll-Value layer)) ≡ option_map move (head_by layer)
-  layer_head Null = search (rules, the_lemmas)
-  layer_head (Truth truth) = search (rules, the_lemmas)
-  layer_head (Number number) = search (rules, the_lemmas)
-  layer_head (Version segments) = search (rules, the_lemmas)
-  layer_head (Str text) = search (rules, the_lemmas)
-  layer_head (Array items) = search (rules, the_lemmas)
-  layer_head (Object pairs) =
-      let is :
-      head_of (all_moved move (roll-Value (Object pairs)))
-      ≡ head_in (map (pair_moved move) pairs) =
-      search (rules, the_lemmas) in
-      is ∙ first_moves pairs
-
-  head_moves : (one : Value) → head_of (all_moved move one) ≡ option_map move (head_of one)
-  head_moves one =
-      ap (λ one. head_of (all_moved move one)) (sym (rolled one)) ∙ layer_head (out-Value one)
-
   layer_atom : (layer : Opened) → atom_of (all_moved move (roll-Value layer)) ≡ atom_by layer
   layer_atom Null = search (rules, the_lemmas)
   layer_atom (Truth truth) = search (rules, the_lemmas)
@@ -79,11 +42,65 @@ module _ (move : Origin → Origin) where
   atom_moves one =
       ap (λ one. atom_of (all_moved move one)) (sym (rolled one)) ∙ layer_atom (out-Value one)
 
+  abbrev head_moved : Head → Head
+  head_moved head = record { key = head.key; path = move head.path; atom = head.atom }
+
+  pair_moves : (pair : MarkedPair) → head_at (pair_moved move pair) ≡ head_moved (head_at pair)
+  pair_moves pair =
+      by pair.key pair.key_origin pair.item.origin pair.item.value
+    where
+      by : (key : List ℕ) (key_origin origin : Origin) (one : Value) →
+          head_at (pair_moved move (record {
+            key = key;
+            key_origin = key_origin;
+            item = record { origin = origin; value = one };
+          })) ≡ record { key = key; path = move origin; atom = atom_of one }
+      by key key_origin origin one =
+          let is :
+          head_at (pair_moved move (record {
+            key = key;
+            key_origin = key_origin;
+            item = record { origin = origin; value = one };
+          }))
+          ≡ record { key = key; path = move origin; atom = atom_of (all_moved move one) } =
+          search (rules, the_lemmas) in
+          is
+          ∙ ap (λ (atom : Option Value). record { key = key; path = move origin; atom = atom })
+          (atom_moves one)
+
+  first_moves :
+      (pairs : List MarkedPair) →
+      head_in (map (pair_moved move) pairs) ≡ option_map head_moved (head_in pairs)
+  first_moves [] = refl
+  first_moves (pair ∷ pairs) = ap (λ (head : Head). Some head) (pair_moves pair)
+
+  layer_head :
+      (layer : Opened) →
+      head_of (all_moved move (roll-Value layer)) ≡ option_map head_moved (head_by layer)
+  layer_head Null = search (rules, the_lemmas)
+  layer_head (Truth truth) = search (rules, the_lemmas)
+  layer_head (Number number) = search (rules, the_lemmas)
+  layer_head (Version segments) = search (rules, the_lemmas)
+  layer_head (Str text) = search (rules, the_lemmas)
+  layer_head (Array items) = search (rules, the_lemmas)
+  layer_head (Object pairs) =
+      let is :
+      head_of (all_moved move (roll-Value (Object pairs)))
+      ≡ head_in (map (pair_moved move) pairs) =
+      search (rules, the_lemmas) in
+      is ∙ first_moves pairs
+
+  head_moves : (one : Value) → head_of (all_moved move one) ≡ option_map head_moved (head_of one)
+  head_moves one =
+      ap (λ one. head_of (all_moved move one)) (sym (rolled one)) ∙ layer_head (out-Value one)
+
 -- P and Q are asked of origins, L and M of the calls that mappings would be
 module _ (P Q L M : Asked) (move : Origin → Origin)
     (moves : (origin : Origin) → P.own origin → Q.own (move origin))
     (leads : (origin : Origin) → L.own origin → M.own (move origin))
     (apart : (item path : Origin) → move (lead item path) ≡ lead (move item) (move path))
+    (calls : (item path : Origin) (one : Value) → L.own (lead item path) →
+    Calling L item path one → Calling M (move item) (move path) one)
     (tells : (origin : Origin) (said : Said) → P.own origin → Told P origin said →
     Told Q (move origin) said) where
   abbrev ValueMoves : Value → Type 0
@@ -101,10 +118,14 @@ module _ (P Q L M : Asked) (move : Origin → Origin)
   moved_each A B f [] all from = tt
   moved_each A B f (x ∷ xs) all from = (all.0 from.0, moved_each A B f xs all.1 from.1)
 
-  led_moves : (origin : Origin) (head : Option Origin) → Led L origin head →
-      Led M (move origin) (option_map move head)
+  led_moves : (origin : Origin) (head : Option Head) → Led L origin head →
+      Led M (move origin) (option_map (head_moved move) head)
   led_moves origin None led = tt
-  led_moves origin (Some path) led = subst M.own (apart origin path) (leads (lead origin path) led)
+  led_moves origin (Some head) led = (
+    subst M.own (apart origin head.path) (leads (lead origin head.path) led.0),
+    begun_implies L M origin (move origin) head.key head.path (move head.path) head.atom
+        (λ one. calls origin head.path one led.0) led.1,
+  )
 
   atom_told : (origin : Origin) (atom : Option Value) → P.own origin → Atom P origin atom →
       Atom Q (move origin) atom

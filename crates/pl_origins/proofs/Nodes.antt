@@ -1,6 +1,6 @@
 -- What holds of all places of a file's node, and of what is said there, by its parts.
-use Rattle.std.proofs.Common.{◌≡◌, ℕ, Bool, true, false, cond, Option, Some, None, List, []}
-use Rattle.std.proofs.Common.{◌∷◌, ◌++◌, map, refl, ap, sym, subst, ◌∙◌, rules}
+use Rattle.std.proofs.Common.{◌≡◌, ℕ, Bool, true, false, cond, Option, Some, List, []}
+use Rattle.std.proofs.Common.{◌∷◌, ◌++◌, map, refl, ap, ap₂, sym, subst, ◌∙◌, rules}
 use Rattle.std.specs.Option.{option_map_or, option_map}
 use Rattle.std.specs.Prelude.{find, codes}
 use Rattle.std.specs.List.{AllByRecursion as Each}
@@ -14,12 +14,14 @@ use Rattle.pl_base.specs.declared.value.Value.{Str}
 use Rattle.pl_literal.specs.Items.{is}
 use Rattle.pl_params.specs.Declaring.{name_of}
 use Rattle.pl_params.specs.Nodes.{text_in, text_of}
+use Rattle.pl_template.specs.Cutting.{holds_opening}
 use Rattle.pl_calls.specs.Parts.{Body, body_of, under}
 use Rattle.pl_eval_laws.specs.Marks.{Said, key as key_said, scalar}
 use Rattle.pl_eval_laws.proofs.Lists.{Has, has_map, each_append, each_found, each_front, each_back}
 use Rattle.pl_eval_laws.proofs.Lists.{each_of, each_implies}
 use Rattle.pl_origins.specs.Places.{Places, together, places_of, places_below, places_in}
-use Rattle.pl_origins.specs.Spots.{Spot, Spots, BodySpots, NodeSpots, PairSpots, items_together}
+use Rattle.pl_origins.specs.Spots.{Beginning, Written, says, begins, Spot, Spots, BodySpots}
+use Rattle.pl_origins.specs.Spots.{NodeSpots, PairSpots, items_together, first_in, IsTextOf}
 use Rattle.pl_origins.specs.Spots.{pairs_together, name_in, node_step, pair_step, node_seen}
 use Rattle.pl_origins.specs.Spots.{body_seen, pair_seen, spots_of, spot}
 
@@ -52,11 +54,20 @@ rolled body = search (rules, the_lemmas)
 
 -- ---- what is said, by the parts of a node
 
+-- a pair as a mapping may begin with it
+abbrev pub beginning_of : NodePair → Beginning
+beginning_of pair =
+    record { key = pair.key; place = pair.item.place; text = text_of pair.item }
+
+abbrev pub firsts_of : List NodePair → List Written
+firsts_of [] = []
+firsts_of (pair ∷ pairs) = begins (beginning_of pair) ∷ []
+
 -- what a node of that body says where it stands
-abbrev pub said_in : Body → List Said
-said_in (Scalar text) = scalar (Str text) ∷ []
+abbrev pub said_in : Body → List Written
+said_in (Scalar text) = says (scalar (Str text)) ∷ []
 said_in (Seq items) = []
-said_in (Map pairs) = key_said (name_of pairs) ∷ []
+said_in (Map pairs) = says (key_said (name_of pairs)) ∷ firsts_of pairs
 
 abbrev spots_in : NodePair → Spots
 spots_in pair = (pair_seen pair).spots
@@ -76,11 +87,12 @@ unfolding node_seen pair_seen
 pair_is key key_place item = search (rules, the_lemmas)
 
 abbrev layer_seen : Body → BodySpots
-layer_seen (Scalar text) = record { says = scalar (Str text) ∷ []; text = text; spots = [] }
+layer_seen (Scalar text) =
+    record { written = says (scalar (Str text)) ∷ []; text = text; spots = [] }
 layer_seen (Seq items) =
-    record { says = []; text = []; spots = items_together (map node_seen items) }
+    record { written = []; text = []; spots = items_together (map node_seen items) }
 layer_seen (Map pairs) = record {
-  says = key_said (name_in (map pair_seen pairs)) ∷ [];
+  written = says (key_said (name_in (map pair_seen pairs))) ∷ first_in (map pair_seen pairs);
   text = [];
   spots = pairs_together (map pair_seen pairs);
 }
@@ -105,44 +117,62 @@ node_text node =
     ∙ (ap (λ (seen : BodySpots). seen.text) (body_is node.body)
     ∙ layer_text (out-NodeBody node.body))
 
-pair_key : (pair : NodePair) → (pair_seen pair).key ≡ pair.key
-pair_key pair = ap (λ (seen : PairSpots). seen.key) (pair_is pair.key pair.key_place pair.item)
+node_place : (node : Node) → (node_seen node).place ≡ node.place
+node_place node = ap (λ (seen : NodeSpots). seen.place) (node_is node.place node.body)
 
-pair_text : (pair : NodePair) → (pair_seen pair).text ≡ text_of pair.item
+pair_key : (pair : NodePair) → (pair_seen pair).begins.key ≡ pair.key
+pair_key pair =
+    ap (λ (seen : PairSpots). seen.begins.key) (pair_is pair.key pair.key_place pair.item)
+
+pair_text : (pair : NodePair) → (pair_seen pair).begins.text ≡ text_of pair.item
 pair_text pair =
-    ap (λ (seen : PairSpots). seen.text) (pair_is pair.key pair.key_place pair.item)
+    ap (λ (seen : PairSpots). seen.begins.text) (pair_is pair.key pair.key_place pair.item)
     ∙ node_text pair.item
 
+pair_begins : (pair : NodePair) → (pair_seen pair).begins ≡ beginning_of pair
+pair_begins pair =
+    ap (λ (seen : PairSpots). seen.begins) (pair_is pair.key pair.key_place pair.item)
+    ∙ ap₂ (λ (place : Place) (text : List ℕ). record { key = pair.key; place = place; text = text })
+    (node_place pair.item) (node_text pair.item)
+
+firsts_are : (pairs : List NodePair) → first_in (map pair_seen pairs) ≡ firsts_of pairs
+firsts_are [] = refl
+firsts_are (pair ∷ pairs) = ap (λ one. begins one ∷ []) (pair_begins pair)
+
 abbrev found_seen : List NodePair → Option PairSpots
-found_seen pairs = find (λ (pair : PairSpots). is pair.key (codes "name")) (map pair_seen pairs)
+found_seen pairs =
+    find (λ (pair : PairSpots). is pair.begins.key (codes "name")) (map pair_seen pairs)
 
 names_are : (pairs : List NodePair) → name_in (map pair_seen pairs) ≡ name_of pairs
 unfolding name_in
 names_are [] = refl
 names_are (pair ∷ pairs) =
-    ap (λ name. option_map_or (λ (pair : PairSpots). pair.text) (cond (is name (codes "name"))
+    ap (λ name. option_map_or (λ (pair : PairSpots). pair.begins.text)
+    (cond (is name (codes "name"))
     (Some (pair_seen pair)) (found_seen pairs)) []) (pair_key pair)
     ∙ by (is pair.key (codes "name")) (names_are pairs)
   where
     by : (b : Bool) →
-        option_map_or (λ (pair : PairSpots). pair.text) (found_seen pairs) []
+        option_map_or (λ (pair : PairSpots). pair.begins.text) (found_seen pairs) []
         ≡ option_map_or text_of (option_map (λ (pair : NodePair). pair.item)
         (find (λ (pair : NodePair). is pair.key (codes "name")) pairs)) [] →
-        option_map_or (λ (pair : PairSpots). pair.text)
+        option_map_or (λ (pair : PairSpots). pair.begins.text)
         (cond b (Some (pair_seen pair)) (found_seen pairs)) []
         ≡ option_map_or text_of (option_map (λ (pair : NodePair). pair.item) (cond b (Some pair)
         (find (λ (pair : NodePair). is pair.key (codes "name")) pairs))) []
     by true rest = pair_text pair
     by false rest = rest
 
-layer_says : (layer : Body) → (layer_seen layer).says ≡ said_in layer
+layer_says : (layer : Body) → (layer_seen layer).written ≡ said_in layer
 layer_says (Scalar text) = refl
 layer_says (Seq items) = refl
-layer_says (Map pairs) = ap (λ name. key_said name ∷ []) (names_are pairs)
+layer_says (Map pairs) =
+    ap₂ (λ (name : List ℕ) (first : List Written). says (key_said name) ∷ first) (names_are pairs)
+    (firsts_are pairs)
 
-says_are : (body : NodeBody) → (body_seen body).says ≡ said_in (out-NodeBody body)
+says_are : (body : NodeBody) → (body_seen body).written ≡ said_in (out-NodeBody body)
 says_are body =
-    ap (λ (seen : BodySpots). seen.says) (body_is body) ∙ layer_says (out-NodeBody body)
+    ap (λ (seen : BodySpots). seen.written) (body_is body) ∙ layer_says (out-NodeBody body)
 
 abbrev layer_spots : Body → Spots
 layer_spots (Scalar text) = []
@@ -164,13 +194,13 @@ node_spots :
     ≡ map (spot place) (said_in (out-NodeBody body)) ++ layer_spots (out-NodeBody body)
 node_spots place body =
     ap (λ (seen : NodeSpots). seen.spots) (node_is place body)
-    ∙ (ap (λ says. map (spot place) says ++ (body_seen body).spots) (says_are body)
+    ∙ (ap (λ written. map (spot place) written ++ (body_seen body).spots) (says_are body)
     ∙ ap (λ spots. map (spot place) (said_in (out-NodeBody body)) ++ spots) (spots_below body))
 
 pair_spots :
     (key : List ℕ) (key_place : Place) (item : Node) →
     spots_in (record { key = key; key_place = key_place; item = item })
-    ≡ spot key_place (key_said key) ∷ spots_of item
+    ≡ spot key_place (says (key_said key)) ∷ spots_of item
 pair_spots key key_place item =
     ap (λ (seen : PairSpots). seen.spots) (pair_is key key_place item)
 
@@ -179,13 +209,30 @@ pair_spots key key_place item =
 pub record Site : Type 1 where
   pub at : Place → Type 0
   pub says : Place → Said → Type 0
+  pub begins : Place → Beginning → Type 0
 
 -- the same of each place, whatever is said there
 abbrev pub site : (Place → Type 0) → Site
-site at = record { at = at; says = λ place said. Unit {0} }
+site at = record {
+  at = at;
+  says = λ place said. Unit {0};
+  begins = λ place first. Unit {0};
+}
+
+abbrev pub Stood : Site → Place → Written → Type 0
+Stood R place (says said) = R.says place said
+Stood R place (begins first) = R.begins place first
 
 abbrev pub Spotted : Site → Spot → Type 0
-Spotted R one = R.says one.place one.said
+Spotted R one = Stood R one.place one.written
+
+-- an expression stands at a place
+pub record Asks (R : Site) (place : Place) : Type 0 where
+  pub text : List ℕ
+  pub written : Written
+  pub is_in : IsTextOf text written
+  pub stands : Stood R place written
+  pub expression : holds_opening text ≡ true
 
 unfoldable pub NodeIn : Site → Node → Type 0
 NodeIn R node = Each R.at (places_of node) × Each (Spotted R) (spots_of node)
@@ -205,10 +252,10 @@ both A B [] left right = tt
 both A B (x ∷ xs) left right = ((left.0, right.0), both A B xs left.1 right.1)
 
 each_said :
-    (R : Site) (place : Place) (says : List Said) → Each (Spotted R) (map (spot place) says) →
-    Each (R.says place) says
-each_said R place [] all = tt
-each_said R place (one ∷ says) all = (all.0, each_said R place says all.1)
+    (R : Site) (place : Place) (all : List Written) → Each (Spotted R) (map (spot place) all) →
+    Each (Stood R place) all
+each_said R place [] stand = tt
+each_said R place (one ∷ all) stand = (stand.0, each_said R place all stand.1)
 
 module _ (R : Site) where
   apart_in :
@@ -257,7 +304,8 @@ module _ (R : Site) where
   node_in node all =
       let parts = subst (Each R.at) (node_places node.place node.body) all.0 in
       let below : Each R.at (places_below (roll-NodeBody (out-NodeBody node.body))) =
-      subst (λ (body : NodeBody). Each R.at (places_below body)) (sym (rolled node.body)) parts.1 in (
+      subst (λ (body : NodeBody). Each R.at (places_below body)) (sym (rolled node.body))
+      parts.1 in (
         parts.0,
         layer_in (out-NodeBody node.body)
             (subst (Each R.at) (body_places (out-NodeBody node.body)) below)
@@ -267,7 +315,7 @@ module _ (R : Site) where
       )
 
   -- what a node says where it stands
-  pub node_says : (node : Node) → NodeIn R node → Each (R.says node.place) (said_in (body_of node))
+  pub node_says : (node : Node) → NodeIn R node → Each (Stood R node.place) (said_in (body_of node))
   unfolding NodeIn
   node_says node all =
       each_said R node.place (said_in (out-NodeBody node.body))
@@ -296,20 +344,26 @@ module _ (R : Site) where
       (find (λ pair. is pair.key key) pairs)
       (each_found (PairIn R) (λ pair. is pair.key key) pairs all)
 
-  pub anywhere : ((place : Place) → R.at place) → ((place : Place) (said : Said) → R.says place
-      said) →
+  pub anywhere : ((place : Place) → R.at place) →
+      ((place : Place) (written : Written) → Stood R place written) →
       (node : Node) → NodeIn R node
   unfolding NodeIn
-  anywhere all says node = (
+  anywhere all stands node = (
     each_of R.at all (places_of node),
-    each_of (Spotted R) (λ one. says one.place one.said) (spots_of node),
+    each_of (Spotted R) (λ one. stands one.place one.written) (spots_of node),
   )
+
+-- where nothing is asked of what is said
+pub nothing_said : (at : Place → Type 0) (place : Place) (written : Written) →
+    Stood (site at) place written
+nothing_said at place (says said) = tt
+nothing_said at place (begins first) = tt
 
 -- ---- and the other way, of places alone: of the parts, so of the node
 
 module _ (A : Place → Type 0) where
   all_spots : (spots : Spots) → Each (Spotted (site A)) spots
-  all_spots = each_of (Spotted (site A)) (λ one. tt)
+  all_spots = each_of (Spotted (site A)) (λ one. nothing_said A one.place one.written)
 
   together_in :
       {X : Type 0} (f : X → Places) (xs : List X) → Each (λ x. Each A (f x)) xs →

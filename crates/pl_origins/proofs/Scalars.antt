@@ -1,5 +1,5 @@
 -- Scalars, keys and what keys ask for, in a frame.
-use Rattle.std.proofs.Common.{◌≡◌, ℕ, Bool, true, false, Option, Some, None, List, [], subst}
+use Rattle.std.proofs.Common.{◌≡◌, ℕ, Bool, true, false, Option, Some, None, List, [], refl, subst}
 use Rattle.std.specs.Prelude.{IfOk, codes}
 use Rattle.std.specs.List.{AllByRecursion as Each}
 use Rattle.pl_base.specs.declared.origin.Origin.{Origin}
@@ -34,23 +34,26 @@ use Rattle.pl_directives.specs.Keys.{key_from, key_pieces_behind, key_by}
 use Rattle.pl_directives.specs.Scalars.{value_at, truth_at, one_more, counted_value_at}
 use Rattle.pl_directives.specs.Scalars.{pieces_behind, scalar_by, scalar_value}
 use Rattle.pl_directives.specs.Strays.{given_stray, unless_stray, given_value}
-use Rattle.pl_eval_laws.proofs.Leads.{Opened, head_of}
+use Rattle.pl_eval_laws.proofs.Leads.{Opened, head_of, atom_by, atom_of}
 use Rattle.pl_eval_laws.specs.Marks.{key as key_said, scalar}
-use Rattle.pl_eval_laws.proofs.Marks.{atom_by, atom_of, atom_value}
+use Rattle.pl_eval_laws.proofs.Marks.{atom_value}
 use Rattle.pl_eval_laws.proofs.Lists.{Has, each_map}
 use Rattle.pl_eval_laws.proofs.Trees.{Asked, Told, Atom, node_told, pair_told}
 use Rattle.pl_eval_laws.proofs.Trees.{NodeFrom, PairFrom, OpenedFrom, pair_from, text_node}
 use Rattle.pl_eval_laws.proofs.Trees.{node_parts, pair_parts, value_parts, head_from, node_implies}
+use Rattle.pl_eval_laws.proofs.Trees.{HeadOwn}
 use Rattle.pl_origins.proofs.Frames.{Seen, SeenFrom, FrameFrom, literal_seen, made_seen}
 use Rattle.pl_origins.proofs.Frames.{made_object, value_from, made_told, Keeps}
-use Rattle.pl_origins.proofs.Nodes.{Site}
+use Rattle.pl_origins.proofs.Nodes.{Site, Asks}
+use Rattle.pl_origins.proofs.Plainly.{by_scalar, by_key, asks_unless, key_asks_unless}
 use Rattle.pl_origins.proofs.Steps.{ok_then, any_then}
 
 -- What stands in a frame's place: calls that it holds gave what isn't seen in the frame, but its
 -- own origin is, and the one of its first value.
 abbrev pub HeldFrom : Asked → Site → MarkedNode → Type 0
 HeldFrom P R node =
-    NodeFrom P P node × ((Seen P R).own node.origin × Has (Seen P R).own (head_of node.value))
+    NodeFrom P P node
+    × ((Seen P R).own node.origin × Has (HeadOwn (Seen P R)) (head_of node.value))
 
 abbrev pub OneFrom : Asked → Site → Counted → Type 0
 OneFrom P R one = HeldFrom P R one.node
@@ -73,7 +76,7 @@ module _ (P : Asked) (R : Site) where
   pub seen_tree : (node : MarkedNode) → SeenFrom P R node → NodeFrom P P node
   seen_tree =
       node_implies (Seen P R) P P P (λ origin seen. seen.0) (λ origin is. is)
-      (λ origin said told. told)
+      (λ item path one calls. calls) (λ origin said told. told)
 
   pub seen_held : (node : MarkedNode) → SeenFrom P R node → HeldFrom P R node
   seen_held node all =
@@ -103,35 +106,42 @@ cast_told P keeps origin one (Some atom) is told =
 
 module _ (P : Asked) (R : Site) (frame : Frame) (from : FrameFrom P R frame)
     (place : Place) (stands : R.at place) where
+  -- `key` is another key than `template`
+  no_template : codes "key" ≡ codes "template" → ⊥
+  no_template is = absurd (cc)
+
   -- ---- scalars
 
   pub counted_value_from :
-      (text : List ℕ) (count : ℕ) → IfOk (counted_value_at frame place text count) (SeenOne P R)
-  counted_value_from text count =
+      Asks R place → (text : List ℕ) (count : ℕ) →
+      IfOk (counted_value_at frame place text count) (SeenOne P R)
+  counted_value_from asks text count =
       ok_then (SeenFrom P R) (SeenOne P R) (value_at frame place text) (one_more place count)
-      (value_from P R frame from place stands text)
+      (value_from P R frame from place stands asks text)
       (λ node all. any_then (SeenOne P R) (counted place (nodes_in node) count) _ (λ count. all))
 
   scalar_from :
-      (form : ScalarForm) (text : List ℕ) → R.says place (scalar (Str text)) → (count : ℕ) →
-      IfOk (scalar_by form text frame place count) (SeenOne P R)
-  scalar_from Plain text says count =
+      (form : ScalarForm) (text : List ℕ) → form_of text ≡ form → R.says place (scalar (Str text)) →
+      (count : ℕ) → IfOk (scalar_by form text frame place count) (SeenOne P R)
+  scalar_from Plain text is says count =
       text_seen P R (literal_at frame place) text (literal_seen P R frame from place stands)
       (λ files. from.reads.says place (scalar (Str text)) says)
-  scalar_from (Whole inside) text says count = counted_value_from inside count
-  scalar_from (Joined pieces) text says count =
+  scalar_from (Whole inside) text is says count =
+      counted_value_from (by_scalar R place text (asks_unless text (Whole inside) is tt) says)
+      inside count
+  scalar_from (Joined pieces) text is says count =
       any_then (SeenOne P R)
       (pieces_behind frame place pieces (record { text = []; count = count }))
       _ (λ joined. text_seen P R (made_at frame place) joined.text
       (made_seen P R frame from place stands)
       (made_told P frame place (scalar (Str joined.text))))
-  scalar_from Unclosed text says count = tt
+  scalar_from Unclosed text is says count = tt
 
   pub scalar_value_from :
       (text : List ℕ) → R.says place (scalar (Str text)) → (count : ℕ) →
       IfOk (scalar_value text frame place count) (SeenOne P R)
   scalar_value_from text says count =
-      any_then (SeenOne P R) (entered place count) _ (scalar_from (form_of text) text says)
+      any_then (SeenOne P R) (entered place count) _ (scalar_from (form_of text) text refl says)
 
   pub given_value_from :
       (text : List ℕ) → R.says place (scalar (Str text)) → (count : ℕ) (region : Region)
@@ -156,18 +166,19 @@ module _ (P : Asked) (R : Site) (frame : Frame) (from : FrameFrom P R frame)
   atom_key (layer.Version segments) node own told = (own, told)
   atom_key (layer.Str text) node own told = (own, told)
 
-  pub key_by_from : (made : ScalarForm) → IfOk (key_by made frame place) (KeyFrom P R)
-  key_by_from (Whole inside) =
+  pub key_by_from : (made : ScalarForm) → Asks R place →
+      IfOk (key_by made frame place) (KeyFrom P R)
+  key_by_from (Whole inside) asks =
       ok_then (SeenFrom P R) (KeyFrom P R) (value_at frame place inside) _
-      (value_from P R frame from place stands inside)
+      (value_from P R frame from place stands asks inside)
       (λ node all. atom_key (out-Value node.value) node (node_parts (Seen P R) P node all).0
       (cast_told P from.reads.keeps node.origin node.value (atom_of node.value)
       (atom_value node.value) (node_told (Seen P R) P node all)))
-  key_by_from (Joined pieces) =
+  key_by_from (Joined pieces) asks =
       any_then (KeyFrom P R) (key_pieces_behind frame place pieces []) _
       (λ text. (made_seen P R frame from place stands, made_told P frame place (key_said text)))
-  key_by_from Plain = tt
-  key_by_from Unclosed = tt
+  key_by_from Plain asks = tt
+  key_by_from Unclosed asks = tt
 
   -- ---- what a key asks for
 
@@ -205,7 +216,7 @@ module _ (P : Asked) (R : Site) (frame : Frame) (from : FrameFrom P R frame)
               (made_told P frame place (key_said (codes "value"))) parts.1,
           tt,
         ),
-      )
+      ) (λ is. absurd (no_template is))
 
   items_from :
       (opened : Opened) (name : List ℕ) (count : ℕ) → OpenedFrom (Seen P R) P opened →
@@ -221,35 +232,40 @@ module _ (P : Asked) (R : Site) (frame : Frame) (from : FrameFrom P R frame)
   items_from (layer.Str text) name count all = tt
 
   each_from :
-      (name text : List ℕ) (count : ℕ) →
+      Asks R place → (name text : List ℕ) (count : ℕ) →
       IfOk (each_asks frame place name text count) (ActionFrom P R)
-  each_from name text count =
+  each_from asks name text count =
       ok_then (SeenOne P R) (ActionFrom P R) (counted_value_at frame place text count) _
-      (counted_value_from text count)
+      (counted_value_from asks text count)
       (λ one all. items_from (out-Value one.node.value) name one.count
       (value_parts (Seen P R) P one.node.value (node_parts (Seen P R) P one.node all).1))
 
-  computed_from : (made : ScalarForm) → IfOk (computed_asks made frame place) (ActionFrom P R)
-  computed_from made =
-      ok_then (KeyFrom P R) (ActionFrom P R) (key_by made frame place) _ (key_by_from made)
+  computed_from : Asks R place → (made : ScalarForm) →
+      IfOk (computed_asks made frame place) (ActionFrom P R)
+  computed_from asks made =
+      ok_then (KeyFrom P R) (ActionFrom P R) (key_by made frame place) _ (key_by_from made asks)
       (λ made own. own)
 
   asks_from :
-      (asked : KeyForm) (key : List ℕ) → R.says place (key_said key) → (chain : Chain)
-      (count : ℕ) → IfOk (asks asked key frame place chain count) (ActionFrom P R)
-  asks_from form.Plain key says chain count = (
+      (asked : KeyForm) (key : List ℕ) → key_form_of key ≡ asked → R.says place (key_said key) →
+      (chain : Chain) (count : ℕ) → IfOk (asks asked key frame place chain count) (ActionFrom P R)
+  asks_from form.Plain key is says chain count = (
     literal_seen P R frame from place stands,
     λ files. from.reads.says place (key_said key) says,
   )
-  asks_from (form.Computed made) key says chain count = computed_from made
-  asks_from (form.If text) key says chain count = if_from text
-  asks_from (form.ElseIf text) key says chain count = elseif_from chain text
-  asks_from form.Else key says chain count = else_from chain
-  asks_from (form.Each name text) key says chain count = each_from name text count
-  asks_from form.Insert key says chain count = tt
-  asks_from form.Bad key says chain count = tt
+  asks_from (form.Computed made) key is says chain count =
+      computed_from (by_key R place key (key_asks_unless key (form.Computed made) is tt) says) made
+  asks_from (form.If text) key is says chain count = if_from text
+  asks_from (form.ElseIf text) key is says chain count = elseif_from chain text
+  asks_from form.Else key is says chain count = else_from chain
+  asks_from (form.Each name text) key is says chain count =
+      each_from
+      (by_key R place key (key_asks_unless key (form.Each name text) is tt) says) name text
+      count
+  asks_from form.Insert key is says chain count = tt
+  asks_from form.Bad key is says chain count = tt
 
   pub key_asks_from :
       (key : List ℕ) → R.says place (key_said key) → (chain : Chain) (count : ℕ) →
       IfOk (key_asks key frame place chain count) (ActionFrom P R)
-  key_asks_from key says chain count = asks_from (key_form_of key) key says chain count
+  key_asks_from key says chain count = asks_from (key_form_of key) key refl says chain count

@@ -20,7 +20,7 @@ use Rattle.pl_eval_laws.specs.Trees.{origins_of, origins_in}
 use Rattle.pl_eval_laws.proofs.Leads.{Opened, leads_of}
 use Rattle.pl_eval_laws.proofs.Lists.{each_append, each_back, each_front, each_implies, each_of}
 use Rattle.pl_eval_laws.proofs.Lists.{each_contained}
-use Rattle.pl_eval_laws.proofs.Trees.{Asked as Wanted, Marked, only}
+use Rattle.pl_eval_laws.proofs.Trees.{Asked as Wanted, Marked, nothing_led, only}
 use Rattle.pl_eval_laws.proofs.Trees.{NodeFrom, PairFrom, OpenedFrom, Any, node_parts, value_parts}
 use Rattle.pl_origins.specs.Through.{extended_in}
 use Rattle.pl_origins.proofs.Called.{Borders}
@@ -302,7 +302,7 @@ jobs_told tree =
     let whole : NodeFrom Told Any tree = (
       each_contained (origins_of tree),
       (
-        each_of Any.own (λ origin. tt) (leads_of tree),
+        nothing_led (leads_of tree),
         each_of (Marked Told) (λ one files. tt) (marks_of tree),
       ),
     ) in

@@ -57,7 +57,7 @@ use Rattle.pl_origins.proofs.Expanded.{path_from, part_from, entry_from, expande
 use Rattle.pl_origins.proofs.Following.{FollowFrom}
 use Rattle.pl_origins.proofs.Frames.{Seen, Reads, FrameFrom}
 use Rattle.pl_origins.proofs.Nodes.{Site, NodeIn, PairIn, BodyIn, node_in, node_says, pair_in}
-use Rattle.pl_origins.proofs.Nodes.{said_in, under_in}
+use Rattle.pl_origins.proofs.Nodes.{said_in, under_in, Stood}
 use Rattle.pl_origins.proofs.Scalars.{OneFrom, SeenOne, scalar_value_from, seen_tree}
 use Rattle.pl_origins.proofs.Steps.{Gives, any_then, ok_then, plain_then, static_then, first_then}
 use Rattle.pl_origins.proofs.Steps.{used_then, used_static_then, alone_gives, done_gives, given}
@@ -454,7 +454,7 @@ module _ (P : Wanted) (T : FileKey → Wanted) (R : FileKey → Site)
 
     extended_by_gives :
         (body : Body) (node : Node) (count : ℕ) (used : List FileKey) → NodeIn (R root) node →
-        Each ((R root).says node.place) (said_in body) → BodyIn (R root) body →
+        Each (Stood (R root) node.place) (said_in body) → BodyIn (R root) body →
         Gives U H used (extended_by body opens key node frame count used) (ExtensionFrom T)
     extended_by_gives (Map pairs) node count used within says inside_it =
         pairs_extend (are_plain pairs) node pairs count used within inside_it

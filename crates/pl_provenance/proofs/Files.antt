@@ -14,11 +14,11 @@ use Rattle.pl_calls.specs.declared.reaching.Home.{Home}
 use Rattle.pl_calls.specs.declared.reaching.Opened.{Opened as OpenedFile}
 use Rattle.pl_yaml.specs.declared.fault.YamlFault.TheVariants as yaml_faults
 use Rattle.pl_origins.specs.Places.{places_of}
-use Rattle.pl_origins.specs.Spots.{spots_of}
+use Rattle.pl_origins.specs.Spots.{Written, says, begins, spots_of}
 use Rattle.pl_eval_laws.proofs.Lists.{each_implies, each_contained}
 use Rattle.pl_origins.proofs.Called.{FileIn, OpensFrom}
 use Rattle.pl_origins.proofs.Kept.{any_ok, NoFile, NoFiles}
-use Rattle.pl_origins.proofs.Nodes.{Site, Spotted, NodeIn}
+use Rattle.pl_origins.proofs.Nodes.{Site, Stood, Spotted, NodeIn}
 use Rattle.pl_origins.proofs.Steps.{Used, any_then}
 use Rattle.pl_expand.specs.Tree.{Set, root_node}
 use Rattle.pl_provenance.specs.Texts.{IsSpot}
@@ -26,7 +26,21 @@ use Rattle.pl_provenance.specs.Written.{StandsInFile}
 
 -- what stands in a file, and what it says there
 abbrev pub IsIn : Set → FileKey → Site
-IsIn files key = record { at = StandsInFile files key; says = IsSpot files }
+IsIn files key = record {
+  at = StandsInFile files key;
+  says = λ place said. IsSpot files place (says said);
+  begins = λ place first. IsSpot files place (begins first);
+}
+
+spot_stands : (files : Set) (key : FileKey) (place : Place) (written : Written) →
+    IsSpot files place written → Stood (IsIn files key) place written
+spot_stands files key place (says said) is = is
+spot_stands files key place (begins first) is = is
+
+pub stood_is : (files : Set) (key : FileKey) (place : Place) (written : Written) →
+    Stood (IsIn files key) place written → IsSpot files place written
+stood_is files key place (says said) is = is
+stood_is files key place (begins first) is = is
 
 module _ (files : Set) where
   node_stands :
@@ -38,8 +52,12 @@ module _ (files : Set) where
         (λ place stands. record { node = node; file = is; stands = stands }) (places_of node)
         (each_contained (places_of node)),
     each_implies (Contains (spots_of node)) (Spotted (IsIn files key))
-        (λ one says. record { key = key; node = node; file = is; says = says }) (spots_of node)
-        (each_contained (spots_of node)),
+        (λ one stands. spot_stands files key one.place one.written (record {
+          key = key;
+          node = node;
+          file = is;
+          stands = stands;
+        })) (spots_of node) (each_contained (spots_of node)),
   )
   node_stands key (Bad (yaml_faults.Refused code place)) is = tt
   node_stands key (Bad yaml_faults.Memory) is = tt

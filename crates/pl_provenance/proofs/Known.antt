@@ -1,14 +1,12 @@
 -- Every origin of an expanded tree tells places that exist.
 use Rattle.std.proofs.Common.{◌≡◌, inl, inr, ℕ, zero, suc, ◌<◌, Bool, true, false, cond}
 use Rattle.std.proofs.Common.{Option, Some, None, Result, Ok, Err, List, [], ◌∷◌, ◌++◌, length}
-use Rattle.std.proofs.Common.{refl, sym, subst, ap₂, arith}
-use Rattle.std.specs.Prelude.{Contains, IfOk, codes, filter, not, nat_eq, nat_le, ◌||◌}
+use Rattle.std.proofs.Common.{refl, sym, subst, arith}
+use Rattle.std.specs.Prelude.{Contains, IfOk, codes, filter, not, nat_le, ◌||◌}
 use Rattle.std.specs.List.{slice_index_or}
 use Rattle.std.specs.FinMap as finite
-use Rattle.std.specs.Cmp.Lexicographic.{pointwise}
 use Rattle.std.specs.List.{AllByRecursion as Each}
 use Rattle.std.proofs.lemmas.Bool.{false≢true, and_parts}
-use Rattle.std.proofs.lemmas.Bool.Decides.{nat_tests}
 use Rattle.pl_base.specs.declared.expanded.Argument.{Argument as RunArgument}
 use Rattle.pl_base.specs.declared.expanded.Expanded.{Expanded}
 use Rattle.pl_base.specs.declared.node.Node.{Node}
@@ -49,9 +47,11 @@ use Rattle.pl_origins.specs.Spots.{spots_of}
 use Rattle.pl_origins.proofs.Called.{Borders, OpensFrom, followed_gives}
 use Rattle.pl_origins.proofs.Contents.{ProgressFrom}
 use Rattle.pl_origins.proofs.Expanded.{expanded_gives}
-use Rattle.pl_origins.proofs.Frames.{Seen, Keeps, Reads, ParameterFrom}
+use Rattle.pl_origins.proofs.Frames.{Seen, Reads, ParameterFrom}
 use Rattle.pl_origins.proofs.Nodes.{Site, site, Spotted, NodeIn, PairIn, BodyIn, node_in}
+use Rattle.pl_origins.proofs.Nodes.{nothing_said}
 use Rattle.pl_origins.proofs.Nodes.{under_in}
+use Rattle.pl_origins.proofs.Plainly.{same_text}
 use Rattle.pl_origins.proofs.Scalars.{OneFrom}
 use Rattle.pl_origins.proofs.Steps.{Used, Gives, ok_then, static_then, used_then}
 use Rattle.pl_origins.proofs.Steps.{done_gives}
@@ -66,10 +66,10 @@ use Rattle.pl_root.specs.Frames.{first_frame}
 use Rattle.pl_expand.specs.Tree.{root_from, root_object, root_mapping, pairs_expanded, home_of}
 use Rattle.pl_expand.specs.Tree.{bare_home, used_files, mapping_expanded, bare_expanded}
 use Rattle.pl_expand.specs.Tree.{other_expanded, body_expanded_by, root_node, tree_of}
-use Rattle.pl_provenance.specs.Known.{IsUsed, IsGiven, IsPlace, IsUsedFile, IsReached, IsBorder}
-use Rattle.pl_provenance.specs.Known.{Leads, home_in, IsKnown, OriginsAreKnown}
+use Rattle.pl_provenance.specs.Known.{IsUsed, IsGiven, IsPlace, IsUsedFile, IsBorder}
+use Rattle.pl_provenance.specs.Known.{IsCalling, Leads, home_in, IsKnown, OriginsAreKnown}
 use Rattle.pl_provenance.specs.Texts.{Says, IsSaid, TextsAreWritten}
-use Rattle.pl_provenance.proofs.Saying.{saying_keeps, saying_reads}
+use Rattle.pl_provenance.proofs.Saying.{Calls, saying_keeps, saying_reads}
 use Rattle.pl_provenance.specs.Written.{StandsInFile}
 use Rattle.pl_provenance.proofs.Extended.{ExtendsBorder, ExtensionFrom}
 use Rattle.pl_provenance.proofs.Merged.{object_from_root}
@@ -88,15 +88,6 @@ pub later_in : {X : Type 0} (first : X) (xs : List X) (x : X) → Contains xs x 
 later_in first xs x (at, within, is) = (suc at, omega (arith, within), is)
 
 -- ---- one file
-
-same_text : (xs ys : List ℕ) → pointwise nat_eq xs ys ≡ true → xs ≡ ys
-same_text [] [] same = refl
-same_text [] (y ∷ ys) same = absurd (false≢true same)
-same_text (x ∷ xs) [] same = absurd (false≢true same)
-same_text (x ∷ xs) (y ∷ ys) same =
-    let parts = and_parts (nat_eq x y) (pointwise nat_eq xs ys) same in
-    let head : x ≡ y = grind (arith, nat_tests, parts.0) in
-    ap₂ (λ (z : ℕ) (zs : List ℕ). z ∷ zs) head (same_text xs ys parts.1)
 
 same_key : (left right : FileKey) → same_file left right ≡ true → left ≡ right
 same_key left right same =
@@ -203,29 +194,39 @@ module _ (files : Set) (home : Home) where
       (file : FileKey) (crossings : List Crossing) (key : FileKey) (at from place : Place)
       (path : List ℕ) → Leads files home file crossings at →
       Leads files home file crossings from → Says files from (scalar (Str path)) →
+      IsCalling files at from path →
       target at (cut_path path) home ≡ Ok (Some key) → StandsInFile files key place →
       Leads files home file (crossings ++ Include key at ∷ []) place
-  called_on file [] key at from place path leads stands says reached here = (
+  called_on file [] key at from place path leads stands says calls reached here = (
     leads,
     (
-      record { place = from; path = path; stands = stands; says = says; leads = reached },
+      record {
+        place = from;
+        path = path;
+        stands = stands;
+        says = says;
+        calls = calls;
+        leads = reached;
+      },
       here,
     ),
   )
-  called_on file (Extends other ∷ crossings) key at from place path leads stands says reached
-      here =
-      called_on other crossings key at from place path leads stands says reached here
+  called_on file (Extends other ∷ crossings) key at from place path leads stands says calls
+      reached here =
+      called_on other crossings key at from place path leads stands says calls reached here
   called_on file (Include other there ∷ crossings) key at from place path leads stands says
-      reached here = (
+      calls reached here = (
         leads.0,
         (
           leads.1.0,
-          called_on other crossings key at from place path leads.1.1 stands.1.1 says reached here,
+          called_on other crossings key at from place path leads.1.1 stands.1.1 says calls
+              reached here,
         ),
       )
   called_on file (Argument name there ∷ crossings) key at from place path leads stands says
-      reached here = leads
-  called_on file (Made ∷ crossings) key at from place path leads stands says reached here = leads
+      calls reached here = leads
+  called_on file (Made ∷ crossings) key at from place path leads stands says calls reached here =
+      leads
 
   extended_on :
       (file : FileKey) (crossings : List Crossing) (key : FileKey) (there place : Place) →
@@ -246,10 +247,12 @@ module _ (files : Set) (home : Home) (final : List FileKey) (arguments : List Ru
   IsSo = IsKnown files home final arguments
 
   abbrev Known : Wanted
-  Known = record { own = IsSo; says = Says files }
+  Known = record { own = IsSo; says = Says files; calls = Calls files }
 
   known_reads : (key : FileKey) → Reads (IsIn files key) Known
-  known_reads = saying_reads files Known (λ place said says. says) (saying_keeps files)
+  known_reads =
+      saying_reads files Known (λ place said says. says) (λ at from one calls. calls)
+      (saying_keeps files)
 
   abbrev Border : Crossing → Type 0
   Border = IsBorder files home final arguments
@@ -305,7 +308,9 @@ module _ (files : Set) (home : Home) (final : List FileKey) (arguments : List Ru
               (known.0, own.0, (call.path, known.1)),
           λ all. let files_before = before call.crossings (Include key call.at) all in
               called_on files home home.root call.crossings key call.at path.0 place call.path
-              (own.2 files_before) (path.1.0.2 files_before) (path.1.1 files_before) known.1 here,
+              (own.2 files_before) (path.1.0.2 files_before) (path.1.1.0 files_before)
+              (subst (IsCalling files call.at path.0) path.1.1.1.1.0
+              (path.1.1.1.1.1 files_before)) known.1 here,
         );
     made =
         λ key call place known own path here. (
@@ -385,7 +390,9 @@ module _ (arguments : List RunArgument) where
           is_given = among;
           stands = inr (record { node = node; spelled = is; stands = stands });
         }) (places_of node) (each_contained (places_of node)),
-    each_of (Spotted (site (λ place. IsGiven arguments place))) (λ one. tt) (spots_of node),
+    each_of (Spotted (site (λ place. IsGiven arguments place)))
+        (λ one. nothing_said (λ place. IsGiven arguments place) one.place one.written)
+        (spots_of node),
   )
   spelled_in argument among (Err told) is = tt
 
@@ -541,7 +548,7 @@ module _ (files : Set) (root : FileKey) (arguments : List RunArgument) where
       (OfArguments files (bare_home root) (used_files root ends) arguments) (begins_bare ends) root
       parameters _ (are ends)))
       (λ one ends is. node_implies (Bare ends) (Bare ends) (Bare ends) Any (λ origin own. own)
-      (λ origin own. tt) (λ origin said told. told) one.node is.0)
+      (λ origin own. tt) (λ item path one calls files. tt) (λ origin said told. told) one.node is.0)
 
   other_known : (node : Node) → NodeIn R node →
       IfOk (other_expanded files root node arguments) TreeKnown

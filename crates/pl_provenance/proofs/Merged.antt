@@ -5,7 +5,7 @@ use Rattle.std.specs.Prelude.{IfOk, filter, codes}
 use Rattle.std.specs.List.{AllByRecursion as Each, filter_map}
 use Rattle.pl_base.specs.declared.origin.Origin.{Origin}
 use Rattle.pl_base.specs.declared.place.Place.{Place}
-use Rattle.pl_base.specs.declared.value.Value.{out-Value}
+use Rattle.pl_base.specs.declared.value.Value.{Value, out-Value}
 use Rattle.pl_base.specs.declared.value.Value.TheOpen as layer
 use Rattle.pl_base.specs.declared.value.MarkedNode.{MarkedNode}
 use Rattle.pl_base.specs.declared.value.MarkedPair.{MarkedPair}
@@ -14,13 +14,13 @@ use Rattle.pl_frame.specs.Doubles.{first_double}
 use Rattle.pl_directives.specs.declared.progress.Content.{Content}
 use Rattle.pl_directives.specs.declared.progress.Content.TheVariants.{Unknown, Items, Pairs}
 use Rattle.pl_calls.specs.Judging.{unless_at}
-use Rattle.pl_eval_laws.proofs.Leads.{Opened, head_in}
+use Rattle.pl_eval_laws.proofs.Leads.{Opened, Head, head_in}
 use Rattle.pl_eval_laws.proofs.Lists.{Has, each_append, each_filter_map}
 use Rattle.pl_eval_laws.proofs.Lists.{each_implies}
 use Rattle.pl_eval_laws.proofs.Trees.{Asked as Wanted, pair_told}
 use Rattle.pl_eval_laws.proofs.Trees.{NodeFrom, PairFrom, OpenedFrom, Any, pair_from, array_node}
 use Rattle.pl_eval_laws.proofs.Trees.{object_node, node_parts, pair_parts, value_parts, led_from}
-use Rattle.pl_eval_laws.proofs.Trees.{first_from, pair_implies}
+use Rattle.pl_eval_laws.proofs.Trees.{first_from, pair_implies, Begun, Calling}
 use Rattle.pl_origins.proofs.Called.{variables_from}
 use Rattle.pl_origins.proofs.Contents.{ContentFrom}
 use Rattle.pl_origins.proofs.Frames.{Keeps}
@@ -137,7 +137,16 @@ module _ (P : Wanted) (keeps : Keeps P.says) where
   weaker : (pairs : List MarkedPair) → Each (PairFrom P P) pairs → Each (PairFrom P Any) pairs
   weaker =
       each_implies (PairFrom P P) (PairFrom P Any)
-      (pair_implies P P P Any (λ origin is. is) (λ origin is. tt) (λ origin said told. told))
+      (pair_implies P P P Any (λ origin is. is) (λ origin is. tt) (λ item path one calls files. tt)
+      (λ origin said told. told))
+
+  no_calls : (origin : Origin) (head : Option Head) → Has (Begun Any origin) head
+  no_calls origin None = tt
+  no_calls origin (Some head) = λ is. by head.atom
+    where
+      by : (atom : Option Value) → Has (Calling Any origin head.path) atom
+      by None = tt
+      by (Some one) = λ files. tt
 
   pub object_from_root :
       (R : Site) (extension : Option Extension) (origin : Origin) (content : Content) →
@@ -148,6 +157,7 @@ module _ (P : Wanted) (keeps : Keeps P.says) where
       (any_then (Each (PairFrom P P)) (unless_at {X = Unit {0}} _ (first_double pairs) tt) _
       (λ none. merged_from extension (filter stands pairs) more (each_kept stands pairs all.0)))
       (λ pairs are. object_node P Any origin own pairs (weaker pairs are)
-      (led_from P.own Any.own origin (λ path is. tt) (head_in pairs) (first_from P P pairs are)))
+      (led_from P Any origin (λ path is. tt) (head_in pairs) (first_from P P pairs are)
+      (no_calls origin (head_in pairs))))
   object_from_root R extension origin Unknown own more all = tt
   object_from_root R extension origin (Items items) own more all = tt

@@ -67,7 +67,7 @@ use Rattle.pl_origins.proofs.Following.{FollowFrom}
 use Rattle.pl_origins.proofs.Frames.{Seen, SeenFrom, Reads, FrameFrom, ParameterFrom, turn_from}
 use Rattle.pl_origins.proofs.Induction.{BodyParts, written_induction}
 use Rattle.pl_origins.proofs.Nodes.{Site, site, NodeIn, PairIn, BodyIn, node_in, node_says}
-use Rattle.pl_origins.proofs.Nodes.{pair_in, pair_says, said_in, under_in}
+use Rattle.pl_origins.proofs.Nodes.{pair_in, pair_says, said_in, under_in, Stood}
 use Rattle.pl_origins.proofs.Scalars.{HeldFrom, OneFrom, SeenOne, ActionFrom, key_asks_from}
 use Rattle.pl_origins.proofs.Scalars.{scalar_value_from, seen_tree}
 use Rattle.pl_origins.proofs.Steps.{Gives, ok_then, any_then, plain_then, first_then}
@@ -151,7 +151,7 @@ module _ (P : Wanted) (R : Site) (A : RunArgument → Place → Type 0)
       (λ origin stands. takes_argument argument origin stands.0 stands.1)
       (λ origin stands parameter place here.
       (takes_argument argument origin stands.0 stands.1 parameter place here).0)
-      (λ origin said told files. tt) (literal [] node)
+      (λ item path one calls files. tt) (λ origin said told files. tt) (literal [] node)
       (literal_from (site (A argument)) [] node within)
 
   read_from :
@@ -391,7 +391,7 @@ module _ (P : Wanted) (T : FileKey → Wanted) (R : FileKey → Site)
   abbrev BodyClaim : NodeBody → Type 0
   BodyClaim one =
       BodyIn (R root) (out-NodeBody one) → (problem : ExpandProblem) (place : Place) →
-      (R root).at place → Each ((R root).says place) (said_in (out-NodeBody one)) →
+      (R root).at place → Each (Stood (R root) place) (said_in (out-NodeBody one)) →
       RootingFrom ((body_seen one).put problem place)
 
   abbrev NodeClaim : Node → Type 0
@@ -421,7 +421,7 @@ module _ (P : Wanted) (T : FileKey → Wanted) (R : FileKey → Site)
   abbrev PutFrom : Body → (ExpandProblem → Place → Rooting) → Type 0
   PutFrom layer put =
       (problem : ExpandProblem) (place : Place) → (R root).at place →
-      Each ((R root).says place) (said_in layer) → RootingFrom (put problem place)
+      Each (Stood (R root) place) (said_in layer) → RootingFrom (put problem place)
 
   layer_claim :
       (layer : Body) → BodyParts NodeClaim PairClaim layer → BodyIn (R root) layer →
@@ -454,7 +454,7 @@ module _ (P : Wanted) (T : FileKey → Wanted) (R : FileKey → Site)
   of_layer layer claims within problem place here says =
       layer_claim layer claims (subst (BodyIn (R root)) (opened_body layer) within) problem place
       here
-      (subst (λ (layer : Body). Each ((R root).says place) (said_in layer)) (opened_body layer)
+      (subst (λ (layer : Body). Each (Stood (R root) place) (said_in layer)) (opened_body layer)
       says)
 
   of_node :

@@ -1,20 +1,18 @@
 -- What a place may say, said again: as a key, as the text of a key, as a variable's keys.
-use Rattle.std.proofs.Common.{◌≡◌, inl, inr, ℕ, List, refl, ap, subst, ◌∙◌, rules}
-use Rattle.std.specs.Prelude.{codes, Some}
+use Rattle.std.proofs.Common.{◌≡◌, inl, inr, ℕ, List, refl, ap, subst, sym, ◌∙◌, rules}
 use Rattle.pl_base.specs.declared.place.FileKey.{FileKey}
 use Rattle.pl_base.specs.declared.place.Place.{Place}
 use Rattle.pl_base.specs.declared.value.Value.{Value, Str, the_lemmas}
 use Rattle.pl_expr.specs.Conversions.{cast_text}
-use Rattle.pl_params.specs.declared.kind.ParamKind.{ParamKind}
 use Rattle.pl_params.specs.declared.kind.ParamKind.TheVariants as kind
-use Rattle.pl_params.specs.Kinds.{value_as}
 use Rattle.pl_eval_laws.specs.Marks.{Said}
 use Rattle.pl_eval_laws.specs.Marks.{key as key_said, scalar}
 use Rattle.pl_eval_laws.proofs.Trees.{Asked as Wanted}
 use Rattle.pl_origins.proofs.Frames.{Keeps, Reads}
 use Rattle.pl_expand.specs.Tree.{Set}
-use Rattle.pl_provenance.specs.Texts.{IsSpot, IsRead, IsCast, IsKeyText, MaySay, Says, value_said}
-use Rattle.pl_provenance.proofs.Files.{IsIn}
+use Rattle.pl_provenance.specs.Texts.{MaySay, Says, value_said}
+use Rattle.pl_provenance.specs.Known.{IsCalling, as_written, by_expression}
+use Rattle.pl_provenance.proofs.Files.{IsIn, stood_is}
 
 str_text : (text : List ℕ) → cast_text (Str text) ≡ text
 str_text text = search (rules, the_lemmas)
@@ -70,10 +68,15 @@ module _ (files : Set) where
         };
   }
 
+  -- an item that calls by a path there, as a value
+  abbrev pub Calls : Place → Place → Value → Type 0
+  Calls at from one = IsCalling files at from (cast_text one)
+
   pub saying_reads :
       (P : Wanted) → ((place : Place) (said : Said) → Says files place said → P.says place said) →
+      ((at from : Place) (one : Value) → Calls at from one → P.calls at from one) →
       Keeps P.says → (key : FileKey) → Reads (IsIn files key) P
-  saying_reads P holds keeps key = record {
+  saying_reads P holds calling keeps key = record {
     says =
         λ place said spot. holds place said (record {
           written = said;
@@ -86,5 +89,16 @@ module _ (files : Set) where
           stands = spot;
           says = inl (record { of = of; is = is });
         });
+    calls =
+        λ at from text begins. calling at from (Str text)
+        (subst (IsCalling files at from) (sym (str_text text)) (as_written begins));
+    asked =
+        λ at from one asks. calling at from one (by_expression (record {
+          text = asks.text;
+          written = asks.written;
+          is_in = asks.is_in;
+          stands = stood_is files key at asks.written asks.stands;
+          expression = asks.expression;
+        }));
     keeps = keeps;
   }

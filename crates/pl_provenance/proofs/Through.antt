@@ -6,7 +6,6 @@ use Rattle.pl_base.specs.declared.expanded.Argument.{Argument as RunArgument}
 use Rattle.pl_base.specs.declared.expanded.Expanded.{Expanded}
 use Rattle.pl_base.specs.declared.origin.Crossing.{Crossing}
 use Rattle.pl_base.specs.declared.origin.Crossing.TheVariants.{Extends, Include, Argument, Made}
-use Rattle.pl_base.specs.declared.origin.Origin.{Origin}
 use Rattle.pl_base.specs.declared.place.FileKey.{FileKey}
 use Rattle.pl_base.specs.declared.place.Place.{Place}
 use Rattle.pl_yaml.specs.Spells as yaml
@@ -16,7 +15,7 @@ use Rattle.pl_eval_laws.proofs.Trees.{Asked as Wanted, PairFrom}
 use Rattle.pl_origins.specs.Through.{extended_in}
 use Rattle.pl_origins.proofs.Kept.{any_ok, NoPlace, NoFile, opens_anything, extended_last}
 use Rattle.pl_origins.proofs.Kept.{Extending, IsExtending, kept, silent_reads}
-use Rattle.pl_origins.proofs.Nodes.{Site, site, NodeIn, anywhere}
+use Rattle.pl_origins.proofs.Nodes.{Site, site, NodeIn, anywhere, nothing_said}
 use Rattle.pl_origins.proofs.Steps.{ok_then}
 use Rattle.pl_root.specs.Arguments.{argument_file}
 use Rattle.pl_expand.specs.Tree.{root_node, tree_of}
@@ -66,7 +65,8 @@ any_arguments arguments =
     (λ argument. (
       tt,
       any_ok (NodeIn (site (AnyArgument argument)))
-          (anywhere (site (AnyArgument argument)) (λ place. tt) (λ place said. tt))
+          (anywhere (site (AnyArgument argument)) (λ place. tt)
+          (nothing_said (AnyArgument argument)))
           (yaml.spells (argument_file argument.name) argument.text),
     ))
     arguments
@@ -90,7 +90,8 @@ steps_through files root arguments file =
     (tree_jobs Before Behind NoPlace NoFile (crosses NoPlace) (λ file. kept (file ∷ [])) (kept [])
     files (λ home. opens_anything (opens_of files home)) root AnyArgument (begins (NoPlace root))
     arguments (any_arguments arguments)
-    (any_ok (NodeIn (NoPlace root)) (anywhere (NoPlace root) (λ place. tt) (λ place said. tt))
+    (any_ok (NodeIn (NoPlace root)) (anywhere (NoPlace root) (λ place. tt)
+    (nothing_said (λ place. Unit {0})))
     (root_node root (finite.get files root))))
     (λ one through extends. each_implies (PairFrom (Behind file) (Behind file))
     (IsPairThrough file) (λ pair all. all.0) (jobs_of one.expanded.tree) (through file extends))

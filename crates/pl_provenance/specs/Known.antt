@@ -1,6 +1,6 @@
 -- Every origin of an expanded tree tells places that exist: in files that were used, or in the run
 -- arguments. And what no argument and no expression gave stands where its borders lead.
-use Rattle.std.specs.Prelude.{◌≡◌, ◌⊎◌, ℕ, List, [], ◌∷◌, Some, Ok, Contains, IfOk}
+use Rattle.std.specs.Prelude.{◌≡◌, ◌⊎◌, ℕ, true, List, [], ◌∷◌, codes, Some, Ok, Contains, IfOk}
 use Rattle.std.specs.FinMap as finite
 use Rattle.std.specs.List.{AllByRecursion}
 use Rattle.pl_base.specs.Places.{place_at}
@@ -16,14 +16,16 @@ use Rattle.pl_calls.specs.declared.files.Parsed.{Parsed}
 use Rattle.pl_calls.specs.declared.reaching.Home.{Home}
 use Rattle.pl_calls.specs.Reaching.{target}
 use Rattle.pl_paths.specs.Paths.{cut_path}
+use Rattle.pl_template.specs.Cutting.{holds_opening}
 use Rattle.pl_yaml.specs.Spells as yaml
 use Rattle.pl_base.specs.declared.value.Value.{Str}
 use Rattle.pl_eval_laws.specs.Marks.{IsOfFiles, scalar}
 use Rattle.pl_eval_laws.specs.Trees.{origins_of}
 use Rattle.pl_origins.specs.Places.{places_of}
+use Rattle.pl_origins.specs.Spots.{Written, begins, IsTextOf}
 use Rattle.pl_expand.specs.Tree.{Set, expansion}
 use Rattle.pl_root.specs.Arguments.{argument_file}
-use Rattle.pl_provenance.specs.Texts.{Says}
+use Rattle.pl_provenance.specs.Texts.{IsSpot, Says}
 use Rattle.pl_provenance.specs.Written.{StandsInFile}
 
 -- a node or a key of a used file stands there
@@ -73,18 +75,36 @@ IsBorder files home used arguments Made = Unit {0}
 
 -- ---- where borders lead
 
--- A path that a file says, at a place of its own, leads to another file from where an item stands.
+-- an expression stands there, where it may give an item, its first key or its path
+pub record IsAsked (files : Set) (place : Place) : Type 0 where
+  pub text : List ℕ
+  pub written : Written
+  pub is_in : IsTextOf text written
+  pub stands : IsSpot files place written
+  pub expression : holds_opening text ≡ true
+
+-- An item that calls, by a path that is said at a place: a mapping whose first key is `template`,
+-- and the path is what is written under it. Or an expression gives it.
+pub data IsCalling (files : Set) (at place : Place) (path : List ℕ) : Type 0 where
+  as_written :
+      IsSpot files at (begins (record { key = codes "template"; place = place; text = path })) →
+      IsCalling files at place path
+  by_expression : IsAsked files at → IsCalling files at place path
+
+-- The item that stands there calls by a path that the file says, at a place of its own, and that
+-- leads to another file.
 pub record IsNamed (files : Set) (home : Home) (file : FileKey) (at : Place) (key : FileKey)
     : Type 0 where
   pub place : Place
   pub path : List ℕ
   pub stands : StandsInFile files file place
   pub says : Says files place (scalar (Str path))
+  pub calls : IsCalling files at place path
   pub leads : target at (cut_path path) home ≡ Ok (Some key)
 
 -- From a file on: `extends` leads into its template, the item of each call stands in the file
--- before it, which says the path that leads to the called file, and what is told stands in the last
--- file.
+-- before it and calls by the path that leads to the called file, and what is told stands in the
+-- last file.
 abbrev pub Leads : Set → Home → FileKey → List Crossing → Place → Type 0
 Leads files home file [] place = StandsInFile files file place
 Leads files home file (Extends key ∷ crossings) place = Leads files home key crossings place

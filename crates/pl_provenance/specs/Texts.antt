@@ -13,17 +13,18 @@ use Rattle.pl_params.specs.declared.kind.ParamKind.{ParamKind}
 use Rattle.pl_params.specs.Kinds.{value_as}
 use Rattle.pl_eval_laws.specs.Marks.{Said, Mark, marks_of, IsTold}
 use Rattle.pl_eval_laws.specs.Marks.{key as key_said, scalar}
-use Rattle.pl_origins.specs.Spots.{spot, spots_of}
+use Rattle.pl_origins.specs.Spots.{Written, spot, spots_of}
+use Rattle.pl_origins.specs.Spots.{says as written_says}
 use Rattle.pl_expand.specs.Tree.{Set, expansion}
 
 -- ---- what is written at a place
 
--- a file of the set says so there
-pub record IsSpot (files : Set) (place : Place) (said : Said) : Type 0 where
+-- it stands there in a file of the set
+pub record IsSpot (files : Set) (place : Place) (written : Written) : Type 0 where
   pub key : FileKey
   pub node : Node
   pub file : finite.get files key ≡ Some (Good node)
-  pub says : Contains (spots_of node) (spot place said)
+  pub stands : Contains (spots_of node) (spot place written)
 
 -- what is said, as a value: the text of a key is one
 abbrev pub value_said : Said → Value
@@ -62,7 +63,7 @@ MaySay written (key_said name) = IsKey written name
 
 pub record Says (files : Set) (place : Place) (said : Said) : Type 0 where
   pub written : Said
-  pub stands : IsSpot files place written
+  pub stands : IsSpot files place (written_says written)
   pub says : MaySay (value_said written) said
 
 -- ---- what no argument gave and no expression made says that

@@ -25,9 +25,10 @@ use std::alloc::Global;
 /// origin tells, which is the template or a file that it calls, itself or by files that it calls.
 /// Each origin in the whole tree tells places of used files or of run arguments, its borders lead
 /// into used files that are there, and what no argument and no expression gave stands where its
-/// borders lead from the root file, along paths that these files say; and each scalar and key of it
-/// says what is written where it stands (Microsoft Learn, Azure Pipelines, "Security through
-/// templates"). The files stay as they are, and a fault is the one that `pl_expand::expand` gives.
+/// borders lead from the root file, along the paths under `template` of the items that call; and
+/// each scalar and key of it says what is written where it stands (Microsoft Learn, Azure
+/// Pipelines, "Security through templates"). The files stay as they are, and a fault is the one that
+/// `pl_expand::expand` gives.
 pub fn expand<F: Files>(
     alloc: Global,
     files: &mut F,

@@ -42,8 +42,10 @@ pub fn written_jobs_come_from_the_template_and_its_calls()
 /// file that is there, and each expression that took a parameter stands in a used file. The used
 /// files are those that the expansion tells, the root file among them. And what no argument and no
 /// expression gave stands where its borders lead: from the root file on, `extends` leads into its
-/// template, the item of each call stands in the file before it, that file says a path that leads
-/// from the item to the called file, and what is told stands in the last file.
+/// template, the item of each call stands in the file before it, and what is told stands in the
+/// last file. Such an item begins with the key `template`, and the text under it is a path that
+/// leads from there to the called file; where an expression stands in that text, in the item's
+/// first key or in its place, the file says that path somewhere.
 ///
 /// It speaks of every node and key of the whole tree, whatever the root file is.
 pub fn origins_tell_used_files()

@@ -19,7 +19,7 @@ use Rattle.pl_eval_laws.proofs.Lists.{each_append, each_back, each_contained, ea
 use Rattle.pl_eval_laws.proofs.Lists.{each_implies, each_map, each_of}
 use Rattle.pl_eval_laws.proofs.Leads.{Opened, leads_in, leads_of}
 use Rattle.pl_eval_laws.proofs.Trees.{Any, Asked, Marked, NodeFrom, OpenedFrom, PairFrom}
-use Rattle.pl_eval_laws.proofs.Trees.{node_parts, only}
+use Rattle.pl_eval_laws.proofs.Trees.{node_parts, nothing_led, only}
 use Rattle.pl_eval_laws.proofs.Trees.{pair_parts, value_parts}
 use Rattle.pl_extends.specs.Forms.{is_form}
 use Rattle.pl_literal.specs.Items.{is}
@@ -297,7 +297,7 @@ steps_hold P whole pipeline plan reads plans all =
     (λ pair own. (
       own,
       (
-        each_of Any.own (λ origin. tt) (leads_in pair),
+        nothing_led (leads_in pair),
         each_of (Marked (only P)) (λ one files. tt) (marks_in pair),
       ),
     )) (jobs_of whole.tree) all))
@@ -312,7 +312,7 @@ jobs_hold P tree all =
     (jobs_parts (only P) tree (
       all,
       (
-        each_of Any.own (λ origin. tt) (leads_of tree),
+        nothing_led (leads_of tree),
         each_of (Marked (only P)) (λ one files. tt) (marks_of tree),
       ),
     ))
@@ -320,7 +320,11 @@ jobs_hold P tree all =
 -- of what is said
 
 abbrev Saying : (Place → Said → Type 0) → Asked
-Saying says = record { own = λ origin. Unit {0}; says = says }
+Saying says = record {
+  own = λ origin. Unit {0};
+  says = says;
+  calls = λ at from path. Unit {0};
+}
 
 pub steps_say :
     (says : Place → Said → Type 0) (whole : Expanded) (pipeline : Pipeline) (plan : Plan) →
@@ -334,7 +338,7 @@ steps_say says whole pipeline plan reads plans all =
     (steps_from (Saying says) whole pipeline plan reads plans
     (jobs_parts (Saying says) whole.tree (
       each_of (Saying says).own (λ origin. tt) (origins_of whole.tree),
-      (each_of Any.own (λ origin. tt) (leads_of whole.tree), all),
+      (nothing_led (leads_of whole.tree), all),
     )))
 
 -- ---- what the plan extends

@@ -1,5 +1,5 @@
--- The text of a JSON value (RFC 8259): its tokens, as `json` prints them, without blanks. An object's
--- members stand in byte order of their names, each once: its type keeps them so.
+-- The text of a JSON value (RFC 8259): its tokens, as `json` prints them, without blanks. An
+-- object's members stand in byte order of their names, each once: its type keeps them so.
 use Rattle.std.specs.Prelude.{◌≡◌, ℕ, List, [], ◌∷◌, ◌++◌, map, Result, OnOk}
 use Rattle.std.specs.Fmt.{decimal}
 use Rattle.json.specs.Print.{print}

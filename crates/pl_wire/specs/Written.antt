@@ -37,6 +37,10 @@ kind_line kind = codes "Content-Type: " ++ kind ++ crlf
 abbrev pub length_line : ℕ → List ℕ
 length_line len = codes "Content-Length: " ++ decimal len ++ crlf
 
+-- all that stands before a content of so many bytes
+abbrev pub front : ℕ → List ℕ → ℕ → List ℕ
+front status kind len = status_line status ++ kind_line kind ++ length_line len ++ crlf
+
 -- the two headers, an empty line and the content
 abbrev pub with_headers : List ℕ → List ℕ → List ℕ
 with_headers kind content = kind_line kind ++ length_line (length content) ++ crlf ++ content

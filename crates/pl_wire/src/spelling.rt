@@ -1,12 +1,11 @@
 //! The text of JSON values.
 
-ghost use Rattle.std.specs.Prelude.{◌≡◌, IfOk, map};
+ghost use Rattle.std.specs.Prelude.{◌≡◌, ◌++◌, IfOk, map};
 ghost use Rattle.pl_wire.specs.Json.{Adds, joined, json_text, tokens_in, tokens_of};
 
 use json::{Token, Writer};
 use pl_base::Memory;
 use pl_json::{Json, Members};
-use std::alloc::Global;
 
 /// Writes a value.
 #[cycle(written)]
@@ -55,11 +54,47 @@ fn put_members(writer: &mut Writer, members: &Members<Json>) -> Result<(), Memor
     Ok(())
 }
 
-/// The value's compact text (RFC 8259, without blanks).
-pub(crate) fn json_text(alloc: Global, value: &Json) -> Result<Vec<u8>, Memory>
-    ensures { IfOk result (λ text. text.items ≡ json_text value.now) }
+/// The value's compact text (RFC 8259, without blanks) behind bytes, which it takes over.
+pub(crate) fn spelled_behind(front: Vec<u8>, value: &Json) -> Result<Vec<u8>, Memory>
+    ensures { IfOk result (λ bytes. bytes.items ≡ front.items ++ json_text value.now) }
 {
-    let mut writer = Writer::new(Vec::new(alloc));
+    let mut writer = Writer::new(front);
     put_value(&mut writer, value)?;
     Ok(writer.into_inner())
+}
+
+/// About how many bytes the value's text has: where a byte of it is escaped it has more, and of
+/// numbers some few digits count. A reply's front is as long as for so many bytes; what the reply
+/// says doesn't rest on it.
+#[cycle(judged)]
+pub(crate) fn likely_len(value: &Json) -> usize {
+    match value {
+        Json::Null => 4,
+        Json::Bool(_) => 4,
+        Json::Number(_) => 3,
+        Json::Text(text) => text.len().saturating_add(2),
+        Json::Array(items) => likely_items(items.as_slice()),
+        Json::Object(members) => likely_members(members),
+    }
+}
+
+/// The same of an array: its brackets, and behind each item a comma.
+#[cycle(judged)]
+fn likely_items(items: &[Json]) -> usize {
+    let mut len: usize = 1;
+    for item in items {
+        len = len.saturating_add(1).saturating_add(likely_len(item));
+    }
+    len
+}
+
+/// The same of an object: its braces, and of each member the quotes, the colon and the comma.
+#[cycle(judged)]
+fn likely_members(members: &Members<Json>) -> usize {
+    let mut len: usize = 1;
+    for member in members.as_slice() {
+        len = len.saturating_add(member.name.len()).saturating_add(4);
+        len = len.saturating_add(likely_len(&member.value));
+    }
+    len
 }

@@ -10,7 +10,7 @@ use Rattle.pl_eval_laws.specs.Marks.{marks_of}
 use Rattle.pl_eval_laws.specs.Trees.{origins_of}
 use Rattle.pl_eval_laws.proofs.Leads.{leads_of}
 use Rattle.pl_eval_laws.proofs.Lists.{each_implies, each_of, each_contained}
-use Rattle.pl_eval_laws.proofs.Trees.{NodeFrom, Any, Marked, only}
+use Rattle.pl_eval_laws.proofs.Trees.{NodeFrom, Any, Marked, only, nothing_led}
 use Rattle.pl_eval_laws.proofs.Evaluated.{evaluated}
 use Rattle.pl_eval_laws.proofs.laws.values_are_handed_on.Goals as goal
 
@@ -23,7 +23,7 @@ held known here name root is = (
       (λ origin stands. inr (record { name = name; root = root; holds = is; stands = stands }))
       (origins_of root) (each_contained (origins_of root)),
   (
-    each_of Any.own (λ origin. tt) (leads_of root),
+    nothing_led (leads_of root),
     each_of (Marked (only (IsHandedOn known here))) (λ one files. tt) (marks_of root),
   ),
 )

@@ -1,5 +1,4 @@
 use Rattle.std.proofs.Common.{◌≡◌, List, ap, map, refl, subst, ◌∙◌, IfOk}
-use Rattle.std.specs.List.{zip}
 use Rattle.std.specs.Prelude.{codes}
 use Rattle.pl_json.specs.declared.json.Json.{Json}
 use Rattle.pl_json.specs.declared.json.Json.TheVariants as json
@@ -8,7 +7,7 @@ use Rattle.pl_json.specs.Members.{member}
 use Rattle.pl_json.specs.Objects.{object}
 use Rattle.pl_plan.specs.declared.plan.Compiled.{Compiled}
 use Rattle.pl_refusals.specs.Rows.{text}
-use Rattle.pl_objects.specs.Runs.{stage_status}
+use Rattle.pl_objects.specs.Runs.{beside, stage_status, unstarted_stage}
 use Rattle.pl_objects.proofs.Gathered.{first, more}
 use Rattle.pl_objects.proofs.runs.run_object.Goals as goal
 
@@ -30,5 +29,5 @@ returns c =
     c.in_ok-push-6.ensures
     (ap (member (codes "stages")) c.in_ok-stages.ensures
     ∙ ap (λ (told : Compiled). member (codes "stages") (json.Array (map stage_status
-    (zip told.plan.stages c.args.status.now.stages)))) c.deref-2.ensures))
+    (beside unstarted_stage told.plan.stages c.args.status.now.stages)))) c.deref-2.ensures))
     c.object.ensures

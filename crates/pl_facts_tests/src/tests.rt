@@ -1,0 +1,7 @@
+mod calls;
+mod copies;
+mod objects;
+mod plans;
+mod rules;
+mod spelling;
+mod texts;
