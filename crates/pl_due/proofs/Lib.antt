@@ -1,6 +1,7 @@
 pub mod Asking
 pub mod ByLocks
 pub mod Fits
+pub mod InOrder
 pub mod Judged
 pub mod Looping
 pub mod Members

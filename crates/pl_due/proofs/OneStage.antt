@@ -4,6 +4,8 @@ use Rattle.std.proofs.Common.{subst, is_none}
 use Rattle.std.specs.Prelude.{slice_get, ◌&&◌}
 use Rattle.pl_facts.specs.declared.fact.Fact.{Fact}
 use Rattle.pl_facts.specs.declared.fact.QueuedRun.{QueuedRun}
+use Rattle.pl_journal.specs.Runs.{queueing, run_told}
+use Rattle.pl_journal.specs.Settings.{by}
 use Rattle.pl_plan.specs.declared.plan.PlanStage.{PlanStage}
 use Rattle.pl_due.specs.Nodes.{IsStageOf}
 
@@ -20,3 +22,19 @@ module _ (facts : List Fact) (run stage : ℕ) (t told : QueuedRun) (o one : Pla
   pub moved : (P : QueuedRun → PlanStage → Type 0) → IsStageOf facts run stage t o →
       IsStageOf facts run stage told one → P t o → P told one
   moved P a b k = subst (λ x. P told x) (one_planned a b) (subst (λ x. P x o) (one_told a b) k)
+
+-- no run was queued so, or its plan has no such stage
+pub no_run : (facts : List Fact) (run stage : ℕ) → by run_told (queueing run facts) ≡ None →
+    (told : QueuedRun) (one : PlanStage) → IsStageOf facts run stage told one → ⊥
+no_run facts run stage none told one there =
+    let e : None ≡ Some told = sym none ∙ there.queued in absurd (cc)
+
+pub no_stage : (facts : List Fact) (run stage : ℕ) (t : QueuedRun) →
+    by run_told (queueing run facts) ≡ Some t → slice_get t.compiled.plan.stages stage ≡ None →
+    (told : QueuedRun) (one : PlanStage) → IsStageOf facts run stage told one → ⊥
+no_stage facts run stage t queued none told one there =
+    let e : Some t ≡ Some told = sym queued ∙ there.queued in
+    let same : t ≡ told = cc in
+    let f : None ≡ Some one = sym none
+    ∙ ap (λ (x : QueuedRun). slice_get x.compiled.plan.stages stage) same ∙ there.planned in
+    absurd (cc)

@@ -5,6 +5,7 @@ use Rattle.std.proofs.Common.{refl, sym, ap, ◌∙◌, subst, arith, inl, inr, 
 use Rattle.std.specs.List.{AllPairs, Any, Contains, filter, list_any, range_with_len}
 use Rattle.std.specs.Option.{option_map_or}
 use Rattle.std.specs.Prelude.{slice_get}
+use Rattle.std.proofs.lemmas.List.{append-nil}
 use Rattle.std.proofs.lemmas.List.Concat.{flat_map-cons}
 use Rattle.std.proofs.lemmas.List.Elements.{Contains-append_cases, Contains-append_left}
 use Rattle.std.proofs.lemmas.List.Elements.{Contains-append_right}
@@ -142,6 +143,18 @@ run_pairs facts run = go (by run_told (queueing run facts))
         map_pairs run (filter (λ s. is_none (stage_end run s facts)) (range_with_len 0 count))
         (AllPairs-filter (λ a b. a < b) (λ s. is_none (stage_end run s facts))
         (range_with_len 0 count) (range_pairs count))
+
+pub of_told : (facts : List Fact) (run : ℕ) (told : QueuedRun) →
+    by run_told (queueing run facts) ≡ Some told →
+    open_of_run facts run ≡ open_among facts run (length told.compiled.plan.stages)
+of_told facts run told is = ap (λ (o : Option QueuedRun). option_map_or
+    (λ (t : QueuedRun). open_among facts run (length t.compiled.plan.stages)) o []) is
+
+pub no_run : (facts : List Fact) (run : ℕ) (places : List Place) →
+    by run_told (queueing run facts) ≡ None → places ≡ places ++ open_of_run facts run
+no_run facts run places is = sym (append-nil places) ∙ ap (λ more. places ++ more)
+    (sym (ap (λ (o : Option QueuedRun). option_map_or
+    (λ (t : QueuedRun). open_among facts run (length t.compiled.plan.stages)) o []) is))
 
 -- ---- of all
 

@@ -13,12 +13,13 @@ use Rattle.pl_locks.specs.Kept.{IsOrdered}
 use Rattle.pl_locks.specs.declared.contender.Contender.{Contender}
 use Rattle.pl_plan.specs.declared.plan.PlanStage.{PlanStage}
 use Rattle.pl_due.specs.declared.open_stages.Place.{Place}
-use Rattle.pl_due.specs.Contention.{AreThose, InRun, IsOne}
+use Rattle.pl_due.specs.Contention.{AreThose, InRun, IsOne, contender_of}
 use Rattle.pl_due.specs.Nodes.{IsStageOf}
 use Rattle.pl_due.specs.Open.{at_place}
 use Rattle.pl_due.specs.Scans.{HasOpenStages, IsBefore, IsPicked, Picked}
 use Rattle.pl_due.proofs.Members.{all_from, any_there, cons_cases, head_before, here, tail_pairs}
 use Rattle.pl_due.proofs.Members.{there}
+use Rattle.pl_due.proofs.OneStage.{moved}
 
 module _ (facts : List Fact) (P : InRun) where
   -- ---- one stage after the other
@@ -144,3 +145,19 @@ module _ (facts : List Fact) (P : InRun) where
         (has_open.all told one run stage is_there (stays told one run stage holds)) told one
         is_there holds;
   }
+
+-- ---- one stage
+
+module _ (facts : List Fact) (P : InRun) (told : QueuedRun) (one : PlanStage) (run stage : ℕ)
+    (there : IsStageOf facts run stage told one) where
+  pub picked_one : (picked : Contender) → P told one run stage →
+      picked ≡ contender_of facts told one run stage → IsPicked facts P run stage (Some picked)
+  picked_one picked holds is =
+      subst (λ (c : Contender). IsPicked facts P run stage (Some c)) (sym is) (
+        record { told = told; one = one; there = there; holds = holds; is = refl },
+        (refl, refl),
+      )
+
+  pub not_picked : (P told one run stage → ⊥) → IsPicked facts P run stage None
+  not_picked none = λ t o is_there holds.
+      none (moved facts run stage t told o one (λ x y. P x y run stage) is_there there holds)

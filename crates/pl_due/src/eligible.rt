@@ -37,7 +37,10 @@ impl Holding for Eligible {
         if !is_waiting(at) {
             return Ok(false);
         }
-        if !is_permitted(at.journal, at.queued, at.planned) || !stage_says(alloc, at)? {
+        if !is_permitted(at.journal, at.queued, at.planned) {
+            return Ok(false);
+        }
+        if !stage_says(alloc, at)? {
             return Ok(false);
         }
         Ok(judgement(alloc, at)?.passes())

@@ -1,6 +1,6 @@
 //! The stages that haven't ended.
 
-ghost use Rattle.std.specs.Prelude.{◌≡◌, ◌++◌, ◌<◌, ◌^◌, IfOk, OnOk, length};
+ghost use Rattle.std.specs.Prelude.{◌≡◌, ◌++◌, ◌<◌, ◌^◌, IfOk, OnOk, flat_map, length};
 ghost use Rattle.pl_due.specs.Open.{open_among, open_of_run, open_places};
 ghost use Rattle.pl_due.specs.Fit.{AreFit};
 
@@ -22,10 +22,18 @@ pub(crate) fn open_stages(alloc: Global, journal: &IndexedJournal) -> Result<Lis
     requires { AreFit journal.now.facts }
     ensures { IfOk result (λ places. places ≡ open_places journal.now.facts) }
 {
+    stages_of(alloc, journal.journal(), journal.open_runs())
+}
+
+/// The stages of some runs that haven't ended.
+fn stages_of(alloc: Global, journal: &Journal, runs: &[u64]) -> Result<List<Place>, Memory>
+    requires { AreFit journal.now.facts }
+    ensures { IfOk result (λ places. places ≡
+        flat_map (open_of_run journal.now.facts) runs.now) }
+{
     let mut places = List::new(alloc);
-    let runs = journal.open_runs();
     for run in runs {
-        push_run(&mut places, journal.journal(), *run)?;
+        push_run(&mut places, journal, *run)?;
     }
     Ok(places)
 }
@@ -36,7 +44,10 @@ fn push_run(places: &mut List<Place>, journal: &Journal, run: u64) -> Result<(),
     ensures { OnOk result (places.new ≡ places.old ++ open_of_run journal.now.facts run) }
 {
     match journal.run(run) {
-        Some(queued) => push_stages(places, journal, run, queued.compiled.plan.stages.as_slice()),
+        Some(queued) => {
+            push_stages(places, journal, run, queued.compiled.plan.stages.as_slice())?;
+            Ok(())
+        }
         None => Ok(()),
     }
 }

@@ -22,7 +22,10 @@ impl Kind for Done {
     ghost of = { λ itself facts moment. spec.IsDone facts };
 
     fn in_stage(&self, alloc: Global, at: &StageAt<'_>) -> Result<Option<Event>, Memory> {
-        if !is_running(at.journal, at.run, at.stage) || !has_done_all(at) {
+        if !is_running(at.journal, at.run, at.stage) {
+            return Ok(None);
+        }
+        if !has_done_all(at) {
             return Ok(None);
         }
         let outcomes = outcomes(alloc, at)?;
@@ -43,7 +46,10 @@ impl Kind for FalseStages {
     ghost of = { λ itself facts moment. spec.IsPassedOver facts };
 
     fn in_stage(&self, alloc: Global, at: &StageAt<'_>) -> Result<Option<Event>, Memory> {
-        if !is_waiting(at) || stage_says(alloc, at)? {
+        if !is_waiting(at) {
+            return Ok(None);
+        }
+        if stage_says(alloc, at)? {
             return Ok(None);
         }
         let canceled = is_canceled(at.journal, at.run);
