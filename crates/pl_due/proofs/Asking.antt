@@ -1,5 +1,6 @@
 -- The checks of one use more are asked.
-use Rattle.std.proofs.Common.{◌≡◌, ◌<◌, ◌≤◌, ◌+◌, ◌&&◌, arith, ℕ, Bool, true, false, List, [], ◌∷◌, ◌++◌}
+use Rattle.std.proofs.Common.{◌≡◌, ◌<◌, ◌≤◌, ◌+◌, ◌&&◌, arith, ℕ, Bool, true, false, List, []}
+use Rattle.std.proofs.Common.{◌∷◌, ◌++◌}
 use Rattle.std.proofs.Common.{length, get_or, take, flat_map, None, refl, sym, ap, ◌∙◌, subst}
 use Rattle.std.specs.List.{filter, list_all}
 use Rattle.std.specs.Prelude.{◌==◌}

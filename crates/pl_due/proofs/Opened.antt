@@ -82,7 +82,8 @@ flat_from : {X Y : Type 0} (f : X → List Y) (y : Y) (xs : List X) → Contains
 flat_from f y [] (k, below, is) = absurd (omega arith)
 flat_from {X} {Y} f y (first ∷ xs) in_some = ⊎_elim
     (λ in_first. (first, here first xs, in_first))
-    (λ behind. let (x, in_xs, in_it) = flat_from f y xs behind in (x, there x first xs in_xs, in_it))
+    (λ behind. let (x, in_xs, in_it) = flat_from f y xs behind in
+    (x, there x first xs in_xs, in_it))
     (Contains-append_cases (f first) (flat_map f xs) y
     (subst (λ zs. Contains zs y) (flat_map-cons f first xs) in_some))
 

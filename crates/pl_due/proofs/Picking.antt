@@ -101,7 +101,8 @@ module _ (facts : List Fact) (P : InRun) where
         at.0 ∙ same ∙ sym from.is_at.0,
         omega (arith, at.1, from.is_at.1, less),
       )) before in
-      subst IsOrdered (sym is) (AllPairs-cons Precedes one rest (all_from (Precedes one) rest behind)
+      subst IsOrdered (sym is) (AllPairs-cons Precedes one rest
+      (all_from (Precedes one) rest behind)
       (in_order places rest (tail_pairs IsBefore first places ordered) others))
   in_order (first ∷ places) picked ordered (inr (none, others)) =
       in_order places picked (tail_pairs IsBefore first places ordered) others

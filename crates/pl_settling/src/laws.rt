@@ -12,11 +12,11 @@ use pl_due::due_laws;
 /// Each stage that it starts was the next one on the facts before that and at its moment: it waited
 /// for nothing more, its condition was true, its pipeline might use what it uses, every check
 /// passed, and every exclusive resource that it uses was free. Where each exclusive resource has
-/// one holder at most before settling, it has one at most behind each fact that settling adds. Where
-/// nothing is due, something keeps each stage waiting that is neither started nor ended: a stage,
-/// a permission, an open approval or closed hours, a holder, or an earlier stage. A job gets at
-/// most one fact of it, a stage at most two. And facts and a moment leave no choice in what settling
-/// adds.
+/// one holder at most before settling, it has one at most behind each fact that settling adds.
+/// Where nothing is due, something keeps each stage waiting that is neither started nor ended: a
+/// stage, a permission, an open approval or closed hours, a holder, or an earlier stage. A job gets
+/// at most one fact of it, a stage at most two. And facts and a moment leave no choice in what
+/// settling adds.
 pub fn settling_laws()
     ensures next { (moment : ℕ) (facts added : List Fact) → Adds moment facts added →
         Along StartsAsNext facts added }

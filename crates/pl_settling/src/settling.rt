@@ -12,11 +12,10 @@ use std::alloc::Global;
 /// Adds what is due at a moment to a journal, one fact after the other, until nothing is due: the
 /// facts that `due` tells, each at this moment.
 ///
-/// They are as many as jobs of open runs at most, and twice as many as their stages
-/// (`settling_laws`). Each fact's moment is one that a clock tells, and each run's plan can run, as
-/// `due` asks; the same holds of all facts afterwards. After Memory the journal has what it had, and
-/// behind that some of the facts that would have been added: take them away with
-/// `back_to_installed`.
+/// A job gets at most one of them, and a stage at most two (`settling_laws`). Each fact's moment is
+/// one that a clock tells, and each run's plan can run, as `due` asks; the same holds of all facts
+/// afterwards. After Memory the journal has what it had, and behind that some of the facts that
+/// would have been added: take them away with `back_to_installed`.
 pub fn settle(alloc: Global, journal: &mut IndexedJournal, moment: Moment) -> Result<(), Memory>
     requires moment { moment ≤ last_moment }
     requires fit { AreFit journal.old.facts }

@@ -22,7 +22,8 @@ job_condition-requires-clause-stage c =
 pub job_condition-requires-clause-job : goal.job_condition-requires-clause-job
 job_condition-requires-clause-job c =
     let at = c.args.at.now in
-    subst (λ (one : Compiled). c.args.job < length (jobs_of one.plan at.stage)) (sym c.deref.ensures)
+    subst (λ (one : Compiled). c.args.job < length (jobs_of one.plan at.stage))
+    (sym c.deref.ensures)
     (subst (λ (jobs : List PlanJob). c.args.job < length jobs)
     (sym (asked_jobs at c.requires.asked)) c.requires.within)
 
