@@ -67,7 +67,7 @@ module _ (facts : List Fact) (view : CheckView) (moment : ℕ) (kind : CheckKind
       let P : List ResourceKey → Type 0 = λ some.
       IsJudgement (before ++ filter (is_of kind) (flat_map (checks_on facts) some)) view moment now
       in
-      subst P (take_all uses count past) (asked before starts)
+      subst P (take_all count uses past) (asked before starts)
 
 -- ---- nothing guards them
 
@@ -99,9 +99,6 @@ judged_nothing facts view moment uses judgement none fail wait =
 
 -- ---- all kinds
 
-four : {X : Type 0} (a b c d : List X) → ((a ++ b) ++ c) ++ d ≡ a ++ b ++ c ++ d
-four a b c d = append_assoc (a ++ b) c d ∙ append_assoc a b (c ++ d)
-
 abbrev Step : List Fact → List ResourceKey → CheckView → ℕ → CheckKind → Judgement → Judgement →
     Type 0
 Step facts uses view moment kind old new = (before : List Check) →
@@ -121,7 +118,6 @@ asked_all facts uses shown view moment none one two three all same fail wait a b
     let first = filter (is_of kinds.RequiredTemplate) checks in
     let second = filter (is_of kinds.Branch) checks in
     let third = filter (is_of kinds.Approval) checks in
-    subst P (four first second third (filter (is_of kinds.Hours) checks)
-    ∙ ap (all_checks facts) same)
+    subst P (ap (all_checks facts) same)
     (d ((first ++ second) ++ third) (c (first ++ second) (b first
     (a [] ([], tt, record { fail = fail; wait = wait })))))

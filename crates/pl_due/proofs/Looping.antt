@@ -27,7 +27,7 @@ module _ {X : Type 0} (p : X → Bool) (xs : List X) (i : ℕ) (x : X) (old new 
 
 pub all_kept : {X : Type 0} (p : X → Bool) (xs : List X) (i : ℕ) (kept : List X) →
     length xs ≤ i → kept ≡ filter p (take i xs) → kept ≡ filter p xs
-all_kept p xs i kept past so_far = so_far ∙ ap (filter p) (take_all xs i past)
+all_kept p xs i kept past so_far = so_far ∙ ap (filter p) (take_all i xs past)
 
 -- ---- lists that items give, one behind the other
 
@@ -44,4 +44,4 @@ lists_more f xs i x old new within is so_far more =
 pub all_lists : {X Y : Type 0} (f : X → List Y) (xs ys : List X) (i : ℕ) (made : List Y) →
     length xs ≤ i → xs ≡ ys → made ≡ flat_map f (take i xs) → made ≡ flat_map f ys
 all_lists f xs ys i made past same so_far =
-    so_far ∙ ap (flat_map f) (take_all xs i past ∙ same)
+    so_far ∙ ap (flat_map f) (take_all i xs past ∙ same)

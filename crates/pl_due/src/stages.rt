@@ -9,7 +9,7 @@ use crate::nodes::{has_done_all, is_canceled, is_running, is_waiting, outcomes, 
 use crate::scanning::Kind;
 use crate::stage_at::StageAt;
 use pl_base::Memory;
-use pl_facts::Event;
+use pl_facts::{Event, Rule};
 use pl_judgement::{Judgement, judgement_laws};
 use pl_results::combined;
 use std::alloc::Global;
@@ -69,10 +69,16 @@ impl Kind for Failing {
         if !is_waiting(at) {
             return Ok(None);
         }
-        let Judgement { fail, wait: _wait } = judgement(alloc, at)?;
-        match fail {
+        match fail_of(judgement(alloc, at)?) {
             Some(rule) => Ok(Some(fail_end(alloc, at.run, at.stage, rule)?)),
             None => Ok(None),
         }
     }
+}
+
+/// The rule by which the first check fails that fails.
+fn fail_of(judgement: Judgement) -> Option<Rule>
+    ensures { result ≡ judgement.fail }
+{
+    judgement.fail
 }

@@ -11,15 +11,15 @@ contender_if-requires g c = record {
   there = record {
     queued = sym c.in-Some.ensures;
     planned = ap (λ (one : Compiled). slice_get one.plan.stages c.args.place.stage)
-        (sym c.deref.ensures) ∙ sym c.in-Some-2.ensures.value;
+        (sym c.deref.ensures) ∙ sym c.in-Some-get.ensures.value;
   };
 }
 
-pub returns-in-None-2 : goal.returns-in-None-2
-returns-in-None-2 g c = λ told one there holds.
+pub returns-in-None-get : goal.returns-in-None-get
+returns-in-None-get g c = λ told one there holds.
     no_stage c.args.journal.now.facts c.args.place.run c.args.place.stage c.in-Some.queued.now
     (sym c.in-Some.ensures) (ap (λ (one : Compiled). slice_get one.plan.stages c.args.place.stage)
-    (sym c.deref.ensures) ∙ sym c.in-None-2.ensures.value) told one there
+    (sym c.deref.ensures) ∙ sym c.in-None-get.ensures.value) told one there
 
 pub returns-in-None : goal.returns-in-None
 returns-in-None g c = λ told one there holds.

@@ -6,8 +6,8 @@ use Rattle.pl_due.proofs.Judged.{none_over}
 use Rattle.pl_due.proofs.Ranges.{first_here, none_at_all, none_yet}
 use Rattle.pl_due.proofs.jobs.first_out_of_time.Goals as goal
 
-pub overflow_cast-len : goal.overflow_cast-len
-overflow_cast-len c = omega (arith, c.len.ensures, few_jobs_at c.args.at.now c.requires)
+pub overflow_cast-job-end : goal.overflow_cast-job-end
+overflow_cast-job-end c = omega (arith, c.len-job-end.ensures, few_jobs_at c.args.at.now c.requires)
 
 pub returns-then-is_out_of_time : goal.returns-then-is_out_of_time
 returns-then-is_out_of_time c =
@@ -24,4 +24,4 @@ returns c =
     let at = c.args.at.now in
     none_at_all (is_over at) c.loop-job.job c.loop-job.invariant (λ job behind.
     none_over at.planned.now at.run at.stage (facts_of at) at.moment job
-    (omega (arith, c.len.ensures, c.loop-job-test.false, behind)))
+    (omega (arith, c.len-job-end.ensures, c.loop-job-test.false, behind)))

@@ -11,7 +11,7 @@ use Rattle.pl_due.proofs.jobs.first_passed_over.Goals as goal
 pub first_false-requires-clause-view : goal.first_false-requires-clause-view
 first_false-requires-clause-view c =
     let at = c.args.at.now in
-    c.in_ok-view.ensures
+    c.in_ok-view-in-Some.ensures
     ∙ ap (λ (one : Compiled). run_view one.plan at.run (facts_of at)) c.deref.ensures
 
 pub first_false-requires-clause-before : goal.first_false-requires-clause-before

@@ -13,8 +13,8 @@ returns-then-not-awaits_agent c =
     (condition at.queued.now at.run (Job at.stage c.args.job) (facts_of at))
     (sym c.awaits_agent.ensures ∙ c.if-not-awaits_agent.true))
 
-pub returns-in_ok-job_says : goal.returns-in_ok-job_says
-returns-in_ok-job_says c =
+pub returns : goal.returns
+returns c =
     let at = c.args.at.now in
     let says = condition at.queued.now at.run (Job at.stage c.args.job) (facts_of at) in
     ap not c.in_ok-job_says.ensures

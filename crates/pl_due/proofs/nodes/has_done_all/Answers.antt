@@ -10,7 +10,7 @@ use Rattle.pl_due.proofs.nodes.has_done_all.Goals as goal
 pub overflow_cast-job : goal.overflow_cast-job
 overflow_cast-job c = omega (
   arith,
-  c.len.ensures,
+  c.len-job-end.ensures,
   c.loop-job-test.true,
   few_jobs_at c.args.at.now c.requires,
 )
@@ -19,7 +19,7 @@ pub returns-then-is_none : goal.returns-then-is_none
 returns-then-is_none c =
     let at = c.args.at.now in
     sym (not_all (job_has_ended at.run at.stage (facts_of at)) c.loop-job.job
-    (length at.planned.now.jobs) (omega (arith, c.len.ensures, c.loop-job-test.true))
+    (length at.planned.now.jobs) (omega (arith, c.len-job-end.ensures, c.loop-job-test.true))
     (some_by c.job_ending.result (job_ending at.run at.stage c.loop-job.job (facts_of at))
     c.is_none.result c.job_ending.ensures c.is_none.ensures ∙ ap not c.if-is_none.true))
 

@@ -13,29 +13,29 @@ in_stage-requires g c = record {
   there = record {
     queued = sym c.in-Some.ensures;
     planned = ap (λ (one : Compiled). slice_get one.plan.stages c.args.place.stage)
-        (sym c.deref.ensures) ∙ sym c.in-Some-2.ensures.value;
+        (sym c.deref.ensures) ∙ sym c.in-Some-get.ensures.value;
   };
 }
 
-pub returns-in-Some-2 : goal.returns-in-Some-2
-returns-in-Some-2 g c =
+pub returns-in-Some-get : goal.returns-in-Some-get
+returns-in-Some-get g c =
     let facts = c.args.journal.now.facts in
     if_ok _ _ c.in_stage.result (λ found is. lifted facts
     (g.K.Kind.of c.args.kind.now facts c.args.moment) c.args.place.run c.args.place.stage
-    c.in-Some.queued.now c.in-Some-2.planned.now found
+    c.in-Some.queued.now c.in-Some-get.planned.now found
     (record {
       queued = sym c.in-Some.ensures;
       planned = ap (λ (one : Compiled). slice_get one.plan.stages c.args.place.stage)
-          (sym c.deref.ensures) ∙ sym c.in-Some-2.ensures.value;
+          (sym c.deref.ensures) ∙ sym c.in-Some-get.ensures.value;
     }) is) c.in_stage.ensures
 
-pub returns-in-None-2 : goal.returns-in-None-2
-returns-in-None-2 g c =
+pub returns-in-None-get : goal.returns-in-None-get
+returns-in-None-get g c =
     let facts = c.args.journal.now.facts in
     nowhere facts (g.K.Kind.of c.args.kind.now facts c.args.moment) c.args.place.run
     c.args.place.stage (no_stage facts c.args.place.run c.args.place.stage c.in-Some.queued.now
     (sym c.in-Some.ensures) (ap (λ (one : Compiled). slice_get one.plan.stages c.args.place.stage)
-    (sym c.deref.ensures) ∙ sym c.in-None-2.ensures.value))
+    (sym c.deref.ensures) ∙ sym c.in-None-get.ensures.value))
 
 pub returns-in-None : goal.returns-in-None
 returns-in-None g c =

@@ -17,14 +17,14 @@ returns-then-not-is_permitted c =
     not_permitted (facts_of at) at.moment at.queued.now at.planned.now at.run at.stage
     (sym c.is_permitted.ensures ∙ c.if-not-is_permitted.true)
 
-pub returns-then-not-stage_says : goal.returns-then-not-stage_says
-returns-then-not-stage_says c =
+pub returns-then-not-branch : goal.returns-then-not-branch
+returns-then-not-branch c =
     let at = c.args.at.now in
     not_held (facts_of at) at.moment at.queued.now at.planned.now at.run at.stage
-    (sym c.in_ok-stage_says.ensures ∙ c.if-not-stage_says.true)
+    (sym c.in_ok-stage_says.ensures ∙ c.if-not-branch.true)
 
-pub returns-in_ok-judgement : goal.returns-in_ok-judgement
-returns-in_ok-judgement c =
+pub returns : goal.returns
+returns c =
     let at = c.args.at.now in
     let facts = facts_of at in
     eligible_if (facts_of at) at.moment at.queued.now at.planned.now at.run at.stage
@@ -33,4 +33,4 @@ returns-in_ok-judgement c =
     c.in_ok-judgement.field-0 c.in_ok-judgement.ensures c.passes.result c.passes.ensures
     (sym c.is_waiting.ensures ∙ c.if-not-is_waiting.false)
     (sym c.is_permitted.ensures ∙ c.if-not-is_permitted.false)
-    (sym c.in_ok-stage_says.ensures ∙ c.if-not-stage_says.false)
+    (sym c.in_ok-stage_says.ensures ∙ c.if-not-branch.false)

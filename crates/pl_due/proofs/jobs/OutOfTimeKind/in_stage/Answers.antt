@@ -13,9 +13,9 @@ pub returns-in_ok-timeout_end-in-Some : goal.returns-in_ok-timeout_end-in-Some
 returns-in_ok-timeout_end-in-Some c =
     let at = c.args.at.now in
     timed_some (facts_of at) at.moment at.queued.now at.planned.now at.run at.stage
-    c.in-Some.job c.in_ok-timeout_end.field-0
+    c.in-Some.job c.in_ok-timeout_end-in-Some.field-0
     (sym c.is_running.ensures ∙ c.if-not-is_running.false) c.in-Some.ensures
-    c.in_ok-timeout_end.ensures
+    c.in_ok-timeout_end-in-Some.ensures
 
 pub returns-in-None : goal.returns-in-None
 returns-in-None c =

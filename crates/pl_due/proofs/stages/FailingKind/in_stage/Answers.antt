@@ -18,9 +18,9 @@ returns-in_ok-fail_end-in-Some c =
     fails_some (facts_of at) at.moment at.queued.now at.planned.now at.run at.stage
     (c.judgement_laws.ensures.one (all_checks facts at.planned.now.uses)
     (check_view at.queued.now at.planned.now at.run at.stage facts) at.moment)
-    (record { fail = c.in_ok-judgement.fail; wait = c.in_ok-judgement.wait })
-    c.in_ok-judgement.ensures c.in-Some.rule c.in_ok-fail_end.field-0
-    (sym c.is_waiting.ensures ∙ c.if-not-is_waiting.false) c.in-Some.is c.in_ok-fail_end.ensures
+    c.in_ok-judgement.field-0
+    c.in_ok-judgement.ensures c.in-Some.rule c.in_ok-fail_end-in-Some.field-0
+    (sym c.is_waiting.ensures ∙ c.if-not-is_waiting.false) (sym c.in-Some.ensures) c.in_ok-fail_end-in-Some.ensures
 
 pub returns-in-None : goal.returns-in-None
 returns-in-None c =
@@ -29,5 +29,5 @@ returns-in-None c =
     fails_none (facts_of at) at.moment at.queued.now at.planned.now at.run at.stage
     (c.judgement_laws.ensures.one (all_checks facts at.planned.now.uses)
     (check_view at.queued.now at.planned.now at.run at.stage facts) at.moment)
-    (record { fail = c.in_ok-judgement.fail; wait = c.in_ok-judgement.wait })
-    c.in_ok-judgement.ensures c.in-None.is
+    c.in_ok-judgement.field-0
+    c.in_ok-judgement.ensures (sym c.in-None.ensures)

@@ -10,17 +10,17 @@ returns-then-not-is_waiting c =
     passed_idle (facts_of at) at.moment at.queued.now at.planned.now at.run at.stage
     (sym c.is_waiting.ensures ∙ c.if-not-is_waiting.true)
 
-pub returns-then-stage_says : goal.returns-then-stage_says
-returns-then-stage_says c =
+pub returns-then-branch : goal.returns-then-branch
+returns-then-branch c =
     let at = c.args.at.now in
     not_false (facts_of at) at.moment at.queued.now at.planned.now at.run at.stage
-    (sym c.in_ok-stage_says.ensures ∙ c.if-stage_says.true)
+    (sym c.in_ok-stage_says.ensures ∙ c.if-branch.true)
 
-pub returns-in_ok-false_stage_end : goal.returns-in_ok-false_stage_end
-returns-in_ok-false_stage_end c =
+pub returns : goal.returns
+returns c =
     let at = c.args.at.now in
     passed_some (facts_of at) at.moment at.queued.now at.planned.now at.run at.stage
     c.in_ok-false_stage_end.field-0 (sym c.is_waiting.ensures ∙ c.if-not-is_waiting.false)
-    (sym c.in_ok-stage_says.ensures ∙ c.if-stage_says.false)
+    (sym c.in_ok-stage_says.ensures ∙ c.if-branch.false)
     (c.in_ok-false_stage_end.ensures
     ∙ ap (λ b. false_stage_end b at.run at.stage) c.is_canceled-canceled.ensures)
