@@ -1,0 +1,3 @@
+pub mod Gives
+pub mod Laws
+pub mod Settles
