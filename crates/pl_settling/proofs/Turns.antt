@@ -2,6 +2,7 @@
 use Rattle.std.proofs.Common.{◌≡◌, ◌≤◌, ℕ, List, [], ◌∷◌, ◌++◌, Some, None, refl, sym, ap, ◌∙◌}
 use Rattle.std.proofs.Common.{subst}
 use Rattle.std.specs.List.{All}
+use Rattle.std.specs.Prelude.{Err, Ok, OnErr, Result}
 use Rattle.std.proofs.lemmas.List.{append_assoc, append-nil}
 use Rattle.std.proofs.lemmas.List.Elements.{All-append, All-cons, All-nil}
 use Rattle.pl_due.specs.Due.{IsDue}
@@ -46,6 +47,11 @@ over moment start now (added, adds, is) none =
     let e : now.facts ≡ start.facts ++ added = ap (λ (l : Log). l.facts) is in
     let P : List Fact → Type 0 = λ fs. IsDue fs moment None in
     (added, settles_so moment start.facts added adds (subst P e none), is)
+
+-- what holds anyway holds after an error
+pub on_err : {X E : Type 0} (r : Result X E) (A : Type 0) → A → OnErr r A
+on_err (Ok x) A holds = tt
+on_err (Err e) A holds = holds
 
 -- ---- what is due is fit
 

@@ -1,44 +1,59 @@
 use Rattle.std.proofs.Common.{subst, sym}
+use Rattle.pl_due.specs.Due.{IsDue}
 use Rattle.pl_due.specs.Fit.{AreFit}
 use Rattle.pl_journal.specs.Log.{Log}
-use Rattle.pl_settling.proofs.Turns.{SoFar, begun, one_more, over, still_fit}
+use Rattle.pl_settling.proofs.Turns.{SoFar, begun, on_err, one_more, over, still_fit}
 use Rattle.pl_settling.proofs.settling.settle.Goals as goal
 
-pub loop-_turn-init : goal.loop-_turn-init
-loop-_turn-init c = record {
+pub loop-turn-init : goal.loop-turn-init
+loop-turn-init c = record {
   fit = c.requires.fit;
   so_far = begun c.args.moment c.args.journal.now;
 }
 
-pub loop-_turn-preserved : goal.loop-_turn-preserved
-loop-_turn-preserved c =
+pub loop-turn-preserved : goal.loop-turn-preserved
+loop-turn-preserved c =
     let moment = c.args.moment in
-    let now = c.loop-_turn.journal in
+    let now = c.loop-turn.journal in
     let new = c.push.new.self in
+    let due = subst (IsDue now.facts moment) c.in-Some.is c.in_ok-event.ensures in
     record {
-      fit = still_fit moment now new c.in-Some.event c.requires.moment
-          c.loop-_turn.invariant.fit c.in-Some.ensures c.in_ok-push.ensures.ok;
+      fit = still_fit moment now new c.in-Some.event c.requires.moment c.loop-turn.invariant.fit due
+          c.in_ok-push-in-Some.ensures.ok;
       so_far = one_more moment c.args.journal.now now new c.in-Some.event
-          c.loop-_turn.invariant.so_far c.in-Some.ensures c.in_ok-push.ensures.ok;
+          c.loop-turn.invariant.so_far due c.in_ok-push-in-Some.ensures.ok;
     }
 
-pub returns-in_err-due-clause-err : goal.returns-in_err-due-clause-err
-returns-in_err-due-clause-err c = c.loop-_turn.invariant.so_far
+pub due-requires-clause-fit : goal.due-requires-clause-fit
+due-requires-clause-fit c = c.loop-turn.invariant.fit
+
+pub returns-in_err-event-clause-err : goal.returns-in_err-event-clause-err
+returns-in_err-event-clause-err c = on_err c.from_residual.result _ c.loop-turn.invariant.so_far
+
+pub returns-in_err-event-clause-fit : goal.returns-in_err-event-clause-fit
+returns-in_err-event-clause-fit c = c.loop-turn.invariant.fit
 
 pub returns-in_err-push-in-Some-clause-err : goal.returns-in_err-push-in-Some-clause-err
 returns-in_err-push-in-Some-clause-err c =
-    subst (SoFar c.args.moment c.args.journal.now) (sym c.in_err-push.ensures.err)
-    c.loop-_turn.invariant.so_far
+    on_err c.from_residual-in_err-push-in-Some.result _
+    (subst (SoFar c.args.moment c.args.journal.now) (sym c.in_err-push-in-Some.ensures.err)
+    c.loop-turn.invariant.so_far)
 
 pub returns-in_err-push-in-Some-clause-fit : goal.returns-in_err-push-in-Some-clause-fit
 returns-in_err-push-in-Some-clause-fit c =
-    subst (λ (log : Log). AreFit log.facts) (sym c.in_err-push.ensures.err)
-    c.loop-_turn.invariant.fit
+    subst (λ (log : Log). AreFit log.facts) (sym c.in_err-push-in-Some.ensures.err)
+    c.loop-turn.invariant.fit
 
 pub returns-in-None-clause-ok : goal.returns-in-None-clause-ok
 returns-in-None-clause-ok c =
-    over c.args.moment c.args.journal.now c.loop-_turn.journal c.loop-_turn.invariant.so_far
-    c.in-None.ensures
+    over c.args.moment c.args.journal.now c.loop-turn.journal c.loop-turn.invariant.so_far
+    (subst (IsDue c.loop-turn.journal.facts c.args.moment) c.in-None.is c.in_ok-event.ensures)
+
+pub returns-in-None-clause-fit : goal.returns-in-None-clause-fit
+returns-in-None-clause-fit c = c.loop-turn.invariant.fit
 
 pub returns-clause-err : goal.returns-clause-err
-returns-clause-err c = c.loop-_turn.invariant.so_far
+returns-clause-err c = c.loop-turn.invariant.so_far
+
+pub returns-clause-fit : goal.returns-clause-fit
+returns-clause-fit c = c.loop-turn.invariant.fit
