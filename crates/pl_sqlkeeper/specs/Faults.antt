@@ -3,6 +3,8 @@ use Rattle.std.specs.Prelude.{Bool, true, false, not, Result, Ok, Err}
 use Rattle.sqlite.specs.declared.error.Error.{Error}
 use Rattle.sqlite.specs.declared.error.Error.TheVariants.{SqliteFailure}
 use Rattle.sqlite.specs.declared.error.ErrorCode.TheVariants.{OutOfMemory}
+use Rattle.pl_sqlkeeper.specs.declared.opening.Unopened.{Unopened}
+use Rattle.pl_sqlkeeper.specs.declared.opening.Unopened.TheVariants.{Database, Other}
 use Rattle.pl_keeper.specs.declared.fault.KeeperFault.{KeeperFault}
 use Rattle.pl_keeper.specs.declared.fault.KeeperFault.TheVariants.{Failed, Memory}
 
@@ -14,6 +16,11 @@ is_memory _ = false
 abbrev pub fault_of : Error → KeeperFault
 fault_of (SqliteFailure OutOfMemory) = Memory
 fault_of _ = Failed
+
+-- why a database wasn't taken over, as a keeper's fault
+abbrev pub fault_why : Unopened → KeeperFault
+fault_why (Database e) = fault_of e
+fault_why Other = Failed
 
 -- an answer of the database, as a keeper tells it
 abbrev pub told : {T : Type 0} → Result T Error → Result T KeeperFault

@@ -1,7 +1,7 @@
 -- The rows that a keeper over a database tells.
 use Rattle.std.specs.Prelude.{◌≡◌, ◌<ℤ◌, Bool, true, false, if◌then◌else◌, List, [], ◌∷◌, length}
 use Rattle.std.specs.Prelude.{map, flat_map}
-use Rattle.std.specs.Prelude.{Option, Some, None, IsTrue}
+use Rattle.std.specs.Prelude.{Option, Some, None, IfSome, IsTrue}
 use Rattle.std.specs.List.{AllAdjacentBelow, AllByRecursion}
 use Rattle.sqlite.specs.declared.types.Value.{Value}
 use Rattle.sqlite.specs.declared.types.Value.TheVariants.{Blob}
@@ -71,3 +71,7 @@ StaysOurs s = IsTrue s.is_open → IsOurs s.now
 -- while the database is open, its rows are told
 abbrev pub told_by : State → Option (List Kept)
 told_by s = if s.is_open then Some (rows_in s.now.trees) else None
+
+-- where the rows are told, there are none
+abbrev pub TellsNoRows : State → Type 0
+TellsNoRows s = IfSome (told_by s) (λ held. held ≡ [])

@@ -6,8 +6,9 @@ ghost use Rattle.sqlite.specs.State.{HasCleanDisk, Survives};
 ghost use Rattle.sqlite.specs.Held.{state};
 ghost use Rattle.pl_base.specs.Counts.{one_more};
 ghost use Rattle.pl_keeper.specs.Keeping.{all_changed, IsInOrder, WhereTold};
-ghost use Rattle.pl_sqlkeeper.specs.Kept.{rows_in, told_by};
+ghost use Rattle.pl_sqlkeeper.specs.Kept.{rows_in, told_by, TellsNoRows};
 ghost use Rattle.pl_sqlkeeper.specs.Schema.{blank_schema, kept_schema};
+ghost use Rattle.pl_sqlkeeper.specs.declared.opening.Unopened.TheVariants.{Other};
 
 use crate::changes::keep_all;
 use crate::faults::told;
@@ -50,10 +51,12 @@ impl<S: Alter + Drop> Drop for SqlKeeper<S> {
 impl<S: Alter> SqlKeeper<S> {
     /// A keeper over a database: one that holds nothing, where it makes its table, or one that
     /// holds just this table. Every other database is refused, and left as it was. It tells why it
-    /// refused, and hands the connection back.
+    /// refused, and hands the connection back. `Other` is the reason only of another database, or
+    /// of one that was shut while the table was made.
     ///
     /// A crash leaves what it could leave before, or a database without rows where it held nothing.
-    /// The rows of a database that holds something are as before.
+    /// A keeper over such a database tells no rows at first. The rows of a database that holds
+    /// something are as before.
     pub fn adopt_or_why(
         connection: Connection<S>,
     ) -> Result<SqlKeeper<S>, (Unopened, Connection<S>)>
@@ -62,6 +65,8 @@ impl<S: Alter> SqlKeeper<S> {
             (state S.Store keeper.conn) (λ db. rows_in db ≡ [])) }
         ensures crash_refused { IfErr result (λ refused. Survives (state S.Store connection)
             (state S.Store refused.1) (λ db. rows_in db ≡ [])) }
+        ensures blank { connection.schema ≡ blank_schema →
+            IfOk result (λ keeper. TellsNoRows (state S.Store keeper.conn)) }
         ensures kept { connection.schema ≢ blank_schema → IfOk result (λ keeper.
             WhereTold (told_by (state S.Store connection)) (told_by (state S.Store keeper.conn))
             (λ before after. after ≡ before)) }
@@ -70,6 +75,10 @@ impl<S: Alter> SqlKeeper<S> {
             (λ before after. after ≡ before)) }
         ensures untouched { connection.schema ≢ blank_schema → connection.schema ≢ kept_schema →
             IfErr result (λ refused. refused.1 ≡ connection) }
+        ensures other { connection.schema ≡ kept_schema →
+            IfErr result (λ refused. refused.0 ≢ Other) }
+        ensures other_blank { connection.schema ≡ blank_schema → IfErr result (λ refused.
+            refused.0 ≡ Other → ¬ IsTrue (state S.Store refused.1).is_open) }
     {
         let mut conn = connection;
         match prepare(&mut conn) {
@@ -86,6 +95,8 @@ impl<S: Alter> SqlKeeper<S> {
             (state S.Store keeper.conn) (λ db. rows_in db ≡ [])) }
         ensures crash_refused { IfErr result (λ refused. Survives (state S.Store connection)
             (state S.Store refused.1) (λ db. rows_in db ≡ [])) }
+        ensures blank { connection.schema ≡ blank_schema →
+            IfOk result (λ keeper. TellsNoRows (state S.Store keeper.conn)) }
         ensures kept { connection.schema ≢ blank_schema → IfOk result (λ keeper.
             WhereTold (told_by (state S.Store connection)) (told_by (state S.Store keeper.conn))
             (λ before after. after ≡ before)) }

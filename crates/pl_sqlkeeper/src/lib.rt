@@ -3,6 +3,7 @@
 
 mod changes;
 mod faults;
+mod files;
 mod keeper;
 mod looking;
 mod numbers;
@@ -11,5 +12,6 @@ mod place;
 mod rows;
 mod schema;
 
+pub use files::FileKeeper;
 pub use keeper::SqlKeeper;
 pub use opening::Unopened;

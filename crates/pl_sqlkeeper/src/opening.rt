@@ -1,12 +1,14 @@
 //! Databases that a keeper takes over.
 
-ghost use Rattle.std.specs.Prelude.{◌≡◌, ◌≢◌, [], false, OnOk};
+ghost use Rattle.std.specs.Prelude.{◌≡◌, ◌≢◌, [], false, IfErr, IsTrue, OnOk};
 ghost use Rattle.sqlite.specs.State.{Survives};
 ghost use Rattle.sqlite.specs.Held.{state};
 ghost use Rattle.pl_keeper.specs.Keeping.{WhereTold};
-ghost use Rattle.pl_sqlkeeper.specs.Kept.{rows_in, told_by, AreApart, StaysOurs};
+ghost use Rattle.pl_sqlkeeper.specs.Faults.{fault_why};
+ghost use Rattle.pl_sqlkeeper.specs.Kept.{rows_in, told_by, AreApart, StaysOurs, TellsNoRows};
 ghost use Rattle.pl_sqlkeeper.specs.Schema.{blank_schema, kept_schema};
 ghost use Rattle.pl_sqlkeeper.specs.declared.opening.Unopened.TheVariants.{Database as Refused};
+ghost use Rattle.pl_sqlkeeper.specs.declared.opening.Unopened.TheVariants.{Other};
 
 use crate::looking::stored_numbers;
 use crate::numbers::are_numbered;
@@ -28,7 +30,9 @@ pub enum Unopened {
 
 impl Unopened {
     /// As a keeper's fault: Memory where memory was wanting, and else Failed.
-    pub fn fault(self) -> KeeperFault {
+    pub fn fault(self) -> KeeperFault
+        ensures { result ≡ fault_why self }
+    {
         match self {
             Unopened::Database(Error::SqliteFailure(ErrorCode::OutOfMemory)) => KeeperFault::Memory,
             _ => KeeperFault::Failed,
@@ -56,8 +60,11 @@ impl From<Error> for Unopened {
 /// Makes the table, in a database that lists nothing.
 fn make_table<S: Alter>(conn: &mut Connection<S>) -> Result<usize, Error>
     requires { conn.old.schema ≡ blank_schema }
-    ensures { Survives (state S.Store conn.old) (state S.Store conn.new)
+    ensures crash { Survives (state S.Store conn.old) (state S.Store conn.new)
         (λ db. rows_in db ≡ []) }
+    ensures blank { OnOk result (TellsNoRows (state S.Store conn.new)) }
+    ensures made { OnOk result (IsTrue (state S.Store conn.new).is_open →
+        conn.new.schema ≡ kept_schema) }
 {
     conn.execute(
         "CREATE TABLE pallwethig_rows_1 (place BLOB NOT NULL PRIMARY KEY, \
@@ -70,6 +77,7 @@ fn make_table<S: Alter>(conn: &mut Connection<S>) -> Result<usize, Error>
 fn judged<S: Alter>(conn: &Connection<S>) -> Result<(), Unopened>
     ensures idle { OnOk result (conn.now.in_transaction ≡ false) }
     ensures schema { OnOk result (conn.now.schema ≡ kept_schema) }
+    ensures other { IfErr result (λ why. why ≡ Other → conn.now.schema ≢ kept_schema) }
 {
     if !conn.is_autocommit() {
         return Err(Unopened::Database(Error::SqliteFailure(ErrorCode::TransactionState)));
@@ -83,7 +91,8 @@ fn judged<S: Alter>(conn: &Connection<S>) -> Result<(), Unopened>
 
 /// Refuses rows of which two have one number.
 fn tested(stored: &[Stored]) -> Result<(), Unopened>
-    ensures { OnOk result (AreApart stored.now) }
+    ensures apart { OnOk result (AreApart stored.now) }
+    ensures other { IfErr result (λ why. why ≢ Other) }
 {
     if are_numbered(stored) {
         Ok(())
@@ -101,6 +110,7 @@ fn numbered<S: Alter>(conn: &mut Connection<S>) -> Result<(), Unopened>
     ensures kept { WhereTold (told_by (state S.Store conn.old)) (told_by (state S.Store conn.new))
         (λ before after. after ≡ before) }
     ensures ours { OnOk result (StaysOurs (state S.Store conn.new)) }
+    ensures other { IfErr result (λ why. why ≢ Other) }
 {
     let numbers = stored_numbers(conn)?;
     tested(numbers.as_slice())
@@ -113,7 +123,9 @@ fn judge<S: Alter>(conn: &mut Connection<S>) -> Result<(), Unopened>
     ensures kept { WhereTold (told_by (state S.Store conn.old)) (told_by (state S.Store conn.new))
         (λ before after. after ≡ before) }
     ensures ours { OnOk result (StaysOurs (state S.Store conn.new)) }
+    ensures was_ours { OnOk result (conn.old.schema ≡ kept_schema) }
     ensures untouched { conn.old.schema ≢ kept_schema → conn.new ≡ conn.old }
+    ensures other { IfErr result (λ why. why ≡ Other → conn.old.schema ≢ kept_schema) }
 {
     judged(conn)?;
     numbered(conn)
@@ -126,6 +138,8 @@ fn fill<S: Alter>(conn: &mut Connection<S>) -> Result<(), Unopened>
     ensures ours { OnOk result (StaysOurs (state S.Store conn.new)) }
     ensures crash { Survives (state S.Store conn.old) (state S.Store conn.new)
         (λ db. rows_in db ≡ []) }
+    ensures blank { OnOk result (TellsNoRows (state S.Store conn.new)) }
+    ensures other { IfErr result (λ why. why ≡ Other → ¬ IsTrue (state S.Store conn.new).is_open) }
 {
     make_table(conn)?;
     judge(conn)
@@ -137,11 +151,16 @@ pub(crate) fn prepare<S: Alter>(conn: &mut Connection<S>) -> Result<(), Unopened
     ensures ours { OnOk result (StaysOurs (state S.Store conn.new)) }
     ensures crash { Survives (state S.Store conn.old) (state S.Store conn.new)
         (λ db. rows_in db ≡ []) }
+    ensures blank { conn.old.schema ≡ blank_schema →
+        OnOk result (TellsNoRows (state S.Store conn.new)) }
     ensures kept { conn.old.schema ≢ blank_schema →
         WhereTold (told_by (state S.Store conn.old)) (told_by (state S.Store conn.new))
         (λ before after. after ≡ before) }
     ensures untouched { conn.old.schema ≢ blank_schema → conn.old.schema ≢ kept_schema →
         conn.new ≡ conn.old }
+    ensures other { IfErr result (λ why. why ≡ Other → conn.old.schema ≢ kept_schema) }
+    ensures other_blank { conn.old.schema ≡ blank_schema →
+        IfErr result (λ why. why ≡ Other → ¬ IsTrue (state S.Store conn.new).is_open) }
 {
     if is_blank(conn.schema()) {
         return fill(conn);

@@ -1,0 +1,303 @@
+#!/usr/bin/env python3
+"""Tries a built program of `keeps.rt.in` over real files: real.py PROGRAM PART..
+
+Parts: `refusals` (what is taken and what is refused, with the reason, and that a refused file stays), `kills` (a child killed
+at 200 random moments), `two` (two programs on one store), `full` (a full disk; needs root, for a small file system), `costs`
+(commits beside Python's sqlite3, and an opening of many rows). Prints a line for each thing that was tried, and ends with 0
+where all held. Works in a new folder below the current one.
+"""
+import contextlib
+import os
+import random
+import shutil
+import signal
+import sqlite3
+import statistics
+import subprocess
+import sys
+import tempfile
+import time
+
+program = os.path.abspath(sys.argv[1])
+ours = "CREATE TABLE pallwethig_rows_1 (place BLOB NOT NULL PRIMARY KEY, body BLOB NOT NULL) STRICT"
+OTHER = "the database holds other tables than the service's"
+NONE = "file is not a database that obeys its schema"
+CANNOT = "unable to open database file"
+LOCKED = "database is locked"
+failed = 0
+
+
+def told(name, holds, more=""):
+    global failed
+    failed += not holds
+    print(f"{name}: {'held' if holds else 'FAILED'}{' ' + more if more else ''}", flush=True)
+
+
+def run(path, what, lines="", **more):
+    return subprocess.run([program, path, what], input=lines.encode(), capture_output=True, timeout=600, **more)
+
+
+def rows_after(entries):
+    """What `rows` is to print after so many entries: table, key and body of each row, in order of table and key."""
+    rows = [(0, b"", (entries - 1).to_bytes(8, "big"))] if entries else []
+    rows += [(6, n.to_bytes(8, "big"), b"r" * 300) for n in range(entries)]
+    rows += [(7, n.to_bytes(8, "big"), b"s" * 100) for n in range(entries)]
+    return "".join(f"{table:02x} {key.hex()} {body.hex()}\n" for table, key, body in rows).encode()
+
+
+def made(path, *texts, mode="delete"):
+    """A database that Python's sqlite3 makes."""
+    db = sqlite3.connect(path)
+    db.execute(f"PRAGMA journal_mode={mode}")
+    for text in texts:
+        db.execute(text)
+    db.commit()
+    db.close()
+
+
+def written(path, data):
+    with open(path, "wb") as file:
+        file.write(data)
+
+
+def bytes_of(path):
+    try:
+        with open(path, "rb") as file:
+            return file.read()
+    except OSError as error:
+        return error.errno
+
+
+@contextlib.contextmanager
+def held(path, text):
+    """Another process has the database open and ran a text. (This one would let go of its lock by reading the file.)"""
+    code = "import sqlite3, sys; db = sqlite3.connect(sys.argv[1], isolation_level=None); db.execute(sys.argv[2]).fetchall(); print(flush=True); input()"
+    other = subprocess.Popen([sys.executable, "-c", code, path, text], stdin=subprocess.PIPE, stdout=subprocess.PIPE)
+    other.stdout.readline()
+    yield
+    other.communicate(b"\n")
+
+
+def refused(name, path, why, **more):
+    """The path is refused with this reason, on standard error alone and by status 4, and its bytes stay."""
+    before = bytes_of(path)
+    end = run(path, "count", **more)
+    holds = end.returncode == 4 and end.stdout == b"" and end.stderr.decode() == f"{path}: {why}\n"
+    told(name, holds and bytes_of(path) == before, "" if holds else repr(end))
+
+
+def taken(name, path, count=0):
+    end = run(path, "count")
+    told(name, (end.returncode, end.stdout, end.stderr) == (0, b"%d\n" % count, b""), repr(end) if end.returncode else "")
+
+
+def refusals():
+    taken("a missing file", "new.db")
+    taken("the same file again", "new.db")
+    written("empty.db", b"")
+    taken("an empty file", "empty.db")
+    made("ours.db", ours)
+    taken("our table, made by sqlite3", "ours.db")
+    made("log.db", ours, mode="wal")
+    taken("our table, made by sqlite3 in its log mode", "log.db")
+    told("an entry in it", run("log.db", "each", "1\n").stdout == b"0\n" and run("log.db", "rows").stdout == rows_after(1))
+    written("text.db", b"this is a text and no database\n" * 400)
+    refused("a text", "text.db", NONE)
+    written("bytes.db", random.Random(1).randbytes(65536))
+    refused("random bytes", "bytes.db", NONE)
+    for mode in ("delete", "wal"):
+        made(f"other-{mode}.db", "CREATE TABLE other (a)", "INSERT INTO other VALUES (1)", mode=mode)
+        refused(f"another program's database ({mode})", f"other-{mode}.db", OTHER)
+        made(f"more-{mode}.db", ours, "CREATE TABLE other (a)", mode=mode)
+        refused(f"our table and another one ({mode})", f"more-{mode}.db", OTHER)
+        made(f"columns-{mode}.db", "CREATE TABLE pallwethig_rows_1 (place BLOB, body BLOB)", mode=mode)
+        refused(f"our name with other columns ({mode})", f"columns-{mode}.db", OTHER)
+        made(f"view-{mode}.db", ours, "CREATE VIEW v AS SELECT 1", mode=mode)
+        refused(f"our table and a view ({mode})", f"view-{mode}.db", OTHER)
+        made(f"index-{mode}.db", ours, "CREATE INDEX i ON pallwethig_rows_1 (body)", mode=mode)
+        refused(f"our table and an index ({mode})", f"index-{mode}.db", OTHER)
+        made(f"version-{mode}.db", ours.replace("rows_1", "rows_2"), mode=mode)
+        refused(f"a later version of the rows ({mode})", f"version-{mode}.db", OTHER)
+    with held("ours.db", "BEGIN EXCLUSIVE"):
+        refused("a file that another program has locked", "ours.db", LOCKED)
+    with held("log.db", "SELECT count(*) FROM pallwethig_rows_1"):
+        refused("a file that an idle sqlite3 has open in its log mode", "log.db", LOCKED)
+    os.mkdir("folder")
+    refused("a folder", "folder", CANNOT)
+    refused("a missing folder", "missing/rows.db", CANNOT)
+    refused("a name of memory", ":memory:", CANNOT)
+    refused("no name", "", CANNOT)
+    made("locked.db", ours)
+    os.chmod("locked.db", 0o444)
+    who = {"user": 65534, "group": 65534} if os.geteuid() == 0 else {}
+    refused("a file without the right to write", "locked.db", CANNOT, **who)
+    os.mkdir("closed", 0o555)
+    refused("a folder without the right to write", "closed/rows.db", CANNOT, **who)
+    made("damaged.db", ours, "INSERT INTO pallwethig_rows_1 VALUES (x'', x'00')")
+    end = run("damaged.db", "rows")
+    told("a row without a table's byte", end.returncode == 4 and end.stderr == b"damaged.db: 1 faults\n", repr(end.stderr))
+
+
+def child(path):
+    # The lines of a child that never ends by itself.
+    proc = subprocess.Popen([program, path, "each"], stdin=subprocess.PIPE, stdout=subprocess.PIPE, stderr=subprocess.PIPE)
+    proc.stdin.write(b"100000000\n")
+    proc.stdin.flush()
+    return proc
+
+
+def killed(path, some):
+    """A child is killed at a random moment. Tells the entries that it told last, or None; how many there are then, or None."""
+    proc = child(path)
+    begun = proc.stdout.read(1) if some.random() < 0.8 else b""
+    time.sleep(some.random() * some.choice((0.002, 0.02, 0.1)))
+    proc.send_signal(signal.SIGKILL)
+    lines = (begun + proc.stdout.read()).split(b"\n")[:-1]
+    proc.wait()
+    end = run(path, "rows")
+    many = (end.stdout.count(b"\n")) // 2
+    return (int(lines[-1]) + 1 if lines else None), (many if end.returncode == 0 and end.stdout == rows_after(many) else None)
+
+
+def kills(times=200, each=20):
+    some = random.Random(49)
+    for first in range(0, times, each):
+        entries, holds, silent, more = 0, True, 0, 0
+        for _ in range(min(each, times - first)):
+            acknowledged, found = killed(f"killed-{first}.db", some)
+            silent += acknowledged is None
+            entries = max(entries, acknowledged or 0)
+            holds &= found in (entries, entries + 1)
+            more += found == entries + 1
+            entries = found or 0
+        told(f"{min(each, times - first)} killed children", holds, f"({silent} killed before an entry was told, {more} left an entry that wasn't told)")
+
+
+def two():
+    proc = child("two.db")
+    proc.stdout.readline()
+    end = run("two.db", "each", "1\n")
+    told("a second program on one store", end.returncode == 4 and end.stderr == f"two.db: {LOCKED}\n".encode() and end.stdout == b"")
+    first = int(proc.stdout.readline())
+    told("the first one goes on", first > 0)
+    proc.kill()
+    proc.communicate()
+
+
+def full():
+    os.mkdir("small")
+    if subprocess.run(["mount", "-t", "tmpfs", "-o", "size=400k", "none", "small"]).returncode != 0:
+        return told("a full disk", False, "no file system could be mounted")
+    try:
+        end = run("small/rows.db", "each", "10000\n")
+        entries = len(end.stdout.split())
+        told("a full disk is a fault", end.returncode == 4 and entries > 0, f"({entries} entries before it)")
+        after = run("small/rows.db", "each", "1\n")
+        told("a full disk is a fault again", after.returncode == 4 and after.stdout == b"", repr(after.stderr))
+        for name in ("rows.db", "rows.db-wal"):
+            shutil.copy(f"small/{name}", name)
+        told("its rows are those that were told", run("rows.db", "rows").stdout == rows_after(entries))
+    finally:
+        subprocess.run(["umount", "small"])
+
+
+class Commits:
+    """A child that makes so many entries and says when."""
+
+    def __init__(self, path):
+        self.proc = subprocess.Popen([program, path, "last"], stdin=subprocess.PIPE, stdout=subprocess.PIPE)
+        self.make(1)
+
+    def make(self, many):
+        self.proc.stdin.write(b"%d\n" % many)
+        self.proc.stdin.flush()
+        self.proc.stdout.readline()
+
+    def close(self):
+        self.proc.communicate()
+
+
+class Python:
+    """The same rows by Python's sqlite3."""
+
+    def __init__(self, path):
+        self.db = sqlite3.connect(path, isolation_level=None)
+        self.db.execute("PRAGMA journal_mode=WAL")
+        self.db.execute("PRAGMA synchronous=FULL")
+        self.db.execute(ours)
+        self.next = 0
+        self.make(1)
+
+    def make(self, many):
+        text = "INSERT OR REPLACE INTO pallwethig_rows_1 (place, body) VALUES (?1, ?2)"
+        for _ in range(many):
+            number = self.next.to_bytes(8, "big")
+            self.db.execute("BEGIN IMMEDIATE")
+            self.db.execute(text, (b"\x06" + number, b"r" * 300))
+            self.db.execute(text, (b"\x07" + number, b"s" * 100))
+            self.db.execute(text, (b"\x00", number))
+            self.db.execute("COMMIT")
+            self.next += 1
+
+    def close(self):
+        self.db.close()
+
+
+def timed(work):
+    start = time.perf_counter()
+    work()
+    return time.perf_counter() - start
+
+
+def commits(turns=60, many=25):
+    sides = (Commits("cost.db"), Python("cost-python.db"))
+    times = ([], [])
+    for turn in range(turns):
+        for at in (0, 1) if turn % 2 else (1, 0):
+            times[at].append(timed(lambda: sides[at].make(many)) / many * 1e6)
+    for side in sides:
+        side.close()
+    rates = [statistics.median(b / a for a, b in zip(*times)), sum(times[1]) / sum(times[0]), min(times[1]) / min(times[0])]
+    print("microseconds a commit, median (least): here %.0f (%.0f), sqlite3 %.0f (%.0f)" % (
+        statistics.median(times[0]), min(times[0]), statistics.median(times[1]), min(times[1])))
+    told("commits beside sqlite3's", rates[0] >= 0.9, "(by turns %.2f of its rate, in all %.2f, at best %.2f)" % tuple(rates))
+
+
+def opening(runs=10000):
+    side = Commits("many.db")
+    side.make(runs - 1)
+    side.close()
+    run("none.db", "count")
+
+    def read():
+        db = sqlite3.connect("many.db")
+        rows = [(place[0], place[1:], body) for place, body in db.execute(
+            "SELECT place, body FROM pallwethig_rows_1 ORDER BY place")]
+        assert len(rows) == 2 * runs + 1
+        db.close()
+
+    here, there = [], []
+    for _ in range(7):
+        base = timed(lambda: run("none.db", "count"))
+        here.append(timed(lambda: run("many.db", "count")) - base)
+        there.append(timed(read))
+    ratio = statistics.median(here) / statistics.median(there)
+    told("opening many rows", ratio <= 1.5, "(%d rows: here %.1f ms, sqlite3's SELECT %.1f ms, ratio %.2f)" % (
+        2 * runs + 1, statistics.median(here) * 1e3, statistics.median(there) * 1e3, ratio))
+
+
+def costs():
+    commits()
+    opening()
+
+
+work = tempfile.mkdtemp(prefix="store-", dir=".")
+os.chmod(work, 0o777)
+os.chdir(work)
+try:
+    for part in sys.argv[2:]:
+        {"refusals": refusals, "kills": kills, "two": two, "full": full, "costs": costs}[part]()
+finally:
+    os.chdir("..")
+    shutil.rmtree(work)
+sys.exit(failed != 0)
