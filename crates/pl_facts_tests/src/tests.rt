@@ -1,7 +1,0 @@
-mod calls;
-mod copies;
-mod objects;
-mod plans;
-mod rules;
-mod spelling;
-mod texts;
