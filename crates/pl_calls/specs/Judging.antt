@@ -18,7 +18,8 @@ use Rattle.pl_directives.specs.declared.region.Form.{Form}
 use Rattle.pl_directives.specs.declared.region.Form.TheVariants.{Stages, Jobs, Steps, Variables}
 use Rattle.pl_directives.specs.Complaints.{refused}
 use Rattle.pl_reading.specs.Steps.{◌>>=◌}
-use Rattle.pl_calls.specs.Parts.{Body, body_of, under, key_place_of}
+use Rattle.pl_calls.specs.Parts.{Body, body_of, key_place_of}
+use Rattle.pl_params.specs.Nodes.{under}
 
 abbrev pub form_key : Form → List ℕ
 form_key Stages = codes "stages"

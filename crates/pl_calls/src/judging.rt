@@ -12,9 +12,10 @@ ghost use Rattle.pl_calls.specs.Parts.{body_of};
 ghost use Rattle.pl_calls.specs.Reaching.{node_in};
 
 use crate::files::Parsed;
-use crate::parts::{key_place, under};
+use crate::parts::key_place;
 use pl_base::{List, Memory, Node, NodeBody, NodePair, Place, Text};
 use pl_directives::{ExpandFault, ExpandProblem, Form, complain};
+use pl_params::under;
 use pl_template::{ScalarForm, scalar_form};
 use pl_yaml::YamlFault;
 use std::alloc::Global;

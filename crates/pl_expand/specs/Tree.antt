@@ -52,7 +52,8 @@ use Rattle.pl_directives.specs.Contents.{begun, put_pair}
 use Rattle.pl_directives.specs.Counting.{entered}
 use Rattle.pl_calls.specs.Judging.{unless_at}
 use Rattle.pl_calls.specs.Meant.{◌>>>◌, alone}
-use Rattle.pl_calls.specs.Parts.{Body, body_of, under}
+use Rattle.pl_calls.specs.Parts.{Body, body_of}
+use Rattle.pl_params.specs.Nodes.{under}
 use Rattle.pl_calls.specs.Reaching.{Opens, node_in, opens, same_file}
 use Rattle.pl_recursion.specs.Expanding.{expanded}
 use Rattle.pl_recursion.specs.Following.{Follow, scope_of}

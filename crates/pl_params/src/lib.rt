@@ -20,3 +20,4 @@ pub use fault::{Complaint, Found, Misdeclared, ParamFault, ParamProblem};
 pub use given::{Bound, Given};
 pub use kind::ParamKind;
 pub use param::{Declared, Param};
+pub use parts::under;

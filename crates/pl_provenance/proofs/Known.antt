@@ -28,7 +28,8 @@ use Rattle.pl_directives.specs.declared.region.Region.TheVariants.{Free}
 use Rattle.pl_directives.specs.declared.fault.ExpandProblem.TheVariants.{TooManyFiles}
 use Rattle.pl_directives.specs.Complaints.{refused}
 use Rattle.pl_calls.specs.Meant.{◌>>>◌}
-use Rattle.pl_calls.specs.Parts.{Body, body_of, under}
+use Rattle.pl_calls.specs.Parts.{Body, body_of}
+use Rattle.pl_params.specs.Nodes.{under}
 use Rattle.pl_calls.specs.Reaching.{Opens, opens as opens_of, target, same_file, is_called}
 use Rattle.pl_calls.specs.Reaching.{called_then, found_at, opened_at}
 use Rattle.pl_calls.specs.declared.files.Parsed.{Parsed}

@@ -46,7 +46,8 @@ use Rattle.pl_directives.specs.Counting.{entered}
 use Rattle.pl_directives.specs.Regions.{under as inside_key}
 use Rattle.pl_directives.specs.Scalars.{scalar_value}
 use Rattle.pl_calls.specs.Parameters.{declared_by}
-use Rattle.pl_calls.specs.Parts.{Body, under}
+use Rattle.pl_calls.specs.Parts.{Body}
+use Rattle.pl_params.specs.Nodes.{under}
 use Rattle.pl_calls.specs.Reaching.{Opens}
 use Rattle.pl_recursion.specs.Expanding.{expanded, part_of, done}
 use Rattle.pl_recursion.specs.Following.{scope_of}

@@ -16,7 +16,8 @@ use Rattle.pl_root.specs.declared.root_key.RootKey.{RootKey}
 use Rattle.pl_root.specs.declared.root_key.RootKey.TheVariants.{Parameters, Resources, Extends}
 use Rattle.pl_root.specs.declared.root_key.RootKey.TheVariants.{Variables, Other}
 use Rattle.pl_directives.specs.Complaints.{complaint}
-use Rattle.pl_calls.specs.Parts.{under, key_place_of}
+use Rattle.pl_calls.specs.Parts.{key_place_of}
+use Rattle.pl_params.specs.Nodes.{under}
 use Rattle.pl_root.specs.Resources.{resources_complaints, repositories_in}
 
 -- ---- what its literal keys say before anything is expanded
