@@ -15,6 +15,7 @@ mod reading;
 mod refusing;
 
 pub use binding::bind;
+pub use complaints::is_before;
 pub use declaring::declare;
 pub use fault::{Complaint, Found, Misdeclared, ParamFault, ParamProblem};
 pub use given::{Bound, Given};
