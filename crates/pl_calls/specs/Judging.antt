@@ -6,7 +6,7 @@ use Rattle.pl_base.specs.declared.node.Node.{Node}
 use Rattle.pl_base.specs.declared.node.NodeBody.TheOpen.{Scalar, Seq, Map}
 use Rattle.pl_base.specs.declared.node.NodePair.{NodePair}
 use Rattle.pl_base.specs.declared.place.Place.{Place}
-use Rattle.pl_literal.specs.Items.{is}
+use Rattle.pl_base.specs.Texts.{is}
 use Rattle.pl_template.specs.Forms.{form_of}
 use Rattle.pl_template.specs.declared.forms.ScalarForm.{ScalarForm}
 use Rattle.pl_template.specs.declared.forms.ScalarForm.TheVariants.{Whole, Unclosed}

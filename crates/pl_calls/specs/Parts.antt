@@ -7,7 +7,7 @@ use Rattle.pl_base.specs.declared.node.NodeBody.{NodeBody, out-NodeBody}
 use Rattle.pl_base.specs.declared.node.NodeBody.TheOpen.{NodeBody-F, Scalar, Seq, Map}
 use Rattle.pl_base.specs.declared.node.NodePair.{NodePair}
 use Rattle.pl_params.specs.Nodes.{under}
-use Rattle.pl_literal.specs.Items.{is}
+use Rattle.pl_base.specs.Texts.{is}
 
 abbrev pub Body : Type 0
 Body = NodeBody-F NodeBody Node NodePair

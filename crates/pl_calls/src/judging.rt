@@ -79,7 +79,7 @@ fn may_stand(form: Form, key: &Text) -> bool
 }
 
 /// The first key that may not stand there.
-#[tactic(auto, using(pl_params::proofs::Finding::find_drop_yes, pl_params::proofs::Finding::find_drop_no))]
+#[tactic(auto, using(pl_base::proofs::Finding::find_drop_yes, pl_base::proofs::Finding::find_drop_no))]
 fn stray(form: Form, pairs: &List<NodePair>) -> Option<&Place>
     ensures { option_copied result ≡ stray (may_stand form) pairs.now }
 {

@@ -45,7 +45,7 @@ pub fn text_under<'n>(key: &str, pairs: &'n List<NodePair>) -> Option<&'n Text>
 }
 
 /// Where a key stands.
-#[tactic(auto, using(pl_params::proofs::Finding::find_drop_yes, pl_params::proofs::Finding::find_drop_no))]
+#[tactic(auto, using(pl_base::proofs::Finding::find_drop_yes, pl_base::proofs::Finding::find_drop_no))]
 pub fn key_place<'n>(key: &str, pairs: &'n List<NodePair>) -> Option<&'n Place>
     ensures { option_copied result ≡ key_place_of key.now pairs.now }
 {

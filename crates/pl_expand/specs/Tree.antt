@@ -24,7 +24,7 @@ use Rattle.pl_frame.specs.Doubles.{first_double}
 use Rattle.pl_frame.specs.Origins.{literal_at}
 use Rattle.pl_frame.specs.declared.frame.Frame.{Frame}
 use Rattle.pl_frame.specs.declared.frame.Parameter.{Parameter}
-use Rattle.pl_literal.specs.Items.{is}
+use Rattle.pl_base.specs.Texts.{is}
 use Rattle.pl_directives.specs.declared.fault.Complaint.{Complaint}
 use Rattle.pl_directives.specs.declared.fault.ExpandFault.{ExpandFault}
 use Rattle.pl_directives.specs.declared.fault.ExpandFault.TheVariants.{Refused}

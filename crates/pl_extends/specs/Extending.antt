@@ -20,7 +20,7 @@ use Rattle.pl_base.specs.declared.value.MarkedNode.{MarkedNode}
 use Rattle.pl_base.specs.declared.value.MarkedPair.{MarkedPair}
 use Rattle.pl_frame.specs.Doubles.{first_double}
 use Rattle.pl_frame.specs.declared.frame.Frame.{Frame}
-use Rattle.pl_literal.specs.Items.{is}
+use Rattle.pl_base.specs.Texts.{is}
 use Rattle.pl_template.specs.Forms.{form_of}
 use Rattle.pl_template.specs.Keys.{key_form_of}
 use Rattle.pl_template.specs.declared.forms.KeyForm.{KeyForm}

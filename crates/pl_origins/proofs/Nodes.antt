@@ -11,7 +11,7 @@ use Rattle.pl_base.specs.declared.node.NodePair.{NodePair}
 use Rattle.pl_base.specs.declared.node.NodeBody.TheOpen.{Scalar, Seq, Map}
 use Rattle.pl_base.specs.declared.node.NodeBody.TheVariants as written
 use Rattle.pl_base.specs.declared.value.Value.{Str}
-use Rattle.pl_literal.specs.Items.{is}
+use Rattle.pl_base.specs.Texts.{is}
 use Rattle.pl_params.specs.Declaring.{name_of}
 use Rattle.pl_params.specs.Nodes.{text_in, text_of}
 use Rattle.pl_template.specs.Cutting.{holds_opening}

@@ -24,7 +24,7 @@ use Rattle.pl_frame.specs.declared.frame.Variable.{Variable}
 use Rattle.pl_frame.specs.Names.{within as turn_frame}
 use Rattle.pl_frame.specs.Origins.{literal_at}
 use Rattle.pl_line.specs.declared.code.YamlCode.{YamlCode}
-use Rattle.pl_literal.specs.Items.{is}
+use Rattle.pl_base.specs.Texts.{is}
 use Rattle.pl_literal.specs.Literal.{literal, origin_at}
 use Rattle.pl_params.specs.declared.given.Given.{Given}
 use Rattle.pl_params.specs.declared.kind.ParamKind.{ParamKind}

@@ -11,7 +11,7 @@ use Rattle.pl_base.specs.declared.node.Node.{Node, fold-Node}
 use Rattle.pl_base.specs.declared.node.NodeBody.TheOpen.{NodeBody-F, Node-F, NodePair-F}
 use Rattle.pl_base.specs.declared.node.NodeBody.TheOpen.{Scalar, Seq, Map}
 use Rattle.pl_base.specs.declared.node.NodePair.{NodePair, fold-NodePair}
-use Rattle.pl_literal.specs.Items.{is}
+use Rattle.pl_base.specs.Texts.{is}
 use Rattle.pl_params.specs.Declaring.{is_before}
 use Rattle.pl_template.specs.Cutting.{holds_opening}
 use Rattle.pl_directives.specs.declared.fault.Complaint.{Complaint}

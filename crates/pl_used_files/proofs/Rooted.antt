@@ -21,7 +21,7 @@ use Rattle.pl_frame.specs.declared.frame.Frame.{Frame}
 use Rattle.pl_frame.specs.declared.frame.Parameter.{Parameter}
 use Rattle.pl_frame.specs.Names.{within as turn_frame}
 use Rattle.pl_frame.specs.Origins.{literal_at}
-use Rattle.pl_literal.specs.Items.{is}
+use Rattle.pl_base.specs.Texts.{is}
 use Rattle.pl_paths.specs.Paths.{cut_path}
 use Rattle.pl_directives.specs.declared.action.Action.{Action}
 use Rattle.pl_directives.specs.declared.action.Action.TheVariants.{Put, Run, Pass, Repeat, Insert}
