@@ -118,7 +118,7 @@ fn all_named_well(named: &List<Named>, names: &List<Text>) -> bool
     true
 }
 
-#[tactic(auto, using(pl_eval::proofs::Finding::any_drop_yes, pl_eval::proofs::Finding::any_drop_no))]
+#[tactic(auto, using(pl_base::proofs::Finding::any_drop_yes, pl_base::proofs::Finding::any_drop_no))]
 fn one_wrong(all: &List<Option<Outcome>>) -> bool
     ensures { result ≡ list_any went_wrong all.now }
 {

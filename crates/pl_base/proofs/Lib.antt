@@ -1,3 +1,4 @@
 pub mod Chains
+pub mod Finding
 pub mod FileKeys
 pub mod Cases

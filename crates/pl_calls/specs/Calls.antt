@@ -13,7 +13,7 @@ use Rattle.pl_base.specs.declared.value.MarkedPair.{MarkedPair}
 use Rattle.pl_expr.specs.Conversions.{cast_text}
 use Rattle.pl_frame.specs.Origins.{across}
 use Rattle.pl_frame.specs.Trees.{moved}
-use Rattle.pl_literal.specs.Items.{is}
+use Rattle.pl_base.specs.Texts.{is}
 use Rattle.pl_params.specs.declared.given.Given.{Given}
 use Rattle.pl_directives.specs.declared.fault.ExpandFault.{ExpandFault}
 use Rattle.pl_directives.specs.declared.fault.ExpandProblem.TheVariants.{WrongKind}

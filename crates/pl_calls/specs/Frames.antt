@@ -15,7 +15,7 @@ use Rattle.pl_reading.specs.Steps.{◌>>=◌}
 use Rattle.pl_calls.specs.Calls.{given_across}
 use Rattle.pl_calls.specs.declared.frames.Template.{Template as Lent}
 use Rattle.pl_calls.specs.Parameters.{declared_by, bound_to}
-use Rattle.pl_calls.specs.Parts.{under}
+use Rattle.pl_params.specs.Nodes.{under}
 
 abbrev pub inner_frame :
     FileKey → List Parameter → List Variable → List Crossing → Frame

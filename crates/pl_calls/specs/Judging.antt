@@ -6,7 +6,7 @@ use Rattle.pl_base.specs.declared.node.Node.{Node}
 use Rattle.pl_base.specs.declared.node.NodeBody.TheOpen.{Scalar, Seq, Map}
 use Rattle.pl_base.specs.declared.node.NodePair.{NodePair}
 use Rattle.pl_base.specs.declared.place.Place.{Place}
-use Rattle.pl_literal.specs.Items.{is}
+use Rattle.pl_base.specs.Texts.{is}
 use Rattle.pl_template.specs.Forms.{form_of}
 use Rattle.pl_template.specs.declared.forms.ScalarForm.{ScalarForm}
 use Rattle.pl_template.specs.declared.forms.ScalarForm.TheVariants.{Whole, Unclosed}
@@ -18,7 +18,8 @@ use Rattle.pl_directives.specs.declared.region.Form.{Form}
 use Rattle.pl_directives.specs.declared.region.Form.TheVariants.{Stages, Jobs, Steps, Variables}
 use Rattle.pl_directives.specs.Complaints.{refused}
 use Rattle.pl_reading.specs.Steps.{◌>>=◌}
-use Rattle.pl_calls.specs.Parts.{Body, body_of, under, key_place_of}
+use Rattle.pl_calls.specs.Parts.{Body, body_of, key_place_of}
+use Rattle.pl_params.specs.Nodes.{under}
 
 abbrev pub form_key : Form → List ℕ
 form_key Stages = codes "stages"

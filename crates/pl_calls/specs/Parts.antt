@@ -6,7 +6,8 @@ use Rattle.pl_base.specs.declared.node.Node.{Node}
 use Rattle.pl_base.specs.declared.node.NodeBody.{NodeBody, out-NodeBody}
 use Rattle.pl_base.specs.declared.node.NodeBody.TheOpen.{NodeBody-F, Scalar, Seq, Map}
 use Rattle.pl_base.specs.declared.node.NodePair.{NodePair}
-use Rattle.pl_literal.specs.Items.{is}
+use Rattle.pl_params.specs.Nodes.{under}
+use Rattle.pl_base.specs.Texts.{is}
 
 abbrev pub Body : Type 0
 Body = NodeBody-F NodeBody Node NodePair
@@ -25,10 +26,6 @@ items_in other = None
 abbrev pub pairs_in : Body → Option (List NodePair)
 pairs_in (Map pairs) = Some pairs
 pairs_in other = None
-
--- the value under a key
-abbrev pub under : List ℕ → List NodePair → Option Node
-under key pairs = option_map (λ pair. pair.item) (find (λ pair. is pair.key key) pairs)
 
 -- where a key stands
 abbrev pub key_place_of : List ℕ → List NodePair → Option Place

@@ -10,7 +10,7 @@ use Rattle.pl_base.specs.declared.expanded.Repository.{Repository}
 use Rattle.pl_base.specs.declared.node.Node.{Node}
 use Rattle.pl_base.specs.declared.place.FileKey.{FileKey}
 use Rattle.pl_base.specs.declared.place.Place.{Place}
-use Rattle.pl_literal.specs.Items.{is}
+use Rattle.pl_base.specs.Texts.{is}
 use Rattle.pl_paths.specs.Paths.{cut_path, from_file, from_root}
 use Rattle.pl_paths.specs.declared.cutting.TemplatePath.{TemplatePath}
 use Rattle.pl_yaml.specs.declared.fault.YamlFault.TheVariants.{Refused, Memory}

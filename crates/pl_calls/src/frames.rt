@@ -7,13 +7,12 @@ ghost use Rattle.pl_directives.specs.Gives.{Gives};
 
 use crate::call::given_across;
 use crate::parameters::{bound_to, declared_by};
-use crate::parts::under;
 use pl_base::{
     Crossing, ExactCopy, FileKey, List, MarkedPair, Memory, NodePair, Shared, SharedList,
 };
 use pl_directives::ExpandFault;
 use pl_frame::{Frame, Parameter, Variable, parameters_of};
-use pl_params::Given;
+use pl_params::{Given, under};
 use std::alloc::Global;
 
 /// What arguments give across a border.

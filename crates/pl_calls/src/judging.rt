@@ -12,9 +12,10 @@ ghost use Rattle.pl_calls.specs.Parts.{body_of};
 ghost use Rattle.pl_calls.specs.Reaching.{node_in};
 
 use crate::files::Parsed;
-use crate::parts::{key_place, under};
+use crate::parts::key_place;
 use pl_base::{List, Memory, Node, NodeBody, NodePair, Place, Text};
 use pl_directives::{ExpandFault, ExpandProblem, Form, complain};
+use pl_params::under;
 use pl_template::{ScalarForm, scalar_form};
 use pl_yaml::YamlFault;
 use std::alloc::Global;
@@ -78,7 +79,7 @@ fn may_stand(form: Form, key: &Text) -> bool
 }
 
 /// The first key that may not stand there.
-#[tactic(auto, using(pl_params::proofs::Finding::find_drop_yes, pl_params::proofs::Finding::find_drop_no))]
+#[tactic(auto, using(pl_base::proofs::Finding::find_drop_yes, pl_base::proofs::Finding::find_drop_no))]
 fn stray(form: Form, pairs: &List<NodePair>) -> Option<&Place>
     ensures { option_copied result ≡ stray (may_stand form) pairs.now }
 {

@@ -15,5 +15,6 @@ pub use files::{Files, Parsed};
 pub use frames::{Template, framed_by};
 pub use judging::{body_in, form_key, judge_body, may_give, node_in, template_in};
 pub use parameters::{bound_to, declared_by};
-pub use parts::{items_of, key_place, pairs_of, text_of, text_under, under};
+pub use parts::{items_of, key_place, pairs_of, text_of, text_under};
+pub use pl_params::under;
 pub use reaching::{Home, Opened, Reach, open, same_file};

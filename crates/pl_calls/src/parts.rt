@@ -1,22 +1,11 @@
 ghost use Rattle.std.specs.Prelude.{◌≡◌};
 ghost use Rattle.std.specs.Option.{option_copied};
-ghost use Rattle.pl_calls.specs.Parts.{body_of, text_in, items_in, pairs_in, under};
+ghost use Rattle.pl_calls.specs.Parts.{body_of, text_in, items_in, pairs_in};
+ghost use Rattle.pl_params.specs.Nodes.{under};
 ghost use Rattle.pl_calls.specs.Parts.{key_place_of, text_under};
 
 use pl_base::{List, Node, NodeBody, NodePair, Place, Text};
-
-/// The value under a key.
-#[tactic(auto, using(pl_params::proofs::Finding::find_drop_yes, pl_params::proofs::Finding::find_drop_no))]
-pub fn under<'n>(key: &str, pairs: &'n List<NodePair>) -> Option<&'n Node>
-    ensures { option_copied result ≡ under key.now pairs.now }
-{
-    for pair in pairs.as_slice() {
-        if pair.key.as_str() == key {
-            return Some(&pair.item);
-        }
-    }
-    None
-}
+use pl_params::under;
 
 /// A scalar's text.
 pub fn text_of(node: &Node) -> Option<&Text>
@@ -56,7 +45,7 @@ pub fn text_under<'n>(key: &str, pairs: &'n List<NodePair>) -> Option<&'n Text>
 }
 
 /// Where a key stands.
-#[tactic(auto, using(pl_params::proofs::Finding::find_drop_yes, pl_params::proofs::Finding::find_drop_no))]
+#[tactic(auto, using(pl_base::proofs::Finding::find_drop_yes, pl_base::proofs::Finding::find_drop_no))]
 pub fn key_place<'n>(key: &str, pairs: &'n List<NodePair>) -> Option<&'n Place>
     ensures { option_copied result ≡ key_place_of key.now pairs.now }
 {

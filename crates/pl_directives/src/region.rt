@@ -1,6 +1,6 @@
 ghost use Rattle.std.specs.Prelude.{◌≡◌, ◌+◌, codes, IfOk};
 ghost use Rattle.pl_base.specs.declared.value.Value.{out-Value};
-ghost use Rattle.pl_literal.specs.Items.{is};
+ghost use Rattle.pl_base.specs.Texts.{is};
 ghost use Rattle.pl_directives.specs.Regions.{form_named, is_quiet, region_of_key, under, inside};
 ghost use Rattle.pl_directives.specs.Regions.{of_item, form_at, call_form, is_begun, is_path};
 ghost use Rattle.pl_directives.specs.Regions.{is_template};

@@ -90,7 +90,7 @@ pub fn judge_key(
 }
 
 /// Where the first key comes from that may not stand in a mapping.
-#[tactic(auto, using(pl_params::proofs::Finding::find_drop_yes, pl_params::proofs::Finding::find_drop_no))]
+#[tactic(auto, using(pl_base::proofs::Finding::find_drop_yes, pl_base::proofs::Finding::find_drop_no))]
 fn stray_among(region: Region, called: bool, pairs: &List<MarkedPair>) -> Option<&Place>
     ensures { option_copied result ≡ stray_among region called pairs.now }
 {

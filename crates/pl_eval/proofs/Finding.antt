@@ -2,32 +2,13 @@
 use Rattle.std.proofs.Common.{◌≡◌, ℕ, zero, suc, ◌+◌, ◌<◌, Bool, true, false, Option, Some, None}
 use Rattle.std.proofs.Common.{List, [], ◌∷◌, ◌++◌, length, get_or, drop, refl, ap, sym, ◌∙◌, arith}
 use Rattle.std.specs.Prelude.{slice_get}
-use Rattle.std.specs.List.{find, list_any, filter_map, cons_option}
+use Rattle.std.specs.List.{find, filter_map, cons_option}
 use Rattle.std.proofs.lemmas.List.{at_drop_more, append-nil}
 use Rattle.std.proofs.lemmas.List.Elements.{filter_map-append}
+use Rattle.pl_base.proofs.Finding.{find_drop_yes}
 use Rattle.pl_base.specs.declared.value.MarkedNode.{MarkedNode}
 use Rattle.pl_base.specs.declared.value.Value.{Value}
 use Rattle.pl_eval.specs.LookUps.{member, member_behind, found, found_behind}
-
-pub find_drop_yes :
-    {X : Type 0} (p : X → Bool) (xs : List X) (i : ℕ) (d : X) → i < length xs →
-    p (get_or xs i d) ≡ true → find p (drop i xs) ≡ Some (get_or xs i d)
-find_drop_yes p xs i d within passes = at_drop_more (find p) xs i d within ∙ rw passes refl
-
-pub find_drop_no :
-    {X : Type 0} (p : X → Bool) (xs : List X) (i : ℕ) (d : X) → i < length xs →
-    p (get_or xs i d) ≡ false → find p (drop i xs) ≡ find p (drop (i + 1) xs)
-find_drop_no p xs i d within fails = at_drop_more (find p) xs i d within ∙ rw fails refl
-
-pub any_drop_yes :
-    {X : Type 0} (p : X → Bool) (xs : List X) (i : ℕ) (d : X) → i < length xs →
-    p (get_or xs i d) ≡ true → list_any p (drop i xs) ≡ true
-any_drop_yes p xs i d within passes = at_drop_more (list_any p) xs i d within ∙ rw passes refl
-
-pub any_drop_no :
-    {X : Type 0} (p : X → Bool) (xs : List X) (i : ℕ) (d : X) → i < length xs →
-    p (get_or xs i d) ≡ false → list_any p (drop i xs) ≡ list_any p (drop (i + 1) xs)
-any_drop_no p xs i d within fails = at_drop_more (list_any p) xs i d within ∙ rw fails refl
 
 pub behind_some :
     (names : List (List ℕ)) (i : ℕ) (d : List ℕ) (node next : MarkedNode) → i < length names →

@@ -51,7 +51,7 @@ fn compare(alloc: Global, left: &Value, right: &Value) -> Result<Ordering, EvalF
     }
 }
 
-#[tactic(auto, using(crate::proofs::Finding::any_drop_yes, crate::proofs::Finding::any_drop_no))]
+#[tactic(auto, using(pl_base::proofs::Finding::any_drop_yes, pl_base::proofs::Finding::any_drop_no))]
 fn is_an_item(alloc: Global, items: &List<MarkedNode>, sought: &Value) -> Result<bool, Memory>
     ensures { IfOk result (λ is. is ≡ list_any (λ item. equals sought.now item.value) items.now) }
 {
@@ -63,7 +63,7 @@ fn is_an_item(alloc: Global, items: &List<MarkedNode>, sought: &Value) -> Result
     Ok(false)
 }
 
-#[tactic(auto, using(crate::proofs::Finding::any_drop_yes, crate::proofs::Finding::any_drop_no))]
+#[tactic(auto, using(pl_base::proofs::Finding::any_drop_yes, pl_base::proofs::Finding::any_drop_no))]
 fn is_a_property(alloc: Global, pairs: &List<MarkedPair>, sought: &Value) -> Result<bool, Memory>
     ensures { IfOk result (λ is. is ≡ list_any (λ pair. equals sought.now pair.item.value)
         pairs.now) }

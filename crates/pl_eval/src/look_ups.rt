@@ -26,7 +26,7 @@ pub fn is_named(key: &Text, name: &Text) -> bool
 }
 
 /// Where the first property of that name stands, the case of letters aside.
-#[tactic(auto, using(crate::proofs::Finding::find_drop_yes, crate::proofs::Finding::find_drop_no))]
+#[tactic(auto, using(pl_base::proofs::Finding::find_drop_yes, pl_base::proofs::Finding::find_drop_no))]
 pub fn place_of(pairs: &List<MarkedPair>, name: &Text) -> Option<usize>
     ensures { MatchOption result (find (λ pair. same_name name.now pair.key) pairs.now ≡ None)
         (λ place. (place < length pairs.now) ×

@@ -24,7 +24,7 @@ use Rattle.pl_frame.specs.Doubles.{first_double}
 use Rattle.pl_frame.specs.Origins.{literal_at}
 use Rattle.pl_frame.specs.declared.frame.Frame.{Frame}
 use Rattle.pl_frame.specs.declared.frame.Parameter.{Parameter}
-use Rattle.pl_literal.specs.Items.{is}
+use Rattle.pl_base.specs.Texts.{is}
 use Rattle.pl_directives.specs.declared.fault.Complaint.{Complaint}
 use Rattle.pl_directives.specs.declared.fault.ExpandFault.{ExpandFault}
 use Rattle.pl_directives.specs.declared.fault.ExpandFault.TheVariants.{Refused}
@@ -52,7 +52,8 @@ use Rattle.pl_directives.specs.Contents.{begun, put_pair}
 use Rattle.pl_directives.specs.Counting.{entered}
 use Rattle.pl_calls.specs.Judging.{unless_at}
 use Rattle.pl_calls.specs.Meant.{◌>>>◌, alone}
-use Rattle.pl_calls.specs.Parts.{Body, body_of, under}
+use Rattle.pl_calls.specs.Parts.{Body, body_of}
+use Rattle.pl_params.specs.Nodes.{under}
 use Rattle.pl_calls.specs.Reaching.{Opens, node_in, opens, same_file}
 use Rattle.pl_recursion.specs.Expanding.{expanded}
 use Rattle.pl_recursion.specs.Following.{Follow, scope_of}

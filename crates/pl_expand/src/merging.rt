@@ -1,7 +1,7 @@
 ghost use Rattle.std.specs.Prelude.{◌≡◌, ◌++◌, ◌&&◌, [], not, codes, filter, IfOk};
 ghost use Rattle.std.specs.List.{cons_option, filter_map, list_any};
 ghost use Rattle.std.specs.Option.{option_copied};
-ghost use Rattle.pl_literal.specs.Items.{is};
+ghost use Rattle.pl_base.specs.Texts.{is};
 ghost use Rattle.pl_calls.specs.Judging.{unless_at};
 ghost use Rattle.pl_directives.specs.Gives.{Gives};
 ghost use Rattle.pl_directives.specs.declared.fault.ExpandProblem.TheVariants.{WrongKind};

@@ -20,7 +20,7 @@ use Rattle.pl_base.specs.declared.value.MarkedNode.{MarkedNode}
 use Rattle.pl_base.specs.declared.value.MarkedPair.{MarkedPair}
 use Rattle.pl_frame.specs.Doubles.{first_double}
 use Rattle.pl_frame.specs.declared.frame.Frame.{Frame}
-use Rattle.pl_literal.specs.Items.{is}
+use Rattle.pl_base.specs.Texts.{is}
 use Rattle.pl_template.specs.Forms.{form_of}
 use Rattle.pl_template.specs.Keys.{key_form_of}
 use Rattle.pl_template.specs.declared.forms.KeyForm.{KeyForm}
@@ -44,7 +44,8 @@ use Rattle.pl_calls.specs.Calls.{path_text, pairs_from, arguments_at}
 use Rattle.pl_calls.specs.Frames.{template_of, framed_by}
 use Rattle.pl_calls.specs.Judging.{unless_at, stray, held, template_in, may_give}
 use Rattle.pl_calls.specs.Meant.{◌>>>◌, alone}
-use Rattle.pl_calls.specs.Parts.{Body, body_of, under}
+use Rattle.pl_calls.specs.Parts.{Body, body_of}
+use Rattle.pl_params.specs.Nodes.{under}
 use Rattle.pl_calls.specs.Reaching.{Opens, node_in}
 use Rattle.pl_calls.specs.declared.reaching.Opened.{Opened}
 use Rattle.pl_recursion.specs.Expanding.{Filling, part_of, entry_of, expanded, path_by}

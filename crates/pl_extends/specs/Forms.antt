@@ -7,7 +7,7 @@ use Rattle.std.specs.Option.{option_map}
 use Rattle.std.specs.List.{list_any}
 use Rattle.pl_base.specs.declared.place.Place.{Place}
 use Rattle.pl_base.specs.declared.value.MarkedPair.{MarkedPair}
-use Rattle.pl_literal.specs.Items.{is}
+use Rattle.pl_base.specs.Texts.{is}
 
 -- no job of the root stands beside the template's, wherever its key came from
 abbrev pub is_form : List ℕ → Bool

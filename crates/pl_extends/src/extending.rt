@@ -186,7 +186,7 @@ fn may_extend(key: &Text) -> bool
 }
 
 /// The first key that may not stand there.
-#[tactic(auto, using(pl_params::proofs::Finding::find_drop_yes, pl_params::proofs::Finding::find_drop_no))]
+#[tactic(auto, using(pl_base::proofs::Finding::find_drop_yes, pl_base::proofs::Finding::find_drop_no))]
 fn stray(pairs: &List<NodePair>) -> Option<&Place>
     ensures { option_copied result ≡ stray may_extend pairs.now }
 {
@@ -461,7 +461,7 @@ fn arguments_given(alloc: Global, pairs: &List<MarkedPair>) -> Result<List<Marke
 }
 
 /// The value under a key.
-#[tactic(auto, using(pl_params::proofs::Finding::find_drop_yes, pl_params::proofs::Finding::find_drop_no))]
+#[tactic(auto, using(pl_base::proofs::Finding::find_drop_yes, pl_base::proofs::Finding::find_drop_no))]
 pub fn item_under<'p>(key: &str, pairs: &'p List<MarkedPair>) -> Option<&'p MarkedNode>
     ensures { option_copied result ≡ item_under key.now pairs.now }
 {

@@ -15,7 +15,7 @@ pub fn is_form(key: &Text) -> bool
 }
 
 /// Where the first key of the root's own jobs comes from.
-#[tactic(auto, using(pl_params::proofs::Finding::find_drop_yes, pl_params::proofs::Finding::find_drop_no))]
+#[tactic(auto, using(pl_base::proofs::Finding::find_drop_yes, pl_base::proofs::Finding::find_drop_no))]
 pub fn form_place(pairs: &List<MarkedPair>) -> Option<&Place>
     ensures { option_copied result ≡ form_place pairs.now }
 {

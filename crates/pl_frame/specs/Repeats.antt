@@ -2,7 +2,7 @@
 use Rattle.std.specs.Prelude.{ℕ, List, [], ◌∷◌, ◌++◌, Option, Some, None, if◌then◌else◌}
 use Rattle.std.specs.List.{list_any}
 use Rattle.pl_base.specs.declared.value.MarkedPair.{MarkedPair}
-use Rattle.pl_literal.specs.Items.{is}
+use Rattle.pl_base.specs.Texts.{is}
 
 abbrev pub double_in : List (List ℕ) → List MarkedPair → Option MarkedPair
 double_in before [] = None

@@ -11,7 +11,7 @@ use Rattle.pl_base.specs.declared.value.MarkedNode.{MarkedNode}
 use Rattle.pl_base.specs.declared.value.MarkedPair.{MarkedPair}
 use Rattle.pl_eval.specs.Known.{same_name}
 use Rattle.pl_expr.specs.Conversions.{cast_text}
-use Rattle.pl_literal.specs.Items.{is}
+use Rattle.pl_base.specs.Texts.{is}
 use Rattle.pl_frame.specs.declared.frame.Variable.{Variable}
 
 abbrev pub variable : List ℕ → Value → Variable

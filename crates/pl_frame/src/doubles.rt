@@ -1,7 +1,7 @@
 ghost use Rattle.std.specs.Prelude.{◌≡◌, [], IfOk};
 ghost use Rattle.std.specs.List.{list_any};
 ghost use Rattle.std.specs.Option.{option_copied};
-ghost use Rattle.pl_literal.specs.Items.{is};
+ghost use Rattle.pl_base.specs.Texts.{is};
 ghost use Rattle.pl_frame.specs.Doubles.{first_double};
 ghost use Rattle.pl_frame.specs.Repeats.{double_in};
 

@@ -1,10 +1,10 @@
 -- Which kind of item a mapping is, by its first key (Microsoft Learn, Azure Pipelines, "YAML schema
 -- reference": the pages of steps, jobs.job, jobs.deployment, stages.stage, and of the templates of
 -- these).
-use Rattle.std.specs.Prelude.{ℕ, Bool, List, [], ◌∷◌, Option, Some, None, codes, nat_eq}
+use Rattle.std.specs.Prelude.{ℕ, Bool, List, [], ◌∷◌, Option, Some, None, codes}
 use Rattle.std.specs.Prelude.{if◌then◌else◌}
 use Rattle.std.specs.List.{list_any}
-use Rattle.std.specs.Cmp.Lexicographic.{pointwise}
+use Rattle.pl_base.specs.Texts.{is}
 use Rattle.pl_base.specs.declared.value.Value.{Value, out-Value}
 use Rattle.pl_base.specs.declared.value.Value.TheOpen.{Value-F}
 use Rattle.pl_base.specs.declared.value.Value.TheOpen as layer
@@ -20,10 +20,6 @@ step_keys =
     codes "task" ∷ codes "script" ∷ codes "bash" ∷ codes "pwsh" ∷ codes "powershell" ∷
     codes "checkout"
     ∷ codes "publish" ∷ codes "download" ∷ []
-
--- whether two texts are the same
-abbrev pub is : List ℕ → List ℕ → Bool
-is text word = pointwise nat_eq text word
 
 -- the kind of the items that begin with that key
 abbrev pub kind_of_key : List ℕ → Option ItemKind

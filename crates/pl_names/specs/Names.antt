@@ -2,9 +2,9 @@
 use Rattle.std.specs.Prelude.{ℕ, nat_eq, nat_le, Bool, false, not, ◌==◌, ◌&&◌, ◌||◌, List}
 use Rattle.std.specs.Prelude.{[], ◌∷◌, length, codes}
 use Rattle.std.specs.Char.{is_control}
-use Rattle.std.specs.Cmp.Lexicographic.{pointwise}
 use Rattle.std.specs.List.{list_all, list_any, slice_split, starts_with}
 use Rattle.std.specs.Str.{chars}
+use Rattle.pl_base.specs.Texts.{is}
 use Rattle.pl_base.specs.declared.place.FileKey.{FileKey}
 
 -- a byte of one of ASCII's printable characters, from the space to the tilde
@@ -32,15 +32,12 @@ abbrev pub is_ref : List ℕ → Bool
 is_ref text = nat_le (length text) 128 && starts_with nat_eq text (codes "refs/")
 
 -- a path is slashes, each with a segment behind it, which isn't empty, `.` or `..`
-abbrev pub is_same : List ℕ → List ℕ → Bool
-is_same one other = pointwise nat_eq one other
-
 abbrev pub slash : ℕ
 slash = 47
 
 abbrev pub is_segment : List ℕ → Bool
 is_segment text =
-    not (is_same text (codes "") || (is_same text (codes ".") || is_same text (codes "..")))
+    not (is text (codes "") || (is text (codes ".") || is text (codes "..")))
 
 abbrev pub are_segments : List ℕ → Bool
 are_segments text = list_all is_segment (slice_split (λ byte. byte == slash) text)

@@ -4,7 +4,7 @@ use Rattle.std.proofs.Common.{Err, List, [], ◌∷◌, ◌++◌, map, refl, ap,
 use Rattle.std.specs.Prelude.{IfOk, find, codes}
 use Rattle.std.specs.List.{AllByRecursion as Each, list_all}
 use Rattle.std.specs.Option.{option_map}
-use Rattle.pl_literal.specs.Items.{is}
+use Rattle.pl_base.specs.Texts.{is}
 use Rattle.pl_base.specs.declared.origin.Crossing.{Crossing}
 use Rattle.pl_base.specs.declared.origin.Crossing.TheVariants.{Argument}
 use Rattle.pl_base.specs.declared.origin.Origin.{Origin}

@@ -18,7 +18,7 @@ use Rattle.pl_base.specs.declared.value.MarkedPair.{MarkedPair}
 use Rattle.pl_frame.specs.declared.frame.Frame.{Frame}
 use Rattle.pl_frame.specs.declared.frame.Variable.{Variable}
 use Rattle.pl_frame.specs.Origins.{across}
-use Rattle.pl_literal.specs.Items.{is}
+use Rattle.pl_base.specs.Texts.{is}
 use Rattle.pl_params.specs.declared.given.Given.{Given}
 use Rattle.pl_directives.specs.declared.fault.ExpandFault.{ExpandFault}
 use Rattle.pl_directives.specs.declared.fault.ExpandProblem.{ExpandProblem}
@@ -35,7 +35,8 @@ use Rattle.pl_calls.specs.Frames.{parameters_for, template_of, framed_by}
 use Rattle.pl_calls.specs.Judging.{unless_at, mapping_in, template_in, held, body_in, form_key}
 use Rattle.pl_calls.specs.Judging.{stray, may_stand, body_fits}
 use Rattle.pl_calls.specs.Parameters.{declared_by, bound_to}
-use Rattle.pl_calls.specs.Parts.{Body, body_of, under, key_place_of}
+use Rattle.pl_calls.specs.Parts.{Body, body_of, key_place_of}
+use Rattle.pl_params.specs.Nodes.{under}
 use Rattle.pl_calls.specs.Reaching.{Opens, node_in as file_node}
 use Rattle.pl_calls.specs.declared.reaching.Opened.{Opened as OpenedFile}
 use Rattle.pl_recursion.specs.Expanding.{expanded}

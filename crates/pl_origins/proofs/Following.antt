@@ -2,7 +2,7 @@
 use Rattle.std.proofs.Common.{◌≡◌, ℕ, Bool, true, false, cond, Option, Some, None, Ok, Err, List}
 use Rattle.std.proofs.Common.{[], ◌∷◌, ◌++◌, map, refl, ap, sym, subst, ◌∙◌, rules}
 use Rattle.std.specs.Prelude.{codes}
-use Rattle.pl_literal.specs.Items.{is}
+use Rattle.pl_base.specs.Texts.{is}
 use Rattle.std.specs.List.{AllByRecursion as Each}
 use Rattle.std.specs.Option.{option_or}
 use Rattle.pl_base.specs.declared.origin.Origin.{Origin}
@@ -46,7 +46,7 @@ use Rattle.pl_eval_laws.proofs.Trees.{value_parts, node_led, null_from, truth_fr
 use Rattle.pl_eval_laws.proofs.Trees.{version_from, text_from}
 use Rattle.pl_origins.proofs.Contents.{ContentFrom, ProgressFrom, Headed, add_items_from}
 use Rattle.pl_origins.proofs.Contents.{object_of_from}
-use Rattle.pl_origins.proofs.Plainly.{same_text}
+use Rattle.std.specs.Cmp.Lexicographic.{same_text}
 use Rattle.pl_origins.proofs.Frames.{Seen}
 use Rattle.pl_origins.proofs.Induction.{Parts, node_induction}
 use Rattle.pl_origins.proofs.Nodes.{Site}
@@ -75,7 +75,7 @@ call_is region item form called = by (out-Value item.value) called
   where
     named : (key : List ℕ) (found : Option Form) (b : Bool) →
         is key (codes "template") ≡ b → cond b found None ≡ Some form → key ≡ codes "template"
-    named key found true same called = same_text key (codes "template") same
+    named key found true same called = same_text key (codes "template") (sym same)
     named key found false same called = absurd (cc)
 
     by : (opened : Opened) →

@@ -4,6 +4,7 @@ pub mod Leading
 pub mod Moved
 pub mod Nodes
 pub mod Plainly
+pub mod SameFile
 pub mod Frames
 pub mod Scalars
 pub mod Contents

@@ -1,10 +1,8 @@
 -- Texts with an expression, and the places where they stand.
 use Rattle.std.proofs.Common.{◌≡◌, ℕ, Bool, true, false, cond, List, [], ◌∷◌}
-use Rattle.std.proofs.Common.{refl, ap, ap₂, sym, subst, arith}
-use Rattle.std.specs.Prelude.{nat_eq, codes}
-use Rattle.std.specs.Cmp.Lexicographic.{pointwise}
-use Rattle.std.proofs.lemmas.Bool.{false≢true, and_parts}
-use Rattle.std.proofs.lemmas.Bool.Decides.{nat_tests}
+use Rattle.std.proofs.Common.{refl, ap, sym, subst}
+use Rattle.std.specs.Prelude.{codes}
+use Rattle.std.proofs.lemmas.Bool.{false≢true}
 use Rattle.pl_base.specs.declared.place.Place.{Place}
 use Rattle.pl_base.specs.declared.value.Value.{Str}
 use Rattle.pl_template.specs.Cutting.{holds_opening, pieces_of}
@@ -17,15 +15,6 @@ use Rattle.pl_template.specs.declared.forms.KeyForm.TheVariants as form
 use Rattle.pl_eval_laws.specs.Marks.{key as key_said, scalar}
 use Rattle.pl_origins.specs.Spots.{says, begins, a_scalar, a_key, first_key, first_value}
 use Rattle.pl_origins.proofs.Nodes.{Site, Asks}
-
-pub same_text : (xs ys : List ℕ) → pointwise nat_eq xs ys ≡ true → xs ≡ ys
-same_text [] [] same = refl
-same_text [] (y ∷ ys) same = absurd (false≢true same)
-same_text (x ∷ xs) [] same = absurd (false≢true same)
-same_text (x ∷ xs) (y ∷ ys) same =
-    let parts = and_parts (nat_eq x y) (pointwise nat_eq xs ys) same in
-    let head : x ≡ y = grind (arith, nat_tests, parts.0) in
-    ap₂ (λ (z : ℕ) (zs : List ℕ). z ∷ zs) head (same_text xs ys parts.1)
 
 -- ---- texts that aren't plain
 

@@ -9,7 +9,7 @@ use Rattle.pl_base.specs.declared.node.Node.{Node}
 use Rattle.pl_base.specs.declared.node.NodeBody.{out-NodeBody}
 use Rattle.pl_base.specs.declared.node.NodeBody.TheOpen.{Scalar, Seq, Map}
 use Rattle.pl_base.specs.declared.node.NodePair.{NodePair}
-use Rattle.pl_literal.specs.Items.{is}
+use Rattle.pl_base.specs.Texts.{is}
 use Rattle.pl_literal.specs.Literal.{literal}
 use Rattle.pl_params.specs.declared.fault.Complaint.{Complaint}
 use Rattle.pl_params.specs.declared.fault.Misdeclared.{Misdeclared}

@@ -10,7 +10,8 @@ use Rattle.pl_base.specs.declared.value.MarkedNode.{MarkedNode}
 use Rattle.pl_expr.specs.Conversions.{text_of}
 use Rattle.pl_expr.specs.Numerals.{number_in}
 use Rattle.pl_literal.specs.Booleans.{boolean_in}
-use Rattle.pl_literal.specs.Items.{Opened, is, kind_of_item}
+use Rattle.pl_literal.specs.Items.{Opened, kind_of_item}
+use Rattle.pl_base.specs.Texts.{is}
 use Rattle.pl_literal.specs.declared.items.ItemKind.{ItemKind}
 use Rattle.pl_literal.specs.declared.items.ItemKind.TheVariants as item
 use Rattle.pl_params.specs.declared.kind.ParamKind.{ParamKind}

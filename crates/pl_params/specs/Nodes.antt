@@ -5,7 +5,7 @@ use Rattle.pl_base.specs.declared.node.Node.{Node}
 use Rattle.pl_base.specs.declared.node.NodeBody.{NodeBody, out-NodeBody}
 use Rattle.pl_base.specs.declared.node.NodeBody.TheOpen.{NodeBody-F, Scalar, Seq, Map}
 use Rattle.pl_base.specs.declared.node.NodePair.{NodePair}
-use Rattle.pl_literal.specs.Items.{is}
+use Rattle.pl_base.specs.Texts.{is}
 use Rattle.pl_params.specs.declared.fault.Found.{Found}
 use Rattle.pl_params.specs.declared.fault.Found.TheVariants.{Atom, Sequence, Mapping}
 

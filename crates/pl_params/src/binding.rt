@@ -50,7 +50,7 @@ pub fn bind(
 }
 
 /// The first that is given for no parameter.
-#[tactic(auto, using(crate::proofs::Finding::find_drop_yes, crate::proofs::Finding::find_drop_no))]
+#[tactic(auto, using(pl_base::proofs::Finding::find_drop_yes, pl_base::proofs::Finding::find_drop_no))]
 fn unexpected<'g>(
     alloc: Global,
     declared: &Declared,

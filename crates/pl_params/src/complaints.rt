@@ -159,7 +159,7 @@ pub fn keys_complaint(alloc: Global, pairs: &List<NodePair>) -> Result<Option<Co
 }
 
 /// Whether a place is before another one of its file.
-fn is_before(left: &Place, right: &Place) -> bool
+pub fn is_before(left: &Place, right: &Place) -> bool
     ensures { result ≡ is_before left.now right.now }
 {
     left.line < right.line || (left.line == right.line && left.col < right.col)

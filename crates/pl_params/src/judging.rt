@@ -60,7 +60,7 @@ fn allows(
     is_among(alloc, kind, values, value)
 }
 
-#[tactic(auto, using(crate::proofs::Finding::any_drop_yes, crate::proofs::Finding::any_drop_no))]
+#[tactic(auto, using(pl_base::proofs::Finding::any_drop_yes, pl_base::proofs::Finding::any_drop_no))]
 fn is_among(
     alloc: Global,
     kind: ParamKind,

@@ -15,8 +15,10 @@ mod reading;
 mod refusing;
 
 pub use binding::bind;
+pub use complaints::is_before;
 pub use declaring::declare;
 pub use fault::{Complaint, Found, Misdeclared, ParamFault, ParamProblem};
 pub use given::{Bound, Given};
 pub use kind::ParamKind;
 pub use param::{Declared, Param};
+pub use parts::under;

@@ -19,7 +19,7 @@ pub fn text_of(node: &Node) -> &str
 }
 
 /// What stands under the first key that is that text.
-#[tactic(auto, using(crate::proofs::Finding::find_drop_yes, crate::proofs::Finding::find_drop_no))]
+#[tactic(auto, using(pl_base::proofs::Finding::find_drop_yes, pl_base::proofs::Finding::find_drop_no))]
 pub fn under<'n>(key: &str, pairs: &'n List<NodePair>) -> Option<&'n Node>
     ensures { option_copied result ≡ under key.now pairs.now }
 {

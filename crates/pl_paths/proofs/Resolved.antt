@@ -10,8 +10,9 @@ use Rattle.std.proofs.lemmas.Bool.Decides.{nat_tests}
 use Rattle.std.proofs.lemmas.List.{append-nil, append_assoc}
 use Rattle.std.proofs.lemmas.List.Elements.{All-from_recursion}
 use Rattle.std.proofs.lemmas.List.Splits.{slice_split_none, slice_split_at}
+use Rattle.pl_base.specs.Texts.{is}
 use Rattle.pl_paths.specs.Laws.{IsName, HasNoDots, IsResolved}
-use Rattle.pl_paths.specs.Paths.{slash, inner, parts, segments_of, led, path_of, is_same, parent}
+use Rattle.pl_paths.specs.Paths.{slash, inner, parts, segments_of, led, path_of, parent}
 use Rattle.pl_paths.specs.Paths.{walked, walked_on, from_file}
 
 -- ---- segments without a `/`
@@ -37,8 +38,8 @@ parts_slashless (byte ∷ path) =
 
 abbrev IsGood : List ℕ → Type 0
 IsGood segment =
-    (is_same segment (codes ".") ≡ false)
-    × (is_same segment (codes "..") ≡ false)
+    (is segment (codes ".") ≡ false)
+    × (is segment (codes "..") ≡ false)
     × IsSlashless segment
 
 some_is : {X : Type 0} {a b : X} → Some a ≡ Some b → a ≡ b
@@ -69,7 +70,7 @@ parent_good (segment ∷ second ∷ before) next (first, good) is =
 
 walked_by :
     (dot dots : Bool) (before next : List (List ℕ)) (segment : List ℕ) →
-    is_same segment (codes ".") ≡ dot → is_same segment (codes "..") ≡ dots →
+    is segment (codes ".") ≡ dot → is segment (codes "..") ≡ dots →
     Each IsGood before → IsSlashless segment →
     (if dot then Some before else if dots then parent before else Some (before ++ segment ∷ []))
     ≡ Some next →
@@ -128,14 +129,14 @@ segments_again segment segments good = split_led segment segments good
 
 -- ---- the laws
 
-same_text : (text : List ℕ) → is_same text text ≡ true
+same_text : (text : List ℕ) → is text text ≡ true
 same_text [] = refl
 same_text (byte ∷ text) =
     let here : nat_eq byte byte ≡ true = grind (arith, nat_tests) in rw here (same_text text)
 
-differs : (text other : List ℕ) → is_same text other ≡ false → ¬ (text ≡ other)
+differs : (text other : List ℕ) → is text other ≡ false → ¬ (text ≡ other)
 differs text other unlike same =
-    false≢true (sym unlike ∙ (ap (λ text. is_same text other) same ∙ same_text other))
+    false≢true (sym unlike ∙ (ap (λ text. is text other) same ∙ same_text other))
 
 names : (segments : List (List ℕ)) → Each IsGood segments → Each IsName segments
 names [] good = tt

@@ -4,8 +4,7 @@ use Rattle.std.specs.Prelude.{ℕ, Bool, false, List, [], ◌∷◌, ◌++◌, �
 use Rattle.std.specs.Prelude.{Option, Some, None, if◌then◌else◌}
 use Rattle.std.specs.Option.{option_map, option_and_then, option_or}
 use Rattle.std.specs.List.{slice_split}
-use Rattle.std.specs.Cmp.Lexicographic.{pointwise}
-use Rattle.std.specs.Prelude.{nat_eq}
+use Rattle.pl_base.specs.Texts.{is}
 use Rattle.pl_paths.specs.declared.cutting.TemplatePath.{TemplatePath}
 
 -- `/` and `@`
@@ -72,9 +71,6 @@ path_of (segment ∷ segments) = led (segment ∷ segments)
 -- ---- `.` stays where it is, and `..` takes back the segment before it: out of the root there is
 -- no path. Empty segments are like any other.
 
-abbrev pub is_same : List ℕ → List ℕ → Bool
-is_same one other = pointwise nat_eq one other
-
 -- all but the last
 abbrev pub parent : List (List ℕ) → Option (List (List ℕ))
 parent [] = None
@@ -84,8 +80,8 @@ parent (segment ∷ next ∷ segments) =
 
 abbrev pub walked : List (List ℕ) → List ℕ → Option (List (List ℕ))
 walked before segment =
-    if is_same segment (codes ".") then Some before
-    else if is_same segment (codes "..") then parent before
+    if is segment (codes ".") then Some before
+    else if is segment (codes "..") then parent before
     else Some (before ++ segment ∷ [])
 
 abbrev pub walked_on : List (List ℕ) → List (List ℕ) → Option (List (List ℕ))

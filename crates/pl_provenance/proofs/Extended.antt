@@ -18,7 +18,7 @@ use Rattle.pl_base.specs.declared.value.MarkedPair.{MarkedPair}
 use Rattle.pl_frame.specs.Doubles.{first_double}
 use Rattle.pl_frame.specs.declared.frame.Frame.{Frame}
 use Rattle.pl_frame.specs.Origins.{across}
-use Rattle.pl_literal.specs.Items.{is}
+use Rattle.pl_base.specs.Texts.{is}
 use Rattle.pl_directives.specs.declared.fault.ExpandProblem.TheVariants.{WrongKind, KeyTwice}
 use Rattle.pl_directives.specs.declared.manner.Kind.TheVariants as content
 use Rattle.pl_directives.specs.declared.progress.Chain.TheVariants.{Closed}
@@ -37,7 +37,8 @@ use Rattle.pl_template.specs.Forms.{form_of}
 use Rattle.pl_calls.specs.Calls.{path_text, pairs_from, arguments_at}
 use Rattle.pl_calls.specs.Frames.{template_of, framed_by}
 use Rattle.pl_calls.specs.Judging.{unless_at, stray, held, template_in, may_give}
-use Rattle.pl_calls.specs.Parts.{Body, body_of, under}
+use Rattle.pl_calls.specs.Parts.{Body, body_of}
+use Rattle.pl_params.specs.Nodes.{under}
 use Rattle.pl_calls.specs.Reaching.{Opens, node_in as file_node}
 use Rattle.pl_calls.specs.declared.reaching.Opened.{Opened as OpenedFile}
 use Rattle.pl_recursion.specs.Expanding.{part_of, entry_of, expanded, pair_behind}

@@ -10,7 +10,7 @@ use Rattle.pl_base.specs.declared.value.Value.TheOpen as layer
 use Rattle.pl_base.specs.declared.value.MarkedNode.{MarkedNode}
 use Rattle.pl_base.specs.declared.value.MarkedPair.{MarkedPair}
 use Rattle.pl_frame.specs.Doubles.{first_double}
-use Rattle.pl_literal.specs.Items.{is}
+use Rattle.pl_base.specs.Texts.{is}
 use Rattle.pl_directives.specs.declared.fault.ExpandProblem.{ExpandProblem}
 use Rattle.pl_directives.specs.declared.progress.Content.{Content}
 use Rattle.pl_directives.specs.declared.progress.Content.TheVariants.{Unknown, Items, Pairs}

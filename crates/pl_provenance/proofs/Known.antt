@@ -19,7 +19,7 @@ use Rattle.pl_base.specs.declared.place.FileKey.{FileKey}
 use Rattle.pl_base.specs.declared.place.Place.{Place}
 use Rattle.pl_base.specs.declared.value.Value.{Str}
 use Rattle.pl_line.specs.declared.code.YamlCode.{YamlCode}
-use Rattle.pl_literal.specs.Items.{is}
+use Rattle.pl_base.specs.Texts.{is}
 use Rattle.pl_paths.specs.Paths.{cut_path}
 use Rattle.pl_yaml.specs.Spells as yaml
 use Rattle.pl_frame.specs.declared.frame.Parameter.{Parameter}
@@ -28,7 +28,8 @@ use Rattle.pl_directives.specs.declared.region.Region.TheVariants.{Free}
 use Rattle.pl_directives.specs.declared.fault.ExpandProblem.TheVariants.{TooManyFiles}
 use Rattle.pl_directives.specs.Complaints.{refused}
 use Rattle.pl_calls.specs.Meant.{◌>>>◌}
-use Rattle.pl_calls.specs.Parts.{Body, body_of, under}
+use Rattle.pl_calls.specs.Parts.{Body, body_of}
+use Rattle.pl_params.specs.Nodes.{under}
 use Rattle.pl_calls.specs.Reaching.{Opens, opens as opens_of, target, same_file, is_called}
 use Rattle.pl_calls.specs.Reaching.{called_then, found_at, opened_at}
 use Rattle.pl_calls.specs.declared.files.Parsed.{Parsed}
@@ -51,7 +52,7 @@ use Rattle.pl_origins.proofs.Frames.{Seen, Reads, ParameterFrom}
 use Rattle.pl_origins.proofs.Nodes.{Site, site, Spotted, NodeIn, PairIn, BodyIn, node_in}
 use Rattle.pl_origins.proofs.Nodes.{nothing_said}
 use Rattle.pl_origins.proofs.Nodes.{under_in}
-use Rattle.pl_origins.proofs.Plainly.{same_text}
+use Rattle.pl_origins.proofs.SameFile.{same_key}
 use Rattle.pl_origins.proofs.Scalars.{OneFrom}
 use Rattle.pl_origins.proofs.Steps.{Used, Gives, ok_then, static_then, used_then}
 use Rattle.pl_origins.proofs.Steps.{done_gives}
@@ -86,18 +87,6 @@ first_in x xs = (0, omega arith, refl)
 pub later_in : {X : Type 0} (first : X) (xs : List X) (x : X) → Contains xs x →
     Contains (first ∷ xs) x
 later_in first xs x (at, within, is) = (suc at, omega (arith, within), is)
-
--- ---- one file
-
-same_key : (left right : FileKey) → same_file left right ≡ true → left ≡ right
-same_key left right same =
-    let first = and_parts (is left.repo right.repo) _ same in
-    let second = and_parts (is left.git_ref right.git_ref) (is left.path right.path) first.1 in
-    let repo : left.repo ≡ right.repo = same_text left.repo right.repo first.0 in
-    let git_ref : left.git_ref ≡ right.git_ref =
-    same_text left.git_ref right.git_ref second.0 in
-    let path : left.path ≡ right.path = same_text left.path right.path second.1 in
-    λ i. record { repo = repo i; git_ref = git_ref i; path = path i }
 
 -- ---- the files that are used in the end
 

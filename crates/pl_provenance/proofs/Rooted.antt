@@ -24,7 +24,7 @@ use Rattle.pl_frame.specs.declared.frame.Variable.{Variable}
 use Rattle.pl_frame.specs.Names.{within as turn_frame}
 use Rattle.pl_frame.specs.Origins.{literal_at}
 use Rattle.pl_line.specs.declared.code.YamlCode.{YamlCode}
-use Rattle.pl_literal.specs.Items.{is}
+use Rattle.pl_base.specs.Texts.{is}
 use Rattle.pl_literal.specs.Literal.{literal, origin_at}
 use Rattle.pl_params.specs.declared.given.Given.{Given}
 use Rattle.pl_params.specs.declared.kind.ParamKind.{ParamKind}
@@ -46,7 +46,8 @@ use Rattle.pl_directives.specs.Counting.{entered}
 use Rattle.pl_directives.specs.Regions.{under as inside_key}
 use Rattle.pl_directives.specs.Scalars.{scalar_value}
 use Rattle.pl_calls.specs.Parameters.{declared_by}
-use Rattle.pl_calls.specs.Parts.{Body, under}
+use Rattle.pl_calls.specs.Parts.{Body}
+use Rattle.pl_params.specs.Nodes.{under}
 use Rattle.pl_calls.specs.Reaching.{Opens}
 use Rattle.pl_recursion.specs.Expanding.{expanded, part_of, done}
 use Rattle.pl_recursion.specs.Following.{scope_of}

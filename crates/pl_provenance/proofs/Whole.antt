@@ -15,7 +15,8 @@ use Rattle.pl_directives.specs.declared.fault.Complaint.{Complaint}
 use Rattle.pl_directives.specs.declared.fault.ExpandFault.{ExpandFault}
 use Rattle.pl_directives.specs.declared.region.Region.TheVariants.{Free}
 use Rattle.pl_calls.specs.Meant.{◌>>>◌}
-use Rattle.pl_calls.specs.Parts.{Body, body_of, under}
+use Rattle.pl_calls.specs.Parts.{Body, body_of}
+use Rattle.pl_params.specs.Nodes.{under}
 use Rattle.pl_calls.specs.Reaching.{Opens, opens as opens_of}
 use Rattle.pl_calls.specs.declared.reaching.Home.{Home}
 use Rattle.pl_recursion.specs.Expanding.{expanded}

@@ -8,7 +8,7 @@ use Rattle.pl_base.specs.declared.expanded.Repository.{Repository}
 use Rattle.pl_base.specs.declared.node.Node.{Node}
 use Rattle.pl_base.specs.declared.node.NodePair.{NodePair}
 use Rattle.pl_base.specs.declared.place.Place.{Place}
-use Rattle.pl_literal.specs.Items.{is}
+use Rattle.pl_base.specs.Texts.{is}
 use Rattle.pl_params.specs.Declaring.{is_before}
 use Rattle.pl_directives.specs.declared.fault.Complaint.{Complaint}
 use Rattle.pl_directives.specs.declared.fault.ExpandProblem.TheVariants.{WrongKind}
@@ -16,7 +16,8 @@ use Rattle.pl_root.specs.declared.root_key.RootKey.{RootKey}
 use Rattle.pl_root.specs.declared.root_key.RootKey.TheVariants.{Parameters, Resources, Extends}
 use Rattle.pl_root.specs.declared.root_key.RootKey.TheVariants.{Variables, Other}
 use Rattle.pl_directives.specs.Complaints.{complaint}
-use Rattle.pl_calls.specs.Parts.{under, key_place_of}
+use Rattle.pl_calls.specs.Parts.{key_place_of}
+use Rattle.pl_params.specs.Nodes.{under}
 use Rattle.pl_root.specs.Resources.{resources_complaints, repositories_in}
 
 -- ---- what its literal keys say before anything is expanded

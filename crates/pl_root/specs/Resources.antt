@@ -11,13 +11,14 @@ use Rattle.pl_base.specs.declared.node.Node.{Node, fold-Node}
 use Rattle.pl_base.specs.declared.node.NodeBody.TheOpen.{NodeBody-F, Node-F, NodePair-F}
 use Rattle.pl_base.specs.declared.node.NodeBody.TheOpen.{Scalar, Seq, Map}
 use Rattle.pl_base.specs.declared.node.NodePair.{NodePair, fold-NodePair}
-use Rattle.pl_literal.specs.Items.{is}
+use Rattle.pl_base.specs.Texts.{is}
 use Rattle.pl_params.specs.Declaring.{is_before}
 use Rattle.pl_template.specs.Cutting.{holds_opening}
 use Rattle.pl_directives.specs.declared.fault.Complaint.{Complaint}
 use Rattle.pl_directives.specs.declared.fault.ExpandProblem.TheVariants.{BadDirective, WrongKind}
 use Rattle.pl_directives.specs.Complaints.{complaint}
-use Rattle.pl_calls.specs.Parts.{body_of, text_in, items_in, pairs_in, under, text_under}
+use Rattle.pl_calls.specs.Parts.{body_of, text_in, items_in, pairs_in, text_under}
+use Rattle.pl_params.specs.Nodes.{under}
 use Rattle.pl_root.specs.declared.resources.Judging.{Judging}
 
 -- ---- Expressions have no place in resources: the first key or scalar that holds one.

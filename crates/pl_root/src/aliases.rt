@@ -1,6 +1,6 @@
 ghost use Rattle.std.specs.Prelude.{◌≡◌, ◌++◌, ◌∷◌, [], IfOk};
 ghost use Rattle.std.specs.List.{list_any};
-ghost use Rattle.pl_literal.specs.Items.{is};
+ghost use Rattle.pl_base.specs.Texts.{is};
 
 use pl_base::{ExactCopy, List, Memory, Text};
 use std::alloc::Global;
@@ -20,7 +20,7 @@ impl Model for Aliases {
     ghost use Rattle.std.specs.Cmp.Lexicographic.{slice_cmp};
     ghost use Rattle.std.specs.List.{list_any};
     ghost use Rattle.std.specs.Ordering.{nat_cmp};
-    ghost use Rattle.pl_literal.specs.Items.{is};
+    ghost use Rattle.pl_base.specs.Texts.{is};
 
     ghost Value = { list (list ℕ) };
 

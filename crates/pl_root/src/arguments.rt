@@ -103,7 +103,7 @@ fn read_text(alloc: Global, argument: &Argument) -> Result<MarkedNode, ExpandFau
 }
 
 /// The type of the parameter of a name.
-#[tactic(auto, using(pl_params::proofs::Finding::find_drop_yes, pl_params::proofs::Finding::find_drop_no))]
+#[tactic(auto, using(pl_base::proofs::Finding::find_drop_yes, pl_base::proofs::Finding::find_drop_no))]
 fn kind_for(declared: &Declared, name: &Text) -> Option<ParamKind>
     ensures { result ≡ kind_for declared.now name.now }
 {

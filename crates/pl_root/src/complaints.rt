@@ -8,14 +8,8 @@ use crate::resources::{judge_mapping, opening};
 use pl_base::{List, Memory, Node, NodePair, Place};
 use pl_calls::{key_place, under};
 use pl_directives::{Complaint, ExpandProblem, complain};
+use pl_params::is_before;
 use std::alloc::Global;
-
-/// Whether a place is before another one of its file.
-fn is_before(left: &Place, right: &Place) -> bool
-    ensures { result ≡ is_before left.now right.now }
-{
-    left.line < right.line || (left.line == right.line && left.col < right.col)
-}
 
 /// Of two complaints the one at the earlier place, at one place the first.
 fn earlier(first: Option<Complaint>, next: Complaint) -> Option<Complaint>

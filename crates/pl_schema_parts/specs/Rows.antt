@@ -3,7 +3,7 @@ use Rattle.std.specs.Prelude.{ℕ, Bool, List, [], ◌∷◌, ◌++◌, Result, 
 use Rattle.std.specs.List.{list_any}
 use Rattle.pl_base.specs.declared.value.MarkedNode.{MarkedNode}
 use Rattle.pl_base.specs.declared.value.MarkedPair.{MarkedPair}
-use Rattle.pl_literal.specs.Items.{is}
+use Rattle.pl_base.specs.Texts.{is}
 use Rattle.pl_schema_parts.specs.declared.fault.SchemaCode.{SchemaCode}
 use Rattle.pl_schema_parts.specs.declared.fault.SchemaCode.TheVariants.{UnknownKey, MissingKey}
 use Rattle.pl_schema_parts.specs.Gives.{Fault}

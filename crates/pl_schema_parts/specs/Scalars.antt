@@ -16,7 +16,8 @@ use Rattle.pl_expr.specs.Conversions.{text_of}
 use Rattle.pl_expr.specs.Grammar.{parses}
 use Rattle.pl_expr.specs.Numerals.{number_in}
 use Rattle.pl_literal.specs.Booleans.{boolean_in}
-use Rattle.pl_literal.specs.Items.{Opened, is}
+use Rattle.pl_literal.specs.Items.{Opened}
+use Rattle.pl_base.specs.Texts.{is}
 use Rattle.pl_schema_parts.specs.declared.fault.SchemaCode.{SchemaCode}
 use Rattle.pl_schema_parts.specs.declared.fault.SchemaCode.TheVariants.{MissingKey, WrongShape}
 use Rattle.pl_schema_parts.specs.declared.fault.SchemaCode.TheVariants.{BadNumber}

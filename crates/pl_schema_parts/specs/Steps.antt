@@ -10,7 +10,8 @@ use Rattle.pl_base.specs.declared.value.MarkedPair.{MarkedPair}
 use Rattle.pl_expr.specs.Conversions.{text_of}
 use Rattle.pl_literal.specs.declared.items.ItemKind.{ItemKind}
 use Rattle.pl_literal.specs.declared.items.ItemKind.TheVariants as item
-use Rattle.pl_literal.specs.Items.{Opened, is, kind_of_key}
+use Rattle.pl_literal.specs.Items.{Opened, kind_of_key}
+use Rattle.pl_base.specs.Texts.{is}
 use Rattle.pl_schema_parts.specs.declared.fault.SchemaCode.TheVariants.{FirstKey, TwoForms}
 use Rattle.pl_schema_parts.specs.declared.pipeline.StepSpec.{StepSpec}
 use Rattle.pl_schema_parts.specs.Gives.{Fault}

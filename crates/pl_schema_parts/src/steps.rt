@@ -1,6 +1,6 @@
 ghost use Rattle.std.specs.Prelude.{◌≡◌, [], IfOk, OnOk, find, codes, false};
 ghost use Rattle.std.specs.Option.{option_copied};
-ghost use Rattle.pl_literal.specs.Items.{is};
+ghost use Rattle.pl_base.specs.Texts.{is};
 ghost use Rattle.pl_expr.specs.Conversions.{text_of};
 ghost use Rattle.pl_schema_parts.specs.Gives.{Gives, Makes};
 ghost use Rattle.pl_schema_parts.specs.Names.{is_taken, taken, also_taken};

@@ -12,7 +12,7 @@ use Rattle.pl_eval_laws.proofs.Leads.{Opened}
 use Rattle.pl_eval_laws.proofs.Trees.{Any, Asked, NodeFrom, OpenedFrom, PairFrom}
 use Rattle.pl_eval_laws.proofs.Trees.{node_parts}
 use Rattle.pl_eval_laws.proofs.Trees.{value_parts}
-use Rattle.pl_literal.specs.Items.{is}
+use Rattle.pl_base.specs.Texts.{is}
 use Rattle.pl_schema_parts.specs.declared.fault.SchemaCode.{SchemaCode}
 use Rattle.pl_schema_parts.specs.Gives.{Fault}
 use Rattle.pl_schema_parts.specs.Rows.{Reading, Row, at_key, ignored, in_order, in_turn, only_if}

@@ -8,7 +8,8 @@ use Rattle.pl_base.specs.declared.value.MarkedPair.{MarkedPair}
 use Rattle.pl_eval_laws.proofs.Trees.{Any, Asked, NodeFrom, PairFrom, pair_parts}
 use Rattle.pl_literal.specs.declared.items.ItemKind.{ItemKind}
 use Rattle.pl_literal.specs.declared.items.ItemKind.TheVariants as item
-use Rattle.pl_literal.specs.Items.{is, kind_of_key}
+use Rattle.pl_literal.specs.Items.{kind_of_key}
+use Rattle.pl_base.specs.Texts.{is}
 use Rattle.pl_schema_parts.specs.declared.pipeline.JobSpec.{JobSpec}
 use Rattle.pl_schema_parts.specs.declared.pipeline.StageSpec.{StageSpec}
 use Rattle.pl_schema_parts.specs.declared.pipeline.StepSpec.{StepSpec}

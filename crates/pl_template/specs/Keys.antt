@@ -14,7 +14,8 @@ use Rattle.pl_template.specs.declared.forms.KeyForm.TheVariants.{Each, Insert, B
 use Rattle.pl_template.specs.declared.directive.Directive.{Directive}
 use Rattle.pl_template.specs.declared.directive.Directive.TheVariants as directive
 use Rattle.pl_template.specs.Forms.{form_of}
-use Rattle.pl_template.specs.Words.{first_word, behind_word, is, is_name}
+use Rattle.pl_template.specs.Words.{first_word, behind_word, is_name}
+use Rattle.pl_base.specs.Texts.{is}
 
 -- the directive of that word, which is exact
 abbrev pub directive_named : List ℕ → Option Directive

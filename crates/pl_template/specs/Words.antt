@@ -1,9 +1,8 @@
 -- The words of an expression in a key.
-use Rattle.std.specs.Prelude.{ℕ, Bool, false, not, List, [], ◌∷◌, drop, take_while, nat_eq, ◌==◌}
+use Rattle.std.specs.Prelude.{ℕ, Bool, false, not, List, [], ◌∷◌, drop, take_while, ◌==◌}
 use Rattle.std.specs.Prelude.{◌&&◌, ◌||◌}
 use Rattle.std.specs.List.{prefix_len, list_all}
 use Rattle.std.specs.Char.{is_ascii_alphabetic, is_ascii_alphanumeric}
-use Rattle.std.specs.Cmp.Lexicographic.{pointwise}
 
 -- blanks are those of expressions: the space, the tab and the line feed
 abbrev pub is_blank : ℕ → Bool
@@ -23,10 +22,6 @@ first_word text = take_while is_in_word (unblanked text)
 -- what stands behind the first word, without the blanks between
 abbrev pub behind_word : List ℕ → List ℕ
 behind_word text = unblanked (drop (prefix_len is_in_word (unblanked text)) (unblanked text))
-
--- whether two words are the same
-abbrev pub is : List ℕ → List ℕ → Bool
-is text word = pointwise nat_eq text word
 
 -- a letter or `_` begins a name
 abbrev pub begins_name : ℕ → Bool

@@ -8,9 +8,10 @@ use Rattle.std.proofs.lemmas.Bool.{false≢true, and_parts}
 use Rattle.std.proofs.lemmas.Bool.Decides.{nat_tests}
 use Rattle.pl_base.specs.declared.place.FileKey.{FileKey}
 use Rattle.pl_base.specs.declared.place.Place.{Place}
-use Rattle.pl_literal.specs.Items.{is}
+use Rattle.pl_base.specs.Texts.{is}
 use Rattle.pl_directives.specs.declared.fault.ExpandProblem.TheVariants.{TooManyFiles}
 use Rattle.pl_directives.specs.Complaints.{refused}
+use Rattle.pl_origins.proofs.SameFile.{same_key}
 use Rattle.pl_calls.specs.Reaching.{same_file, is_called, called_then}
 use Rattle.pl_eval_laws.proofs.Lists.{each_front, each_back, each_implies}
 use Rattle.pl_origins.proofs.Steps.{Gives}
@@ -26,25 +27,6 @@ later_in :
 later_in first xs x (at, within, is) = (suc at, omega (arith, within), is)
 
 -- ---- one file
-
-same_text : (xs ys : List ℕ) → pointwise nat_eq xs ys ≡ true → xs ≡ ys
-same_text [] [] same = refl
-same_text [] (y ∷ ys) same = absurd (false≢true same)
-same_text (x ∷ xs) [] same = absurd (false≢true same)
-same_text (x ∷ xs) (y ∷ ys) same =
-    let parts = and_parts (nat_eq x y) (pointwise nat_eq xs ys) same in
-    let head : x ≡ y = grind (arith, nat_tests, parts.0) in
-    ap₂ (λ (z : ℕ) (zs : List ℕ). z ∷ zs) head (same_text xs ys parts.1)
-
-same_key : (left right : FileKey) → same_file left right ≡ true → left ≡ right
-same_key left right same =
-    let first = and_parts (is left.repo right.repo) _ same in
-    let second = and_parts (is left.git_ref right.git_ref) (is left.path right.path) first.1 in
-    let repo : left.repo ≡ right.repo = same_text left.repo right.repo first.0 in
-    let git_ref : left.git_ref ≡ right.git_ref =
-    same_text left.git_ref right.git_ref second.0 in
-    let path : left.path ≡ right.path = same_text left.path right.path second.1 in
-    λ i. record { repo = repo i; git_ref = git_ref i; path = path i }
 
 -- ---- the files that are used in the end
 

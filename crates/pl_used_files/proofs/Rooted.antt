@@ -21,7 +21,7 @@ use Rattle.pl_frame.specs.declared.frame.Frame.{Frame}
 use Rattle.pl_frame.specs.declared.frame.Parameter.{Parameter}
 use Rattle.pl_frame.specs.Names.{within as turn_frame}
 use Rattle.pl_frame.specs.Origins.{literal_at}
-use Rattle.pl_literal.specs.Items.{is}
+use Rattle.pl_base.specs.Texts.{is}
 use Rattle.pl_paths.specs.Paths.{cut_path}
 use Rattle.pl_directives.specs.declared.action.Action.{Action}
 use Rattle.pl_directives.specs.declared.action.Action.TheVariants.{Put, Run, Pass, Repeat, Insert}
@@ -39,7 +39,8 @@ use Rattle.pl_directives.specs.Regions.{under as inside_key}
 use Rattle.pl_directives.specs.Scalars.{scalar_value}
 use Rattle.pl_reading.specs.Steps.{◌>>=◌}
 use Rattle.pl_calls.specs.Meant.{◌>>>◌}
-use Rattle.pl_calls.specs.Parts.{Body, body_of, under}
+use Rattle.pl_calls.specs.Parts.{Body, body_of}
+use Rattle.pl_params.specs.Nodes.{under}
 use Rattle.pl_calls.specs.Reaching.{Opens, opens as opens_of, target, same_file, called_then}
 use Rattle.pl_calls.specs.Reaching.{found_at, opened_at}
 use Rattle.pl_calls.specs.declared.files.Parsed.{Parsed}

@@ -16,7 +16,8 @@ use Rattle.pl_base.specs.declared.value.Value.{Value, out-Value}
 use Rattle.pl_base.specs.declared.value.Value.TheOpen as layer
 use Rattle.pl_base.specs.declared.value.MarkedPair.{MarkedPair}
 use Rattle.pl_expr.specs.Conversions.{text_of}
-use Rattle.pl_literal.specs.Items.{Opened, is}
+use Rattle.pl_literal.specs.Items.{Opened}
+use Rattle.pl_base.specs.Texts.{is}
 use Rattle.pl_schema_parts.specs.declared.pipeline.JobSpec.{JobSpec}
 use Rattle.pl_schema_parts.specs.declared.pipeline.Pipeline.{Pipeline}
 use Rattle.pl_schema_parts.specs.declared.pipeline.StageSpec.{StageSpec}

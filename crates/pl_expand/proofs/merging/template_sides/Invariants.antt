@@ -1,6 +1,6 @@
 use Rattle.std.proofs.Common.{◌≡◌, ◌++◌}
 use Rattle.std.specs.Prelude.{◌&&◌, codes, filter, not}
-use Rattle.pl_literal.specs.Items.{is}
+use Rattle.pl_base.specs.Texts.{is}
 use Rattle.pl_expand.proofs.merging.template_sides.Given as goal
 
 abbrev pub invariant-loop-pair : goal.invariant-loop-pair

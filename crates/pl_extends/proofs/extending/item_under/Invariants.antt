@@ -1,5 +1,5 @@
 use Rattle.std.proofs.Common.{◌≡◌, find, drop}
-use Rattle.pl_literal.specs.Items.{is}
+use Rattle.pl_base.specs.Texts.{is}
 use Rattle.pl_extends.proofs.extending.item_under.Given as goal
 
 abbrev pub invariant-loop-pair : goal.invariant-loop-pair
