@@ -13,7 +13,6 @@ use Rattle.pl_log.specs.Keys.{Job, Named, Stage, same_key}
 use Rattle.pl_log.proofs.Naming.{exact_key}
 use Rattle.pl_due.proofs.Standing.{waiting_open, waiting_unstarted}
 use Rattle.pl_settling.specs.Gives.{Gives}
-use Rattle.pl_settling.specs.Laws.{WasNext}
 use Rattle.pl_settling.specs.Settles.{Adds}
 use Rattle.pl_settling.proofs.Behind.{touched, untouched}
 use Rattle.pl_settling.proofs.Giving.{gives}
@@ -75,7 +74,8 @@ module _ (run stage job moment : ℕ) where
       by_event (event.StageStarted r s) e is same = absurd (cc)
       by_event (event.StageEnded r s outcome rule) e is same = absurd (cc)
       by_event (event.JobEnded outcome reported s j r rule outputs) e is same =
-          let key : Job r s j ≡ Job run stage job = exact_key (Job r s j) (Job run stage job) same in
+          let key : Job r s j ≡ Job run stage job =
+          exact_key (Job r s j) (Job run stage job) same in
           let a : r ≡ run = cc in
           let b : s ≡ stage = cc in
           let c : j ≡ job = cc in (

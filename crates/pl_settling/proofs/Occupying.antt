@@ -1,9 +1,8 @@
 -- Who holds exclusive resources behind one fact more.
 use Rattle.std.proofs.Common.{◌≡◌, ◌&&◌, ◌⊎◌, ℕ, Bool, true, false, cond, List, [], ◌∷◌, ◌++◌}
-use Rattle.std.proofs.Common.{Option, Some, None, is_some, is_none, refl, sym, ap, ◌∙◌, subst, inl}
+use Rattle.std.proofs.Common.{is_some, is_none, refl, sym, ap, ◌∙◌, subst, inl}
 use Rattle.std.proofs.Common.{inr, ⊎_elim}
 use Rattle.std.specs.List.{Contains, filter}
-use Rattle.std.specs.Option.{option_map_or, option_or}
 use Rattle.pl_base.specs.declared.resource.ResourceKey.{ResourceKey}
 use Rattle.pl_facts.specs.declared.fact.Event.{Event}
 use Rattle.pl_facts.specs.declared.fact.Event.TheVariants as event
@@ -12,7 +11,7 @@ use Rattle.pl_facts.specs.declared.fact.QueuedRun.{QueuedRun}
 use Rattle.pl_journal.specs.About.{is_about}
 use Rattle.pl_journal.specs.Kinds.{is_queueing, is_stage_end, is_start}
 use Rattle.pl_journal.specs.Runs.{queueing, run_told, stage_end, stage_start}
-use Rattle.pl_journal.specs.Settings.{by, resource, resource_set}
+use Rattle.pl_journal.specs.Settings.{by, resource}
 use Rattle.pl_log.specs.Keys.{Resource, Run, Stage, same_key}
 use Rattle.pl_log.proofs.Naming.{exact_key}
 use Rattle.pl_plan.specs.declared.plan.PlanStage.{PlanStage}
@@ -71,8 +70,8 @@ module _ (facts : List Fact) (one : Fact) (quiet : IsQuiet one) where
       let now_end = is_nothing (stage_end run stage (facts ++ one ∷ []))
       (second_of_two (is_some (stage_start run stage (facts ++ one ∷ [])))
       (is_none (stage_end run stage (facts ++ one ∷ []))) runs) in
-      let end = none_before (λ fact. is_about (Stage run stage) fact && is_stage_end fact.event) facts
-      one now_end in
+      let end = none_before (λ fact. is_about (Stage run stage) fact && is_stage_end fact.event)
+      facts one now_end in
       both (is_some (stage_start run stage facts)) (is_none (stage_end run stage facts))
       (ap is_some (sym start) ∙ now_start) (ap is_none end)
 
