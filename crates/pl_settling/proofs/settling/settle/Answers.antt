@@ -18,8 +18,8 @@ loop-event-preserved c =
     let new = c.push.new.self in
     let due = subst (IsDue now.facts moment) c.in-Some.is c.in_ok-event.ensures in
     record {
-      fit = still_fit moment now new c.in-Some.event c.requires.moment c.loop-event.invariant.fit due
-          c.in_ok-push-in-Some.ensures.ok;
+      fit = still_fit moment now new c.in-Some.event c.requires.moment
+          c.loop-event.invariant.fit due c.in_ok-push-in-Some.ensures.ok;
       so_far = one_more moment c.args.journal.now now new c.in-Some.event
           c.loop-event.invariant.so_far due c.in_ok-push-in-Some.ensures.ok;
     }
