@@ -89,14 +89,11 @@ fn answer_whole(alloc: Global, out: &mut Answers, question: &str, words: &[Strin
 }
 
 fn answer_beside(alloc: Global, out: &mut Answers, question: &str, asked: Asked<'_>) {
-    match question.rsplit_once(' ') {
-        Some(("failing reads of", piece)) => {
-            answer_reads(alloc, out, asked, usize::from(number(piece)))
-        }
-        Some(("failing writes of", piece)) => {
-            answer_writes(alloc, out, asked, usize::from(number(piece)))
-        }
-        _ if question == "cut inputs" => answer_cuts(alloc, out, asked),
+    let (front, piece) = question.rsplit_once(' ').unwrap_or((question, ""));
+    match front {
+        "failing reads of" => answer_reads(alloc, out, asked, usize::from(number(piece))),
+        "failing writes of" => answer_writes(alloc, out, asked, usize::from(number(piece))),
+        "cut" => answer_cuts(alloc, out, asked),
         _ => out.line("%%% not read: ", question),
     }
 }
