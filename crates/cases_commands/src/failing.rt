@@ -31,17 +31,16 @@ fn push_told(alloc: Global, out: &mut Answers, asked: Asked<'_>, code: u8, writt
 /// than the one before it, or writes another number of bytes, `LENGTH STATUS BYTES`.
 pub fn answer_cuts(alloc: Global, out: &mut Answers, asked: Asked<'_>) {
     let mut written = Vec::new(alloc);
-    let mut last = None;
+    let mut last = (u8::MAX, usize::MAX);
     for len in 0..asked.input.len() {
         let beginning = asked.input.split_at(len).0;
         let outside = in_pieces(1_000_000, 1_000_000);
         match ran(alloc, asked.words, beginning, outside, &mut written) {
             Ok(code) => {
-                let told = Some((code, written.len()));
-                if told != last {
+                if code != last.0 || written.len() != last.1 {
                     out.number(alloc, len as u64);
                     push_told(alloc, out, asked, code, written.as_slice());
-                    last = told;
+                    last = (code, written.len());
                 }
             }
             Err(_) => return out.fail(),
