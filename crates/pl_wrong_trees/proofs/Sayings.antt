@@ -155,7 +155,8 @@ module _ (text other : List ℕ) (reads : ReadsAsItIs text) (some : other ≡ []
 pub as_written : NoOtherText
 as_written files home used arguments tree traced origin said told of_files text other plain only
     unlike some no_word is =
-    let says = contained (IsSaid files) (marks_of tree) (mark origin said) traced.texts told of_files
+    let says =
+    contained (IsSaid files) (marks_of tree) (mark origin said) traced.texts told of_files
     in by (value_said says.written) (only says.written says.stands) says.says
   where
     ends : (found : List ℕ) → ReadsAsItIs found → (other ≡ found → ⊥) → MaySay (Str found) said → ⊥
