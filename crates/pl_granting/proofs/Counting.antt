@@ -14,7 +14,8 @@ module _ (p : ℕ → Bool) (n old new : ℕ) (so_far : old ≡ count_by p (rang
       (range_more n (range_with_len 0 n) (range_with_len 0 n ++ n ∷ []) refl refl) in
       let parts = sum_by-append f (range_with_len 0 n) (n ∷ []) in
       let last = sum_by-cons f n [] in
-      let here = ap (λ t. cond t 1 0) told in
+      let one : Bool → ℕ = λ t. cond t 1 0 in
+      let here = ap one told in
       omega (arith, more, so_far, whole, parts, last, here)
 
   pub counted_yes : p n ≡ true → new ≡ old + 1 → new ≡ count_by p (range_with_len 0 (n + 1))

@@ -189,26 +189,51 @@ module _ (facts : List Fact) (moment : ℕ) (agent : AgentSetting) (at : JobOf) 
 
   no_rule : IsFree facts agent at → AllNone (asked_rules facts moment agent at)
   no_rule may =
-      let start = runs_started may.runs in
-      (sym (ap ended_as may.unended),
-      (no_taker agent.name (holder facts at) may.untaken,
-      (sym (ap (option_map busy_with) may.idle),
-      (sym (ap (λ (b : Bool). if b then None
-      else Some (rules.PoolMismatch agent.pool at.planned.pool))
-      (itself agent.pool at.planned.pool may.pool)),
-      (all_found (meets agent) _ at.planned.demands may.able,
-      (all_found (has_ended at.run facts) _ at.staged.depends may.ready,
-      (if_started facts at (Tells (unpermitted facts at)) start,
-      (if_started facts at (Awaits facts moment at) start,
-      (if_started facts at (IsHeldRule facts moment at) start,
-      (if_started facts at (IsBehindRule facts moment at) start,
-      (all_found (job_has_ended at.run at.stage facts) _ at.planned.depends may.job_ready,
-      (sym (ap (λ (b : Bool). if b then Some (rules.ParallelFull at.planned.max_parallel)
-      else None) (no_more at.planned.max_parallel (legs_taken facts at) may.room)),
-      tt))))))))))))
+      let start = runs_started may.runs in (
+        sym (ap ended_as may.unended),
+        (
+          no_taker agent.name (holder facts at) may.untaken,
+          (
+            sym (ap (option_map busy_with) may.idle),
+            (
+              sym (ap (λ (b : Bool). if b then None
+                  else Some (rules.PoolMismatch agent.pool at.planned.pool))
+                  (itself agent.pool at.planned.pool may.pool)),
+              (
+                all_found (meets agent) _ at.planned.demands may.able,
+                (
+                  all_found (has_ended at.run facts) _ at.staged.depends may.ready,
+                  (
+                    if_started facts at (Tells (unpermitted facts at)) start,
+                    (
+                      if_started facts at (Awaits facts moment at) start,
+                      (
+                        if_started facts at (IsHeldRule facts moment at) start,
+                        (
+                          if_started facts at (IsBehindRule facts moment at) start,
+                          (
+                            all_found (job_has_ended at.run at.stage facts) _ at.planned.depends may.job_ready,
+                            (
+                              sym (ap (λ (b : Bool). if b then Some (rules.ParallelFull at.planned.max_parallel)
+                                  else None) (no_more at.planned.max_parallel (legs_taken facts at) may.room)),
+                              tt,
+                            ),
+                          ),
+                        ),
+                      ),
+                    ),
+                  ),
+                ),
+              ),
+            ),
+          ),
+        ),
+      )
 
   pub not_broken : IsGrantable facts agent at → Broken facts moment agent at None
   not_broken (inl held) = inl (held, refl)
   not_broken (inr may) =
-      inr (ap (λ (o : Option JobOf). option_map_or (is_same_job at) o false) may.idle,
-      none_of_all (asked_rules facts moment agent at) (no_rule may))
+      inr (
+        ap (λ (o : Option JobOf). option_map_or (is_same_job at) o false) may.idle,
+        none_of_all (asked_rules facts moment agent at) (no_rule may),
+      )

@@ -81,7 +81,7 @@ module _ (facts : List Fact) (agent : AgentSetting) where
     (
       held_there facts agent.name at held,
       inl (ap (λ (o : Option JobOf). option_map_or (is_same_job at) o false) held
-      ∙ same_itself at),
+          ∙ same_itself at),
     ),
     λ other (there, may). ⊎_elim
         (λ (h : is_held_by facts agent.name other ≡ true). not_before other at
@@ -95,10 +95,13 @@ module _ (facts : List Fact) (agent : AgentSetting) where
       Least (IsOpenTo facts agent) found → Drawn facts agent found
   drawn_free idle found least = least_same (IsOpenTo facts agent) (MayHave facts agent)
       (λ at (there, free). (there, inr free))
-      (λ at (there, may). (there, ⊎_elim
-      (λ (h : is_held_by facts agent.name at ≡ true). absurd (true≢false (sym h
-      ∙ ap (λ (o : Option JobOf). option_map_or (is_same_job at) o false) idle)))
-      (λ free. free) may))
+      (λ at (there, may). (
+        there,
+        ⊎_elim
+            (λ (h : is_held_by facts agent.name at ≡ true). absurd (true≢false (sym h
+            ∙ ap (λ (o : Option JobOf). option_map_or (is_same_job at) o false) idle)))
+            (λ free. free) may,
+      ))
       found least
 
 -- ---- the first job of a stage
@@ -114,9 +117,10 @@ module _ (facts : List Fact) (agent : AgentSetting) (run stage : ℕ) (queued : 
   same_stage at is r s =
       let itself : IsStageOf facts run stage at.queued at.staged =
       subst (λ n. IsStageOf facts run n at.queued at.staged) s
-      (subst (λ n. IsStageOf facts n at.stage at.queued at.staged) r (its_stage facts at is)) in
-      (one_told facts run stage at.queued queued at.staged staged itself there,
-      one_planned facts run stage at.queued queued at.staged staged itself there)
+      (subst (λ n. IsStageOf facts n at.stage at.queued at.staged) r (its_stage facts at is)) in (
+        one_told facts run stage at.queued queued at.staged staged itself there,
+        one_planned facts run stage at.queued queued at.staged staged itself there,
+      )
 
   its_place : (at : JobOf) → IsJobOf facts at → at.run ≡ run → at.stage ≡ stage →
       job_in run stage queued staged at.job ≡ Some at
@@ -164,10 +168,11 @@ module _ (facts : List Fact) (agent : AgentSetting) (run stage : ℕ) (queued : 
           sym (ap (λ (o : Option JobOf). option_map_or (may_take facts agent) o false) is)
           ∙ first.0 in
           let free = free_of facts agent at idle
-          (works at found.there found.of_run found.of_stage ∙ at_work) takes in
-          ((((found.there, free), found.of_run), found.of_stage),
-          λ other of_it before. true≢false (sym (tested other of_it) ∙ first.1 other.job
-          (earlier other at of_it.0.1 of_it.1 found.of_run found.of_stage found.of_job before)))
+          (works at found.there found.of_run found.of_stage ∙ at_work) takes in (
+            (((found.there, free), found.of_run), found.of_stage),
+            λ other of_it before. true≢false (sym (tested other of_it) ∙ first.1 other.job
+                (earlier other at of_it.0.1 of_it.1 found.of_run found.of_stage found.of_job before)),
+          )
         where
           earlier : (one at : JobOf) → one.run ≡ run → one.stage ≡ stage → at.run ≡ run →
               at.stage ≡ stage → at.job ≡ job → Precedes one at → one.job < job
@@ -197,10 +202,13 @@ module _ (facts : List Fact) (agent : AgentSetting) (run : ℕ) where
       found ≡ Some at → Least (OfStage facts agent run n) found →
       Least (OfRun facts agent run) found
   run_found n none None at told least = absurd (cc)
-  run_found n none (Some one) at told least = (least.0.0, λ other is before.
-      ⊎_elim (none other is)
-      (λ above. least.1 other (is, same other one is.1 least.0.0.1 least.0.1 above before) before)
-      (cases_lt other.stage n))
+  run_found n none (Some one) at told least = (
+    least.0.0,
+    λ other is before.
+        ⊎_elim (none other is)
+        (λ above. least.1 other (is, same other one is.1 least.0.0.1 least.0.1 above before) before)
+        (cases_lt other.stage n),
+  )
     where
       same : (other one : JobOf) → other.run ≡ run → one.run ≡ run → one.stage ≡ n →
           n ≤ other.stage → Precedes other one → other.stage ≡ n
@@ -236,16 +244,19 @@ module _ (facts : List Fact) (agent : AgentSetting) (runs : List ℕ) where
       n < length runs → NoneBefore n → (found : Option JobOf) (at : JobOf) → found ≡ Some at →
       Least (OfRun facts agent (get_or runs n 0)) found → Least (IsOpenTo facts agent) found
   all_found ascend among n within none None at told least = absurd (cc)
-  all_found ascend among n within none (Some one) at told least = (least.0.0, λ other is before.
-      let (k, below, at_k) = among other is in
-      let here : get_or runs k 0 ≡ other.run = zero_at k other below at_k in
-      ⊎_elim (λ early. none other is k early here)
-      (λ above. ⊎_elim
-      (λ same. least.1 other (is, sym here ∙ ap (λ m. get_or runs m 0) (sym same)) before)
-      (λ later. let less = ascend n k later below in
-      after other one (get_or runs n 0) (get_or runs k 0) here least.0.1 less before)
-      (equal_or n k above))
-      (cases_lt k n))
+  all_found ascend among n within none (Some one) at told least = (
+    least.0.0,
+    λ other is before.
+        let (k, below, at_k) = among other is in
+        let here : get_or runs k 0 ≡ other.run = zero_at k other below at_k in
+        ⊎_elim (λ early. none other is k early here)
+        (λ above. ⊎_elim
+        (λ same. least.1 other (is, sym here ∙ ap (λ m. get_or runs m 0) (sym same)) before)
+        (λ later. let less = ascend n k later below in
+        after other one (get_or runs n 0) (get_or runs k 0) here least.0.1 less before)
+        (equal_or n k above))
+        (cases_lt k n),
+  )
     where
       zero_at : (k : ℕ) (other : JobOf) → k < length runs → get_or runs k other.run ≡ other.run →
           get_or runs k 0 ≡ other.run

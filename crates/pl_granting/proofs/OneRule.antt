@@ -98,13 +98,35 @@ module _ (one : (check : Check) (view : CheckView) (moment : ℕ) (left right : 
   one_broken agent a b (inr (free, first)) (inl (held, none)) =
       absurd (true≢false (sym held ∙ free))
   one_broken agent a b (inr (free, first)) (inr (also, too)) =
-      one_first (asked_rules facts moment agent at) (tells_one (ended facts at),
-      (tells_one (taken facts agent.name at), (tells_one (busy facts agent.name),
-      (tells_one (other_pool agent at), (tells_one (lacks agent at),
-      (tells_one (stage_waits facts at),
-      (one_unless facts at (Tells (unpermitted facts at)) (tells_one (unpermitted facts at)),
-      (one_unless facts at (Awaits facts moment at) one_wait,
-      (one_unless facts at (IsHeldRule facts moment at) one_held_rule,
-      (one_unless facts at (IsBehindRule facts moment at) one_behind_rule,
-      (tells_one (job_waits facts at), (tells_one (full facts at), tt))))))))))))
+      one_first (asked_rules facts moment agent at) (
+        tells_one (ended facts at),
+        (
+          tells_one (taken facts agent.name at),
+          (
+            tells_one (busy facts agent.name),
+            (
+              tells_one (other_pool agent at),
+              (
+                tells_one (lacks agent at),
+                (
+                  tells_one (stage_waits facts at),
+                  (
+                    one_unless facts at (Tells (unpermitted facts at)) (tells_one (unpermitted facts at)),
+                    (
+                      one_unless facts at (Awaits facts moment at) one_wait,
+                      (
+                        one_unless facts at (IsHeldRule facts moment at) one_held_rule,
+                        (
+                          one_unless facts at (IsBehindRule facts moment at) one_behind_rule,
+                          (tells_one (job_waits facts at), (tells_one (full facts at), tt)),
+                        ),
+                      ),
+                    ),
+                  ),
+                ),
+              ),
+            ),
+          ),
+        ),
+      )
       a b first too

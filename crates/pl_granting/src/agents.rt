@@ -102,9 +102,7 @@ pub(crate) fn meets(agent: &AgentSetting, demand: &Demand) -> bool
     ensures { result ≡ spec.meets agent.now demand.now }
 {
     let capabilities = agent.capabilities.as_slice();
-    capabilities
-        .iter()
-        .any(|one| one.0 == demand.name && has_value(&demand.value, &one.1))
+    capabilities.iter().any(|one| one.0 == demand.name && has_value(&demand.value, &one.1))
 }
 
 /// `capability.missing`: the first demand of a job that an agent doesn't meet.

@@ -152,11 +152,7 @@ fn by_checks(
 }
 
 /// The first of the rules from `job.depends` on.
-fn by_turn(
-    alloc: Global,
-    journal: &Journal,
-    at: &JobAt<'_>,
-) -> Result<Option<Rule>, Memory>
+fn by_turn(alloc: Global, journal: &Journal, at: &JobAt<'_>) -> Result<Option<Rule>, Memory>
     requires fit { AreFit journal.now.facts }
     requires job { IsJobOf journal.now.facts (of at.now) }
     ensures { IfOk result (FirstBroken (Tells (rules.job_waits journal.now.facts (of at.now))

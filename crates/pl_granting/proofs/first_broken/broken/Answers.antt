@@ -9,6 +9,8 @@ pub returns : goal.returns
 returns c =
     let at = of c.args.at.now in
     let name = c.args.agent.now.name in
-    if_ok _ _ c.by_job.result (λ found first. inr (sym (c.is_held_by.ensures
-    ∙ ap (λ (log : Log). is_held_by log.facts name at) c.journal.ensures) ∙ c.if-is_held_by.false,
-    first)) c.by_job.ensures
+    if_ok _ _ c.by_job.result (λ found first. inr (
+      sym (c.is_held_by.ensures
+          ∙ ap (λ (log : Log). is_held_by log.facts name at) c.journal.ensures) ∙ c.if-is_held_by.false,
+      first,
+    )) c.by_job.ensures

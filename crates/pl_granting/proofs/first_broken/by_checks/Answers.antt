@@ -11,20 +11,38 @@ use Rattle.pl_granting.proofs.first_broken.by_checks.Goals as goal
 pub returns-in-Some : goal.returns-in-Some
 returns-in-Some c =
     let at = of c.args.at.now in
-    inl (c.in-Some.rule, refl, inr (c.requires.waits, sym c.in-Some.is ∙ c.in_ok-rule.ensures
-    ∙ ap (λ (log : Log). unpermitted log.facts at) c.journal.ensures))
+    inl (
+      c.in-Some.rule,
+      refl,
+      inr (
+        c.requires.waits,
+        sym c.in-Some.is ∙ c.in_ok-rule.ensures
+            ∙ ap (λ (log : Log). unpermitted log.facts at) c.journal.ensures,
+      ),
+    )
 
 pub returns-in-Some-2 : goal.returns-in-Some-2
 returns-in-Some-2 c =
     let at = of c.args.at.now in
     let waits = c.requires.waits in
-    inr (inr (waits, sym c.in_default.is ∙ c.in_ok-rule.ensures
-    ∙ ap (λ (log : Log). unpermitted log.facts at) c.journal.ensures),
-    inl (c.in-Some-2.rule, refl, inr (waits,
-    subst (λ (log : Log). Awaits log.facts c.args.moment at (Some c.in-Some-2.rule))
-    c.journal-2.ensures
-    (subst (Awaits c.journal-2.result.now.facts c.args.moment at) c.in-Some-2.is
-    c.in_ok-rule-2.ensures))))
+    inr (
+      inr (
+        waits,
+        sym c.in_default.is ∙ c.in_ok-rule.ensures
+            ∙ ap (λ (log : Log). unpermitted log.facts at) c.journal.ensures,
+      ),
+      inl (
+        c.in-Some-2.rule,
+        refl,
+        inr (
+          waits,
+          subst (λ (log : Log). Awaits log.facts c.args.moment at (Some c.in-Some-2.rule))
+              c.journal-2.ensures
+              (subst (Awaits c.journal-2.result.now.facts c.args.moment at) c.in-Some-2.is
+              c.in_ok-rule-2.ensures),
+        ),
+      ),
+    )
 
 pub returns-in-Some-3 : goal.returns-in-Some-3
 returns-in-Some-3 c =
@@ -33,15 +51,25 @@ returns-in-Some-3 c =
     let waits = c.requires.waits in
     let held = IsHeldRule facts c.args.moment at in
     let behind = IsBehindRule facts c.args.moment at in
-    inr (inr (waits, sym c.in_default.is ∙ c.in_ok-rule.ensures
-    ∙ ap (λ (log : Log). unpermitted log.facts at) c.journal.ensures),
-    inr (inr (waits, subst (λ (log : Log). Awaits log.facts c.args.moment at None)
-    c.journal-2.ensures
-    (subst (Awaits c.journal-2.result.now.facts c.args.moment at) c.in_default-2.is
-    c.in_ok-rule-2.ensures)),
-    either_told facts at held behind
-    (Tells (job_waits facts at) ∷ Tells (full facts at) ∷ []) waits c.in-Some-3.rule
-    (subst (FirstBroken (held ∷ behind ∷ [])) c.in-Some-3.is c.in_ok-rule-3.ensures)))
+    inr (
+      inr (
+        waits,
+        sym c.in_default.is ∙ c.in_ok-rule.ensures
+            ∙ ap (λ (log : Log). unpermitted log.facts at) c.journal.ensures,
+      ),
+      inr (
+        inr (
+          waits,
+          subst (λ (log : Log). Awaits log.facts c.args.moment at None)
+              c.journal-2.ensures
+              (subst (Awaits c.journal-2.result.now.facts c.args.moment at) c.in_default-2.is
+              c.in_ok-rule-2.ensures),
+        ),
+        either_told facts at held behind
+            (Tells (job_waits facts at) ∷ Tells (full facts at) ∷ []) waits c.in-Some-3.rule
+            (subst (FirstBroken (held ∷ behind ∷ [])) c.in-Some-3.is c.in_ok-rule-3.ensures),
+      ),
+    )
 
 pub returns-in-None : goal.returns-in-None
 returns-in-None c =
@@ -51,14 +79,24 @@ returns-in-None c =
     let held = IsHeldRule facts c.args.moment at in
     let behind = IsBehindRule facts c.args.moment at in
     if_ok _ _ c.by_turn.result (λ found first.
-    inr (inr (waits, sym c.in_default.is ∙ c.in_ok-rule.ensures
-    ∙ ap (λ (log : Log). unpermitted log.facts at) c.journal.ensures),
-    inr (inr (waits, subst (λ (log : Log). Awaits log.facts c.args.moment at None)
-    c.journal-2.ensures
-    (subst (Awaits c.journal-2.result.now.facts c.args.moment at) c.in_default-2.is
-    c.in_ok-rule-2.ensures)),
-    neither_told facts at held behind
-    (Tells (job_waits facts at) ∷ Tells (full facts at) ∷ []) waits found
-    (subst (FirstBroken (held ∷ behind ∷ [])) c.in-None.is c.in_ok-rule-3.ensures)
-    (subst (λ (log : Log). FirstBroken (Tells (job_waits log.facts at) ∷ Tells (full log.facts at)
-    ∷ []) found) c.journal-in-None.ensures first)))) c.by_turn.ensures
+    inr (
+      inr (
+        waits,
+        sym c.in_default.is ∙ c.in_ok-rule.ensures
+            ∙ ap (λ (log : Log). unpermitted log.facts at) c.journal.ensures,
+      ),
+      inr (
+        inr (
+          waits,
+          subst (λ (log : Log). Awaits log.facts c.args.moment at None)
+              c.journal-2.ensures
+              (subst (Awaits c.journal-2.result.now.facts c.args.moment at) c.in_default-2.is
+              c.in_ok-rule-2.ensures),
+        ),
+        neither_told facts at held behind
+            (Tells (job_waits facts at) ∷ Tells (full facts at) ∷ []) waits found
+            (subst (FirstBroken (held ∷ behind ∷ [])) c.in-None.is c.in_ok-rule-3.ensures)
+            (subst (λ (log : Log). FirstBroken (Tells (job_waits log.facts at) ∷ Tells (full log.facts at)
+            ∷ []) found) c.journal-in-None.ensures first),
+      ),
+    )) c.by_turn.ensures

@@ -28,12 +28,20 @@ returns-then-is_started c =
     not_told (stage_waits facts at) (drop 6 rules) found c.in_ok-rule.field-0
     (c.in_ok-rule.ensures ∙ ap (λ (log : Log). stage_waits log.facts at) c.journal.ensures)
     c.in_default.is
-    (inr (if_started facts at (Tells (unpermitted facts at)) start,
-    inr (if_started facts at (Awaits facts c.args.moment at) start,
-    inr (if_started facts at (IsHeldRule facts c.args.moment at) start,
-    inr (if_started facts at (IsBehindRule facts c.args.moment at) start,
-    subst (λ (log : Log). FirstBroken (Tells (job_waits log.facts at) ∷ Tells (full log.facts at)
-    ∷ []) found) c.journal-then-is_started.ensures first)))))) c.by_turn.ensures
+    (inr (
+      if_started facts at (Tells (unpermitted facts at)) start,
+      inr (
+        if_started facts at (Awaits facts c.args.moment at) start,
+        inr (
+          if_started facts at (IsHeldRule facts c.args.moment at) start,
+          inr (
+            if_started facts at (IsBehindRule facts c.args.moment at) start,
+            subst (λ (log : Log). FirstBroken (Tells (job_waits log.facts at) ∷ Tells (full log.facts at)
+                ∷ []) found) c.journal-then-is_started.ensures first,
+          ),
+        ),
+      ),
+    ))) c.by_turn.ensures
 
 pub returns : goal.returns
 returns c =

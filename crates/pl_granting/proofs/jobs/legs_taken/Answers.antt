@@ -13,8 +13,15 @@ overflow_add-count c =
     let le = count_by-le-length (is_leg_taken c.args.journal.now.facts (of c.args.at.now))
     (range_with_len 0 c.loop-place.place) in
     let len = length-range_with_len 0 c.loop-place.place in
-    omega (arith, le, len, c.loop-place.invariant, c.loop-place-test.true, c.len-place-end.ensures,
-    c.requires)
+    omega (
+      arith,
+      le,
+      len,
+      c.loop-place.invariant,
+      c.loop-place-test.true,
+      c.len-place-end.ensures,
+      c.requires,
+    )
 
 pub loop-place-preserved : goal.loop-place-preserved
 loop-place-preserved c =

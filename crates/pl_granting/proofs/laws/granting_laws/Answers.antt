@@ -6,7 +6,7 @@ use Rattle.pl_granting.proofs.laws.granting_laws.Goals as goal
 pub returns-clause-exactly : goal.returns-clause-exactly
 returns-clause-exactly c = λ facts moment agent at there done none. (
   grantable facts moment agent at there done
-  (c.settling_laws.ensures.no_gap moment facts none at.run at.stage),
+      (c.settling_laws.ensures.no_gap moment facts none at.run at.stage),
   not_broken facts moment agent at,
 )
 
