@@ -1,11 +1,11 @@
 -- Where nothing is due, no rule is broken exactly where the agent holds the job or may be given it.
-use Rattle.std.proofs.Common.{◌≡◌, ◌<◌, ◌&&◌, ℕ, Bool, true, false, not, List, [], ◌∷◌, Option, Some}
-use Rattle.std.proofs.Common.{None, is_none, is_some, if◌then◌else◌, refl, sym, ap, ◌∙◌, subst, inl}
-use Rattle.std.proofs.Common.{inr, ⊎_elim, arith}
+use Rattle.std.proofs.Common.{◌≡◌, ℕ, Bool, true, false, List, [], ◌∷◌, Option, Some}
+use Rattle.std.proofs.Common.{None, drop, is_none, is_some, if◌then◌else◌, refl, sym, ap, ◌∙◌}
+use Rattle.std.proofs.Common.{subst, inl, inr, ⊎_elim, arith}
 use Rattle.std.specs.Prelude.{nat_le}
-use Rattle.std.specs.List.{All, Any, Contains, list_all}
+use Rattle.std.specs.List.{All, Contains}
 use Rattle.std.specs.Option.{option_and_then, option_map, option_map_or}
-use Rattle.std.proofs.lemmas.Bool.{false≢true, true≢false}
+use Rattle.std.proofs.lemmas.Bool.{true≢false}
 use Rattle.pl_base.specs.Texts.{is}
 use Rattle.pl_base.specs.declared.resource.ResourceKey.{ResourceKey}
 use Rattle.pl_facts.specs.declared.fact.Fact.{Fact}
@@ -13,25 +13,26 @@ use Rattle.pl_journal.specs.Runs.{job_ending, stage_end, stage_start}
 use Rattle.pl_locks.specs.Locks.{ComesFirst, IsBehind, IsHeld, Locks}
 use Rattle.pl_locks.specs.declared.contender.Contender.{Contender}
 use Rattle.pl_requests.specs.declared.settings.AgentSetting.{AgentSetting}
-use Rattle.pl_rules.specs.declared.rule.Rule.{Rule}
 use Rattle.pl_rules.specs.declared.rule.Rule.TheVariants as rules
-use Rattle.pl_due.specs.Checked.{exclusive_uses, is_permitted, permits}
+use Rattle.pl_due.specs.Checked.{exclusive_uses, permits}
 use Rattle.pl_due.specs.Contention.{IsContention}
 use Rattle.pl_due.specs.Nodes.{is_running}
 use Rattle.pl_due.proofs.Members.{cons_cases, of_member}
 use Rattle.pl_due.proofs.OneDue.{one_contention}
+use Rattle.pl_due.proofs.Standing.{both, first_of_two}
 use Rattle.pl_settling.specs.Laws.{Gap}
-use Rattle.pl_views.specs.Ready.{has_ended, is_ready, job_has_ended, job_is_ready}
-use Rattle.pl_granting.specs.Broken.{Broken, FirstBroken, Tells, asked_rules}
+use Rattle.pl_views.specs.Ready.{has_ended, job_has_ended}
+use Rattle.pl_granting.specs.Broken.{Broken, Telling, Tells, asked_rules}
 use Rattle.pl_granting.specs.Grantable.{AreDone, IsFree, IsGrantable}
 use Rattle.pl_granting.specs.Locked.{Awaits, FirstHeld, HasIt, IsBehindRule, IsHeldRule, LeastFirst}
 use Rattle.pl_granting.specs.Locked.{as_contender, behind_rule, held_rule}
 use Rattle.pl_granting.specs.Named.{IsJobOf, JobOf}
-use Rattle.pl_granting.specs.Rules.{busy_with, ended_as, held_job, holder, is_held_by, is_same_job}
-use Rattle.pl_granting.specs.Rules.{is_started, job_label, legs_taken, meets, stage_name, unpermitted}
+use Rattle.pl_granting.specs.Rules.{busy_with, ended_as, held_job, holder, is_same_job}
+use Rattle.pl_granting.specs.Rules.{is_started, legs_taken, meets, unpermitted}
 use Rattle.pl_granting.proofs.InOrder.{AllNone, all_none, if_started, none_of_all, waiting}
-use Rattle.pl_granting.proofs.Look.{all_found, both, failed, first_of_two, itself, no_more, none_found}
-use Rattle.pl_granting.proofs.Look.{nothing_mapped, passed, room, same, unended_job, unended_stage}
+use Rattle.pl_granting.proofs.Look.{all_found, failed, itself, no_more, none_found}
+use Rattle.pl_granting.proofs.Look.{nothing_mapped, passed, room, same, unended_job}
+use Rattle.pl_granting.proofs.Look.{unended_stage}
 use Rattle.pl_granting.proofs.Places.{its_stage}
 
 -- ---- no stage holds, and none comes first
@@ -187,48 +188,45 @@ module _ (facts : List Fact) (moment : ℕ) (agent : AgentSetting) (at : JobOf) 
   runs_started is =
       first_of_two (is_started facts at) (is_none (stage_end at.run at.stage facts)) is
 
-  no_rule : IsFree facts agent at → AllNone (asked_rules facts moment agent at)
+  abbrev asked : List Telling
+  asked = asked_rules facts moment agent at
+
+  turn_none : IsFree facts agent at → AllNone (drop 10 asked)
+  turn_none may =
+      let most = at.planned.max_parallel in
+      let none = ap (λ (b : Bool). if b then Some (rules.ParallelFull most) else None)
+      (no_more most (legs_taken facts at) may.room) in
+      let full : AllNone (drop 11 asked) = (sym none, tt) in
+      (all_found (job_has_ended at.run at.stage facts) _ at.planned.depends may.job_ready, full)
+
+  start_none : IsFree facts agent at → AllNone (drop 6 asked)
+  start_none may =
+      let start = runs_started may.runs in
+      let behind : AllNone (drop 9 asked) =
+      (if_started facts at (IsBehindRule facts moment at) start, turn_none may) in
+      let held : AllNone (drop 8 asked) =
+      (if_started facts at (IsHeldRule facts moment at) start, behind) in
+      let awaits : AllNone (drop 7 asked) =
+      (if_started facts at (Awaits facts moment at) start, held) in
+      (if_started facts at (Tells (unpermitted facts at)) start, awaits)
+
+  agent_none : IsFree facts agent at → AllNone (drop 2 asked)
+  agent_none may =
+      let stages : AllNone (drop 5 asked) =
+      (all_found (has_ended at.run facts) _ at.staged.depends may.ready, start_none may) in
+      let able : AllNone (drop 4 asked) =
+      (all_found (meets agent) _ at.planned.demands may.able, stages) in
+      let mismatch = rules.PoolMismatch agent.pool at.planned.pool in
+      let none = ap (λ (b : Bool). if b then None else Some mismatch)
+      (itself agent.pool at.planned.pool may.pool) in
+      let pool : AllNone (drop 3 asked) = (sym none, able) in
+      (sym (ap (option_map busy_with) may.idle), pool)
+
+  no_rule : IsFree facts agent at → AllNone asked
   no_rule may =
-      let start = runs_started may.runs in (
-        sym (ap ended_as may.unended),
-        (
-          no_taker agent.name (holder facts at) may.untaken,
-          (
-            sym (ap (option_map busy_with) may.idle),
-            (
-              sym (ap (λ (b : Bool). if b then None
-                  else Some (rules.PoolMismatch agent.pool at.planned.pool))
-                  (itself agent.pool at.planned.pool may.pool)),
-              (
-                all_found (meets agent) _ at.planned.demands may.able,
-                (
-                  all_found (has_ended at.run facts) _ at.staged.depends may.ready,
-                  (
-                    if_started facts at (Tells (unpermitted facts at)) start,
-                    (
-                      if_started facts at (Awaits facts moment at) start,
-                      (
-                        if_started facts at (IsHeldRule facts moment at) start,
-                        (
-                          if_started facts at (IsBehindRule facts moment at) start,
-                          (
-                            all_found (job_has_ended at.run at.stage facts) _ at.planned.depends may.job_ready,
-                            (
-                              sym (ap (λ (b : Bool). if b then Some (rules.ParallelFull at.planned.max_parallel)
-                                  else None) (no_more at.planned.max_parallel (legs_taken facts at) may.room)),
-                              tt,
-                            ),
-                          ),
-                        ),
-                      ),
-                    ),
-                  ),
-                ),
-              ),
-            ),
-          ),
-        ),
-      )
+      let taken : AllNone (drop 1 asked) =
+      (no_taker agent.name (holder facts at) may.untaken, agent_none may) in
+      (sym (ap ended_as may.unended), taken)
 
   pub not_broken : IsGrantable facts agent at → Broken facts moment agent at None
   not_broken (inl held) = inl (held, refl)

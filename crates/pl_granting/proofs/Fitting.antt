@@ -1,6 +1,6 @@
 -- What is known of the plans of queued runs, and of places in them.
-use Rattle.std.proofs.Common.{◌≡◌, ◌<◌, ◌^◌, ◌&&◌, ℕ, List, [], ◌∷◌, Option, Some, None, IfSome, length}
-use Rattle.std.proofs.Common.{subst, arith}
+use Rattle.std.proofs.Common.{◌≡◌, ◌<◌, ◌^◌, ◌&&◌, ℕ, List, [], ◌∷◌, Option, Some, None, IfSome}
+use Rattle.std.proofs.Common.{length, subst, arith}
 use Rattle.std.proofs.lemmas.List.Quantifiers.{position-Some}
 use Rattle.pl_base.specs.Texts.{is}
 use Rattle.pl_facts.specs.declared.fact.Fact.{Fact}
@@ -19,7 +19,8 @@ use Rattle.pl_views.proofs.Moments.{latest_holds}
 pub can_run : (facts : List Fact) (run : ℕ) (queued : QueuedRun) → AreFit facts →
     by run_told (queueing run facts) ≡ Some queued → CanRun queued.compiled.plan
 can_run facts run queued fit told_so = go (queueing run facts)
-    (latest_holds IsFit (λ fact. is_about (Run run) fact && is_queueing fact.event) facts fit) told_so
+    (latest_holds IsFit (λ fact. is_about (Run run) fact && is_queueing fact.event) facts fit)
+    told_so
   where
     go : (o : Option Fact) → IfSome o IsFit → by run_told o ≡ Some queued →
         CanRun queued.compiled.plan

@@ -1,6 +1,6 @@
 -- Rules that are asked one after the other.
-use Rattle.std.proofs.Common.{◌≡◌, ℕ, Bool, true, false, List, [], ◌∷◌, Option, Some, None}
-use Rattle.std.proofs.Common.{refl, sym, ap, ◌∙◌, inl, inr}
+use Rattle.std.proofs.Common.{◌≡◌, true, false, List, [], ◌∷◌, Option, Some, None}
+use Rattle.std.proofs.Common.{refl, sym, ◌∙◌, inl, inr}
 use Rattle.std.proofs.lemmas.Bool.{true≢false}
 use Rattle.pl_facts.specs.declared.fact.Fact.{Fact}
 use Rattle.pl_rules.specs.declared.rule.Rule.{Rule}
@@ -89,6 +89,28 @@ module _ (facts : List Fact) (at : JobOf) (telling : Telling) where
 
   pub if_started : is_started facts at ≡ true → UnlessStarted facts at telling None
   if_started started = inl (started, refl)
+
+  -- of a stage that wasn't started, a rule that isn't broken
+  pub passes : (others : List Telling) (found : Option Rule) → is_started facts at ≡ false →
+      telling None → FirstBroken others found →
+      FirstBroken (UnlessStarted facts at telling ∷ others) found
+  passes others found waits none later = inr (inr (waits, none), later)
+
+  pub breaks : (others : List Telling) (rule : Rule) → is_started facts at ≡ false →
+      telling (Some rule) → FirstBroken (UnlessStarted facts at telling ∷ others) (Some rule)
+  breaks others rule waits tells = inl (rule, refl, inr (waits, tells))
+
+-- none of four such rules is asked of a stage that was started
+pub four_passed : (facts : List Fact) (at : JobOf) (a b c d : Telling) (others : List Telling)
+    (found : Option Rule) → is_started facts at ≡ true → FirstBroken others found →
+    FirstBroken (UnlessStarted facts at a ∷ UnlessStarted facts at b ∷ UnlessStarted facts at c
+    ∷ UnlessStarted facts at d ∷ others) found
+four_passed facts at a b c d others found started later =
+    let third : FirstBroken (UnlessStarted facts at d ∷ others) found =
+    inr (if_started facts at d started, later) in
+    let second : FirstBroken (UnlessStarted facts at c ∷ UnlessStarted facts at d ∷ others) found =
+    inr (if_started facts at c started, third) in
+    inr (if_started facts at a started, inr (if_started facts at b started, second))
 
 -- two such rules, and what comes behind them
 module _ (facts : List Fact) (at : JobOf) (one two : Telling) (others : List Telling)

@@ -1,39 +1,27 @@
 -- The least job that an agent may have.
-use Rattle.std.proofs.Common.{◌≡◌, ◌==◌, ◌<◌, ◌≤◌, ◌+◌, ◌&&◌, ◌⊎◌, eqb, ℕ, Bool, true, false, List, []}
-use Rattle.std.proofs.Common.{Option, Some, None, get_or, length, refl, sym, ap, ◌∙◌, subst, inl, inr}
+use Rattle.std.proofs.Common.{◌≡◌, ◌<◌, ◌≤◌, ◌⊎◌, ℕ, Bool, true, false, List}
+use Rattle.std.proofs.Common.{Option, Some, None, get_or, length, refl, sym, ap, ◌∙◌, subst}
 use Rattle.std.proofs.Common.{arith, ⊎_elim}
-use Rattle.std.specs.Prelude.{slice_get}
 use Rattle.std.specs.List.{Contains}
-use Rattle.std.specs.Option.{option_and_then, option_map_or}
+use Rattle.std.specs.Option.{option_map_or}
 use Rattle.std.proofs.lemmas.Bool.{cases_lt, true≢false}
-use Rattle.std.proofs.lemmas.Bool.Decides.{nat_tests}
 use Rattle.std.proofs.lemmas.List.{get_or_default}
 use Rattle.std.proofs.lemmas.Option.{slice_get_within}
-use Rattle.pl_facts.specs.declared.fact.Event.{Event}
-use Rattle.pl_facts.specs.declared.fact.Event.TheVariants as event
 use Rattle.pl_facts.specs.declared.fact.Fact.{Fact}
 use Rattle.pl_facts.specs.declared.fact.QueuedRun.{QueuedRun}
-use Rattle.pl_journal.specs.Runs.{held_by, queueing, run_told}
+use Rattle.pl_journal.specs.Runs.{queueing, run_told}
 use Rattle.pl_journal.specs.Settings.{by}
 use Rattle.pl_plan.specs.declared.plan.PlanStage.{PlanStage}
 use Rattle.pl_requests.specs.declared.settings.AgentSetting.{AgentSetting}
 use Rattle.pl_due.specs.Nodes.{IsStageOf}
 use Rattle.pl_due.specs.Scans.{IsFirstTrue}
 use Rattle.pl_due.proofs.OneStage.{one_planned, one_told}
-use Rattle.pl_granting.specs.Drawn.{Drawn, Least, MayHave, Precedes}
-use Rattle.pl_granting.specs.Grantable.{IsFree, IsGrantable}
+use Rattle.pl_granting.specs.Drawn.{Drawn, Least, Precedes}
 use Rattle.pl_granting.specs.Named.{IsJobOf, JobOf, job_in}
-use Rattle.pl_granting.specs.Rules.{held_job, is_held_by, is_same_job, job_taken}
+use Rattle.pl_granting.specs.Rules.{held_job}
 use Rattle.pl_granting.specs.Tests.{IsOpenTo, OfRun, OfStage, is_at_work, may_take, may_take_at}
-use Rattle.pl_granting.proofs.Places.{IsThere, is_in, its_stage, of_job_at, of_job_in, one_job}
-use Rattle.pl_granting.proofs.Taking.{free_of, takes_of, works_of}
-
--- ---- the least of one kind is the least of another with the same members
-
-pub least_same : (P Q : JobOf → Type 0) → ((x : JobOf) → P x → Q x) → ((x : JobOf) → Q x → P x) →
-    (found : Option JobOf) → Least P found → Least Q found
-least_same P Q to from None none = λ x h. none x (from x h)
-least_same P Q to from (Some at) least = (to at least.0, λ x h. least.1 x (from x h))
+use Rattle.pl_granting.proofs.Places.{is_in, its_stage, of_job_in, one_job}
+use Rattle.pl_granting.proofs.Taking.{free_of, takes_of}
 
 -- ---- there is one least job
 
@@ -49,60 +37,6 @@ one_drawn facts agent (Some a) None l r = absurd (r a l.0)
 one_drawn facts agent (Some a) (Some b) l r =
     let (run, stage, job) = trichotomy a b (r.1 a l.0) (l.1 b r.0) in
     ap (λ (j : JobOf). Some j) (one_job facts a b l.0.0 r.0.0 run stage job)
-
--- ---- a job that the agent holds
-
-taken_there : (facts : List Fact) (told : Event) (at : JobOf) → job_taken facts told ≡ Some at →
-    IsJobOf facts at
-taken_there facts (event.JobTaken run stage job agent) at e = (of_job_at facts run stage job at e).there
-taken_there facts _ at e = absurd (cc)
-
-held_there : (facts : List Fact) (agent : List ℕ) (at : JobOf) → held_job facts agent ≡ Some at →
-    IsJobOf facts at
-held_there facts agent at held = go (held_by agent facts) refl
-  where
-    go : (o : Option Fact) → held_by agent facts ≡ o → IsJobOf facts at
-    go None is =
-        let e : None ≡ Some at =
-        sym (ap (option_and_then (λ (one : Fact). job_taken facts one.event)) is) ∙ held in
-        absurd (cc)
-    go (Some fact) is = taken_there facts fact.event at
-        (sym (ap (option_and_then (λ (one : Fact). job_taken facts one.event)) is) ∙ held)
-
-same_itself : (at : JobOf) → is_same_job at at ≡ true
-same_itself at = grind (arith, nat_tests)
-
-not_before : (one at : JobOf) → is_same_job one at ≡ true → Precedes one at → ⊥
-not_before one at is before = grind (arith, nat_tests, is, before)
-
-module _ (facts : List Fact) (agent : AgentSetting) where
-  pub drawn_held : (at : JobOf) → held_job facts agent.name ≡ Some at → Drawn facts agent (Some at)
-  drawn_held at held = (
-    (
-      held_there facts agent.name at held,
-      inl (ap (λ (o : Option JobOf). option_map_or (is_same_job at) o false) held
-          ∙ same_itself at),
-    ),
-    λ other (there, may). ⊎_elim
-        (λ (h : is_held_by facts agent.name other ≡ true). not_before other at
-        (sym (ap (λ (o : Option JobOf). option_map_or (is_same_job other) o false) held) ∙ h))
-        (λ (free : IsFree facts agent other) before.
-        let e : Some at ≡ None = sym held ∙ free.idle in absurd (cc))
-        may,
-  )
-
-  pub drawn_free : held_job facts agent.name ≡ None → (found : Option JobOf) →
-      Least (IsOpenTo facts agent) found → Drawn facts agent found
-  drawn_free idle found least = least_same (IsOpenTo facts agent) (MayHave facts agent)
-      (λ at (there, free). (there, inr free))
-      (λ at (there, may). (
-        there,
-        ⊎_elim
-            (λ (h : is_held_by facts agent.name at ≡ true). absurd (true≢false (sym h
-            ∙ ap (λ (o : Option JobOf). option_map_or (is_same_job at) o false) idle)))
-            (λ free. free) may,
-      ))
-      found least
 
 -- ---- the first job of a stage
 
@@ -145,11 +79,6 @@ module _ (facts : List Fact) (agent : AgentSetting) (run stage : ℕ) (queued : 
       ap (λ (o : Option JobOf). option_map_or (may_take facts agent) o false)
       (its_place at is r s) ∙ takes_of facts agent at free
 
-  pub stage_idle : is_at_work facts run stage staged ≡ false →
-      Least (OfStage facts agent run stage) None
-  stage_idle idle = λ at (((is, free), r), s).
-      true≢false (sym (works_of facts agent at free) ∙ works at is r s ∙ idle)
-
   pub stage_none : IsFirstTrue test None → Least (OfStage facts agent run stage) None
   stage_none none = λ at is. true≢false (sym (tested at is) ∙ none at.job)
 
@@ -170,8 +99,10 @@ module _ (facts : List Fact) (agent : AgentSetting) (run stage : ℕ) (queued : 
           let free = free_of facts agent at idle
           (works at found.there found.of_run found.of_stage ∙ at_work) takes in (
             (((found.there, free), found.of_run), found.of_stage),
-            λ other of_it before. true≢false (sym (tested other of_it) ∙ first.1 other.job
-                (earlier other at of_it.0.1 of_it.1 found.of_run found.of_stage found.of_job before)),
+            λ other of_it before.
+                let less = earlier other at of_it.0.1 of_it.1 found.of_run found.of_stage
+                found.of_job before in
+                true≢false (sym (tested other of_it) ∙ first.1 other.job less),
           )
         where
           earlier : (one at : JobOf) → one.run ≡ run → one.stage ≡ stage → at.run ≡ run →
@@ -191,29 +122,6 @@ module _ (facts : List Fact) (agent : AgentSetting) (run : ℕ) where
   abbrev pub NoneBelow : ℕ → Type 0
   NoneBelow n = (at : JobOf) → OfRun facts agent run at → at.stage < n → ⊥
 
-  pub run_more : (n : ℕ) → NoneBelow n → Least (OfStage facts agent run n) None →
-      NoneBelow (n + 1)
-  run_more n none nothing = λ at is below.
-      ⊎_elim (none at is)
-      (λ same. nothing at (is, omega (arith, below, same)))
-      (cases_lt at.stage n)
-
-  pub run_found : (n : ℕ) → NoneBelow n → (found : Option JobOf) → (at : JobOf) →
-      found ≡ Some at → Least (OfStage facts agent run n) found →
-      Least (OfRun facts agent run) found
-  run_found n none None at told least = absurd (cc)
-  run_found n none (Some one) at told least = (
-    least.0.0,
-    λ other is before.
-        ⊎_elim (none other is)
-        (λ above. least.1 other (is, same other one is.1 least.0.0.1 least.0.1 above before) before)
-        (cases_lt other.stage n),
-  )
-    where
-      same : (other one : JobOf) → other.run ≡ run → one.run ≡ run → one.stage ≡ n →
-          n ≤ other.stage → Precedes other one → other.stage ≡ n
-      same other one a b c above before = grind (arith, a, b, c, above, before)
-
   pub run_none : (queued : QueuedRun) (count : ℕ) → NoneBelow count →
       ((at : JobOf) → IsJobOf facts at → at.run ≡ run → at.queued ≡ queued) →
       length queued.compiled.plan.stages ≤ count → Least (OfRun facts agent run) None
@@ -230,14 +138,6 @@ module _ (facts : List Fact) (agent : AgentSetting) (runs : List ℕ) where
   abbrev pub NoneBefore : ℕ → Type 0
   NoneBefore n = (at : JobOf) → IsOpenTo facts agent at → (k : ℕ) → k < n →
       get_or runs k 0 ≡ at.run → ⊥
-
-  pub all_more : (n : ℕ) → NoneBefore n → Least (OfRun facts agent (get_or runs n 0)) None →
-      NoneBefore (n + 1)
-  all_more n none nothing = λ at is k below told.
-      ⊎_elim (λ before. none at is k before told)
-      (λ above. let e : k ≡ n = omega (arith, below, above) in
-      nothing at (is, sym told ∙ ap (λ m. get_or runs m 0) e))
-      (cases_lt k n)
 
   pub all_found : ((i j : ℕ) → i < j → j < length runs → get_or runs i 0 < get_or runs j 0) →
       ((at : JobOf) → IsOpenTo facts agent at → Contains runs at.run) → (n : ℕ) →

@@ -1,22 +1,22 @@
 -- What tests and look-ups say.
-use Rattle.std.proofs.Common.{◌≡◌, ◌<◌, ◌&&◌, ℕ, Bool, true, false, not, List, [], ◌∷◌, Option, Some}
-use Rattle.std.proofs.Common.{None, find, is_none, is_some, if◌then◌else◌, refl, sym, ap, ◌∙◌, arith}
+use Rattle.std.proofs.Common.{◌≡◌, ◌<◌, ℕ, Bool, true, false, not, List, [], ◌∷◌, Option, Some}
+use Rattle.std.proofs.Common.{None, find, is_none, is_some, if◌then◌else◌, refl, sym, ap, ◌∙◌}
+use Rattle.std.proofs.Common.{arith}
 use Rattle.std.specs.Prelude.{nat_le}
 use Rattle.std.specs.List.{list_all}
 use Rattle.std.specs.Option.{option_and_then, option_map, option_or}
-use Rattle.std.proofs.lemmas.Bool.{false≢true, true≢false}
+use Rattle.std.proofs.lemmas.Bool.{true≢false}
 use Rattle.std.proofs.lemmas.Bool.Decides.{Decides-eqb, nat_tests}
 use Rattle.std.proofs.lemmas.Slice.Eq.{slice_eq-Decides}
 use Rattle.pl_base.specs.Texts.{is}
 use Rattle.pl_facts.specs.declared.fact.Event.{Event}
 use Rattle.pl_facts.specs.declared.fact.Event.TheVariants as event
 use Rattle.pl_facts.specs.declared.fact.Fact.{Fact}
-use Rattle.pl_journal.specs.About.{latest_of}
 use Rattle.pl_journal.specs.Kinds.{is_job_end, is_stage_end}
 use Rattle.pl_journal.specs.Runs.{job_end, job_ending, outcome_told, skipping, stage_end}
 use Rattle.pl_journal.specs.Runs.{stage_start}
 use Rattle.pl_log.specs.Latest.{latest}
-use Rattle.pl_log.specs.Keys.{Job, Stage}
+use Rattle.pl_due.proofs.Standing.{is_nothing, second_of_two}
 use Rattle.pl_views.proofs.Moments.{all_or_found}
 
 -- ---- two texts
@@ -27,29 +27,11 @@ same a b = (slice_eq-Decides Decides-eqb a b (is a b) refl).0
 pub itself : (a b : List ℕ) → a ≡ b → is a b ≡ true
 itself a b = (slice_eq-Decides Decides-eqb a b (is a b) refl).1
 
--- ---- two tests
-
-pub first_of_two : (a b : Bool) → (a && b) ≡ true → a ≡ true
-first_of_two true b h = refl
-first_of_two false b h = h
-
-pub second_of_two : (a b : Bool) → (a && b) ≡ true → b ≡ true
-second_of_two true b h = h
-second_of_two false true h = refl
-second_of_two false false h = h
-
-pub both : (a b : Bool) → a ≡ true → b ≡ true → (a && b) ≡ true
-both a b l r = ap (λ x. x && b) l ∙ r
-
 -- ---- options
 
 pub nothing_mapped : {X Y : Type 0} (f : X → Y) (o : Option X) → None ≡ option_map f o → o ≡ None
 nothing_mapped f None e = refl
 nothing_mapped f (Some x) e = absurd (cc)
-
-pub is_nothing : {X : Type 0} (o : Option X) → is_none o ≡ true → o ≡ None
-is_nothing None h = refl
-is_nothing (Some x) h = absurd (cc)
 
 -- what is told where a test passes, and nothing where it does
 pub passed : {X : Type 0} (b : Bool) (x : X) → None ≡ (if b then None else Some x) → b ≡ true
@@ -98,8 +80,8 @@ stage_end_tells _ is none = absurd (true≢false (sym is))
 
 -- where no outcome is told the job hasn't ended
 pub unended_job : (run stage job : ℕ) (facts : List Fact) →
-    option_and_then (λ (one : Fact). outcome_told one.event) (job_ending run stage job facts) ≡ None →
-    job_ending run stage job facts ≡ None
+    option_and_then (λ (one : Fact). outcome_told one.event) (job_ending run stage job facts) ≡
+    None → job_ending run stage job facts ≡ None
 unended_job run stage job facts none = go (job_end run stage job facts) refl
   where
     told : (o : Option Fact) → job_ending run stage job facts ≡ o →

@@ -1,7 +1,6 @@
 -- Facts, a moment, an agent and a job leave no choice in the first rule that is broken.
-use Rattle.std.proofs.Common.{◌≡◌, ℕ, Bool, true, false, List, [], ◌∷◌, Option, Some, None, refl}
+use Rattle.std.proofs.Common.{◌≡◌, ℕ, true, false, List, [], ◌∷◌, Option, Some, None, drop, refl}
 use Rattle.std.proofs.Common.{sym, ap, ◌∙◌, subst, inl, inr}
-use Rattle.std.specs.List.{All, Contains}
 use Rattle.std.proofs.lemmas.Bool.{true≢false}
 use Rattle.pl_base.specs.declared.resource.ResourceKey.{ResourceKey}
 use Rattle.pl_checks.specs.declared.check.Check.{Check}
@@ -15,17 +14,16 @@ use Rattle.pl_locks.specs.Locks.{ComesFirst, Locks}
 use Rattle.pl_locks.specs.declared.contender.Contender.{Contender}
 use Rattle.pl_locks.proofs.Ordered.{neither_precedes, same_at}
 use Rattle.pl_requests.specs.declared.settings.AgentSetting.{AgentSetting}
-use Rattle.pl_rules.specs.declared.rule.Rule.{Rule}
 use Rattle.pl_due.specs.Checked.{exclusive_uses}
 use Rattle.pl_due.proofs.Members.{of_member}
 use Rattle.pl_due.proofs.OneDue.{one_contention, one_verdicts}
-use Rattle.pl_granting.specs.Broken.{Broken, Tells, UnlessStarted, asked_rules}
+use Rattle.pl_granting.specs.Broken.{Broken, Tells, asked_rules}
 use Rattle.pl_granting.specs.Locked.{Awaits, FirstHeld, IsBehindRule, IsHeldRule, LeastFirst}
 use Rattle.pl_granting.specs.Locked.{as_contender, behind_rule, held_rule}
 use Rattle.pl_granting.specs.Named.{JobOf}
 use Rattle.pl_granting.specs.Rules.{busy, ended, full, job_waits, lacks, other_pool, stage_waits}
 use Rattle.pl_granting.specs.Rules.{taken, unpermitted}
-use Rattle.pl_granting.proofs.InOrder.{TellsOne, one_first, one_unless, tells_one}
+use Rattle.pl_granting.proofs.InOrder.{AllTellOne, TellsOne, one_first, one_unless, tells_one}
 
 -- ---- one stage holds the first resource that is held
 
@@ -91,6 +89,31 @@ module _ (one : (check : Check) (view : CheckView) (moment : ℕ) (left right : 
       right.contention.eligible.ordered itself left.stage right.stage moved right.first)
       ∙ sym right.gets
 
+  start_one : (agent : AgentSetting) → AllTellOne (drop 6 (asked_rules facts moment agent at))
+  start_one agent =
+      let asked = asked_rules facts moment agent at in
+      let full : AllTellOne (drop 11 asked) = (tells_one (full facts at), tt) in
+      let turn : AllTellOne (drop 10 asked) = (tells_one (job_waits facts at), full) in
+      let behind : AllTellOne (drop 9 asked) =
+      (one_unless facts at (IsBehindRule facts moment at) one_behind_rule, turn) in
+      let held : AllTellOne (drop 8 asked) =
+      (one_unless facts at (IsHeldRule facts moment at) one_held_rule, behind) in
+      let awaits : AllTellOne (drop 7 asked) =
+      (one_unless facts at (Awaits facts moment at) one_wait, held) in
+      let permits = tells_one (unpermitted facts at) in
+      (one_unless facts at (Tells (unpermitted facts at)) permits, awaits)
+
+  all_one : (agent : AgentSetting) → AllTellOne (asked_rules facts moment agent at)
+  all_one agent =
+      let asked = asked_rules facts moment agent at in
+      let stages : AllTellOne (drop 5 asked) =
+      (tells_one (stage_waits facts at), start_one agent) in
+      let able : AllTellOne (drop 4 asked) = (tells_one (lacks agent at), stages) in
+      let pool : AllTellOne (drop 3 asked) = (tells_one (other_pool agent at), able) in
+      let busy : AllTellOne (drop 2 asked) = (tells_one (busy facts agent.name), pool) in
+      let taken : AllTellOne (drop 1 asked) = (tells_one (taken facts agent.name at), busy) in
+      (tells_one (ended facts at), taken)
+
   pub one_broken : (agent : AgentSetting) → TellsOne (Broken facts moment agent at)
   one_broken agent a b (inl (held, none)) (inl (also, nothing)) = none ∙ sym nothing
   one_broken agent a b (inl (held, none)) (inr (free, first)) =
@@ -98,35 +121,4 @@ module _ (one : (check : Check) (view : CheckView) (moment : ℕ) (left right : 
   one_broken agent a b (inr (free, first)) (inl (held, none)) =
       absurd (true≢false (sym held ∙ free))
   one_broken agent a b (inr (free, first)) (inr (also, too)) =
-      one_first (asked_rules facts moment agent at) (
-        tells_one (ended facts at),
-        (
-          tells_one (taken facts agent.name at),
-          (
-            tells_one (busy facts agent.name),
-            (
-              tells_one (other_pool agent at),
-              (
-                tells_one (lacks agent at),
-                (
-                  tells_one (stage_waits facts at),
-                  (
-                    one_unless facts at (Tells (unpermitted facts at)) (tells_one (unpermitted facts at)),
-                    (
-                      one_unless facts at (Awaits facts moment at) one_wait,
-                      (
-                        one_unless facts at (IsHeldRule facts moment at) one_held_rule,
-                        (
-                          one_unless facts at (IsBehindRule facts moment at) one_behind_rule,
-                          (tells_one (job_waits facts at), (tells_one (full facts at), tt)),
-                        ),
-                      ),
-                    ),
-                  ),
-                ),
-              ),
-            ),
-          ),
-        ),
-      )
-      a b first too
+      one_first (asked_rules facts moment agent at) (all_one agent) a b first too

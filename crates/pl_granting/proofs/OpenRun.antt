@@ -1,6 +1,6 @@
 -- A job that may be given is of an open run.
 use Rattle.std.proofs.Common.{◌≡◌, ◌+◌, eqb, ℕ, true, false, List, Option, None, length, is_none}
-use Rattle.std.proofs.Common.{sym, ap, ◌∙◌, subst, arith}
+use Rattle.std.proofs.Common.{ap, ◌∙◌, subst, arith}
 use Rattle.std.specs.List.{Contains, list_any, range_with_len}
 use Rattle.std.specs.Option.{option_map_or}
 use Rattle.std.proofs.lemmas.List.Folds.{Any-from_list_any, list_any-from_Any}

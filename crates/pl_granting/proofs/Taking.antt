@@ -1,5 +1,5 @@
 -- A job may be given where the tests of it pass.
-use Rattle.std.proofs.Common.{◌≡◌, ◌<◌, ◌&&◌, ℕ, Bool, true, false, List, Option, Some, None, is_none}
+use Rattle.std.proofs.Common.{◌≡◌, ◌<◌, ◌&&◌, ℕ, Bool, true, List, Option, Some, None, is_none}
 use Rattle.std.proofs.Common.{refl, sym, ap, ◌∙◌, arith}
 use Rattle.std.specs.Prelude.{nat_lt}
 use Rattle.std.specs.List.{list_all}
@@ -10,11 +10,12 @@ use Rattle.pl_facts.specs.declared.fact.Fact.{Fact}
 use Rattle.pl_journal.specs.Runs.{job_ending}
 use Rattle.pl_requests.specs.declared.settings.AgentSetting.{AgentSetting}
 use Rattle.pl_due.specs.Nodes.{is_running}
+use Rattle.pl_due.proofs.Standing.{both, first_of_two, is_nothing, second_of_two}
 use Rattle.pl_granting.specs.Grantable.{IsFree}
 use Rattle.pl_granting.specs.Named.{JobOf}
 use Rattle.pl_granting.specs.Rules.{held_job, holder, legs_taken, meets}
-use Rattle.pl_granting.specs.Tests.{is_able, is_at_work, is_in_turn, is_left, is_untaken, may_take}
-use Rattle.pl_granting.proofs.Look.{both, first_of_two, is_nothing, itself, same, second_of_two}
+use Rattle.pl_granting.specs.Tests.{is_at_work, is_untaken, may_take}
+use Rattle.pl_granting.proofs.Look.{itself, same}
 use Rattle.pl_views.specs.Ready.{is_ready, job_is_ready}
 
 no_other : (agent : List ℕ) (o : Option (List ℕ)) →

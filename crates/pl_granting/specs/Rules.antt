@@ -2,7 +2,7 @@
 -- Pipelines: "Agents and pools", demands; "Dependencies and conditions"; "Pipeline permissions";
 -- "Define approvals and checks"; "Jobs", maxParallel). Their order and what each tells are this
 -- project's own. Each is what it tells where it is broken, and None where it isn't.
-use Rattle.std.specs.Prelude.{◌≡◌, ◌==◌, ℕ, nat_le, Bool, true, false, not, ◌&&◌, List, [], length}
+use Rattle.std.specs.Prelude.{◌==◌, ℕ, nat_le, Bool, true, false, not, ◌&&◌, List, [], length}
 use Rattle.std.specs.Prelude.{Option, Some, None, slice_get, is_some, codes, if◌then◌else◌, find}
 use Rattle.std.specs.List.{count_by, list_any, range_with_len}
 use Rattle.std.specs.Option.{option_and_then, option_map, option_map_or}

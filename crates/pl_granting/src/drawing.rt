@@ -153,9 +153,9 @@ fn first_of_all<'j>(journal: &'j IndexedJournal, agent: &AgentSetting) -> Option
 ///
 /// It may be given a job that hasn't ended and that no other agent holds, where it holds none, is
 /// of the job's pool and has what the job demands, the job's stage runs, neither waits for another,
-/// and fewer legs of the job run than may at once. Where nothing is due these are the jobs for which
-/// `broken` tells no rule (`granting_laws`). Only open runs are looked at. Each run's plan can run,
-/// as `pl_due::due` asks.
+/// and fewer legs of the job run than may at once. Where nothing is due these are the jobs for
+/// which `broken` tells no rule (`granting_laws`). Only open runs are looked at. Each run's plan
+/// can run, as `pl_due::due` asks.
 pub fn drawn<'j>(journal: &'j IndexedJournal, agent: &AgentSetting) -> Option<JobAt<'j>>
     requires fit { AreFit journal.now.facts }
     ensures { spec.Drawn journal.now.facts agent.now (seen result) }

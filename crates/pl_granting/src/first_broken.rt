@@ -25,15 +25,15 @@ use std::alloc::Global;
 /// The rules are, in this order: the job has ended (`job.ended`); another agent holds it
 /// (`job.taken`); the agent holds another job (`agent.busy`); it isn't of the job's pool
 /// (`pool.mismatch`); it doesn't meet a demand (`capability.missing`, the first); the job's stage
-/// waits for a stage (`stage.depends`, the first); and where that stage wasn't started: its pipeline
-/// may not use what it uses (`permission.missing`, the first), an approval is open
-/// (`approval.open`, the first), hours are closed (`hours.closed`, the first), a stage holds what it
-/// uses alone (`lock.held`, by the first such use), or one that uses it alone comes first
+/// waits for a stage (`stage.depends`, the first); and where that stage wasn't started: its
+/// pipeline may not use what it uses (`permission.missing`, the first), an approval is open
+/// (`approval.open`, the first), hours are closed (`hours.closed`, the first), a stage holds what
+/// it uses alone (`lock.held`, by the first such use), or one that uses it alone comes first
 /// (`lock.behind`, the least); the job waits for a job (`job.depends`, the first); and as many legs
 /// of it run as may at once (`parallel.full`). An agent that holds the job breaks none.
 ///
-/// Each fact's moment is one that a clock tells, and each run's plan can run, as `pl_due::due` asks.
-/// Memory comes where there is none, and nothing else.
+/// Each fact's moment is one that a clock tells, and each run's plan can run, as `pl_due::due`
+/// asks. Memory comes where there is none, and nothing else.
 pub fn broken(
     alloc: Global,
     journal: &IndexedJournal,

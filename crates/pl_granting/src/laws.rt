@@ -15,8 +15,8 @@ use pl_settling::settling_laws;
 ///
 /// Where nothing is due, and every job of a stage that was started and has ended has ended too, no
 /// rule is broken exactly where the agent holds the job already or may be given it, said without an
-/// order of rules. And facts, a moment, an agent and a job leave no choice in the first rule that is
-/// broken; facts and an agent leave none in the job that is drawn.
+/// order of rules. And facts, a moment, an agent and a job leave no choice in the first rule that
+/// is broken; facts and an agent leave none in the job that is drawn.
 pub fn granting_laws()
     ensures exactly { (facts : List Fact) (moment : ℕ) (agent : AgentSetting) (at : JobOf) →
         IsJobOf facts at → AreDone facts → IsDue facts moment None →

@@ -14,8 +14,8 @@ returns-in-Some c =
     subst (Least (OfStage facts agent c.args.run c.args.stage)) (sym c.job_in.ensures)
     (stage_found facts agent c.args.run c.args.stage queued staged c.requires.there c.requires.idle
     (sym c.is_at_work.ensures ∙ c.if-not-is_at_work.false) c.in-Some.job
-    (subst (IsFirstTrue (may_take_at facts agent c.args.run c.args.stage queued staged)) c.in-Some.is
-    c.first_place.ensures))
+    (subst (IsFirstTrue (may_take_at facts agent c.args.run c.args.stage queued staged))
+    c.in-Some.is c.first_place.ensures))
 
 pub returns-in-None : goal.returns-in-None
 returns-in-None c =
@@ -24,5 +24,5 @@ returns-in-None c =
     let queued = c.args.queued.now in
     let staged = c.args.staged.now in
     stage_none facts agent c.args.run c.args.stage queued staged c.requires.there
-    (subst (IsFirstTrue (may_take_at facts agent c.args.run c.args.stage queued staged)) c.in-None.is
-    c.first_place.ensures)
+    (subst (IsFirstTrue (may_take_at facts agent c.args.run c.args.stage queued staged))
+    c.in-None.is c.first_place.ensures)

@@ -1,6 +1,5 @@
-use Rattle.std.proofs.Common.{Some, ap, arith, length, sym, ◌∙◌}
+use Rattle.std.proofs.Common.{ap, arith, length}
 use Rattle.pl_due.proofs.Fits.{few_stages}
-use Rattle.pl_facts.specs.declared.fact.QueuedRun.{QueuedRun}
 use Rattle.pl_plan.specs.declared.plan.Compiled.{Compiled}
 use Rattle.pl_granting.proofs.LeastJob.{one_queued, run_none}
 use Rattle.pl_granting.proofs.drawing.first_of_stages.Goals as goal

@@ -9,8 +9,6 @@ pub returns : goal.returns
 returns c =
     let at = of c.args.at.now in
     let name = c.args.agent.now.name in
-    if_ok _ _ c.by_job.result (λ found first. inr (
-      sym (c.is_held_by.ensures
-          ∙ ap (λ (log : Log). is_held_by log.facts name at) c.journal.ensures) ∙ c.if-is_held_by.false,
-      first,
-    )) c.by_job.ensures
+    let moved = ap (λ (log : Log). is_held_by log.facts name at) c.journal.ensures in
+    let other = sym (c.is_held_by.ensures ∙ moved) ∙ c.if-is_held_by.false in
+    if_ok _ _ c.by_job.result (λ found first. inr (other, first)) c.by_job.ensures

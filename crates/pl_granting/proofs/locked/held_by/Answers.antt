@@ -1,6 +1,5 @@
-use Rattle.std.proofs.Common.{None, get_or, refl, subst, sym}
+use Rattle.std.proofs.Common.{None, refl, subst, sym}
 use Rattle.std.proofs.lemmas.List.{drop_all}
-use Rattle.pl_locks.specs.declared.contender.Contender.{Contender}
 use Rattle.pl_granting.specs.Locked.{FirstHeld}
 use Rattle.pl_granting.proofs.InList.{key_held, key_unheld}
 use Rattle.pl_granting.proofs.locked.held_by.Goals as goal
