@@ -38,7 +38,7 @@ unended : (run stage job : ℕ) (facts : List Fact) → job_ending run stage job
 unended run stage job facts h =
     or_none (job_end run stage job facts) (skipping run stage facts) h
 
-map_or_true : {X : Type 0} (f : X → Bool) (o : Option X) → option_map_or f o false ≡ true →
+pub map_or_true : {X : Type 0} (f : X → Bool) (o : Option X) → option_map_or f o false ≡ true →
     (x : X) × (o ≡ Some x) × (f x ≡ true)
 map_or_true f None h = absurd (cc)
 map_or_true f (Some x) h = (x, refl, h)

@@ -146,28 +146,50 @@ no_start : (b : Bool) → (b && false) ≡ false
 no_start true = refl
 no_start false = refl
 
+-- nothing that is due queues a run or sets a resource
+pub quiet_if : (facts : List Fact) (moment : ℕ) (one : Fact) → Gives facts moment one.event →
+    IsQuiet one
+quiet_if facts moment one is = go one.event refl is
+  where
+    go : (told : Event) → one.event ≡ told → Gives facts moment told → IsQuiet one
+    go (event.StageStarted run stage) e due =
+        record { run = λ number. rw e refl; resource = λ key. rw e refl }
+    go (event.StageEnded run stage outcome rule) e due =
+        record { run = λ number. rw e refl; resource = λ key. rw e refl }
+    go (event.JobEnded outcome reported stage job run rule outputs) e due =
+        record { run = λ number. rw e refl; resource = λ key. rw e refl }
+    go (event.FilePut file) e none = absurd none
+    go (event.FileRemoved key) e none = absurd none
+    go (event.PipelineSet told) e none = absurd none
+    go (event.ResourceSet told) e none = absurd none
+    go (event.PrincipalSet told) e none = absurd none
+    go (event.AgentSet told) e none = absurd none
+    go (event.RunQueued told) e none = absurd none
+    go (event.DecisionMade run stage approver approve) e none = absurd none
+    go (event.JobTaken run stage job agent) e none = absurd none
+    go (event.RunCanceled run) e none = absurd none
+
 -- every fact that is due keeps it
 pub keeps_one : (moment : ℕ) (facts : List Fact) (one : Fact) → one.moment ≡ moment →
     Gives facts moment one.event → HasOneHolder facts → HasOneHolder (facts ++ one ∷ [])
 keeps_one moment facts one at is holds = go one.event refl is
   where
+    quiet : IsQuiet one
+    quiet = quiet_if facts moment one is
+
     go : (told : Event) → one.event ≡ told → Gives facts moment told →
         HasOneHolder (facts ++ one ∷ [])
     go (event.StageStarted started place) e next =
-        one_more facts one
-        (record { run = λ number. rw e refl; resource = λ key. rw e refl })
-        moment started place next
+        one_more facts one quiet moment started place next
         (λ run stage. rw e (names_one started place run stage
         (same_key (Stage started place) (Stage run stage))
         (λ h. exact_key (Stage started place) (Stage run stage) h)))
         holds
     go (event.StageEnded run stage outcome rule) e ended =
-        still_one facts one
-        (record { run = λ number. rw e refl; resource = λ key. rw e refl })
+        still_one facts one quiet
         (λ r s. rw e (no_start (same_key (Stage run stage) (Stage r s)))) holds
     go (event.JobEnded outcome reported stage job run rule outputs) e ended =
-        still_one facts one
-        (record { run = λ number. rw e refl; resource = λ key. rw e refl })
+        still_one facts one quiet
         (λ r s. rw e refl) holds
     go (event.FilePut file) e none = absurd none
     go (event.FileRemoved key) e none = absurd none
