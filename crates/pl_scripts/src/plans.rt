@@ -41,10 +41,11 @@ fn linked(out: &mut Answers) -> List<RepoRef> {
 
 fn stages(out: &mut Answers, line: &str) -> List<PlanStage> {
     let mut stages = List::new(out.alloc());
+    let mut first_line: u32 = 10;
     for words in line.split_whitespace().skip(4) {
-        let lines_before = stages.len().saturating_mul(10) as u32;
-        let stage = stage(out, words, lines_before.saturating_add(10));
+        let stage = stage(out, words, first_line);
         out.done(stages.push(stage));
+        first_line = first_line.saturating_add(10);
     }
     stages
 }
