@@ -8,8 +8,8 @@ use Rattle.pl_answers.specs.declared.answer.Answer.{Answer}
 use Rattle.pl_facts.specs.declared.fact.Event.TheVariants as event
 use Rattle.pl_facts.specs.declared.fact.Fact.{Fact}
 use Rattle.pl_facts.specs.declared.fact.QueuedRun.{QueuedRun}
-use Rattle.pl_journal.specs.Runs.{canceling, job_ending, outcome_told, queueing, rule_told, run_told}
-use Rattle.pl_journal.specs.Runs.{stage_end, stage_start, taker_told, taking}
+use Rattle.pl_journal.specs.Runs.{canceling, job_ending, outcome_told, queueing, rule_told}
+use Rattle.pl_journal.specs.Runs.{run_told, stage_end, stage_start, taker_told, taking}
 use Rattle.pl_journal.specs.Settings.{by}
 use Rattle.pl_objects.specs.Runs.{run_object}
 use Rattle.pl_objects.specs.declared.status.JobStatus.{JobStatus}

@@ -12,7 +12,8 @@ use Rattle.pl_journal.specs.Runs.{queueing, run_told, stage_start}
 use Rattle.pl_journal.specs.Settings.{by}
 use Rattle.pl_open_runs.specs.Open.{has_open_stage, is_open, is_open_stage, open_runs, queued_runs}
 use Rattle.pl_plan.specs.declared.plan.PlanStage.{PlanStage}
-use Rattle.pl_settings.specs.Running.{Stage, running_among, running_at, running_of, running_on, uses}
+use Rattle.pl_settings.specs.Running.{Stage, running_among, running_at, running_of, running_on}
+use Rattle.pl_settings.specs.Running.{uses}
 
 -- ---- what gives nothing needn't be looked at
 
