@@ -123,14 +123,14 @@ fn decide_in(
     ensures { IfOk result (λ answer. answer ≡
         spec.decide_in journal.now.facts name.now approve run queued.now place) }
 {
-    let Ok(stage) = u32::try_from(place) else {
+    if place > u32::MAX as usize {
         return Err(Memory);
-    };
+    }
     match queued.compiled.plan.stages.get(place) {
         Some(planned) => {
             let at = StageAt {
                 run,
-                stage,
+                stage: place as u32,
                 queued,
                 planned,
             };
