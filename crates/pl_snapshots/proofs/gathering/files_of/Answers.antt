@@ -8,7 +8,8 @@ use Rattle.pl_snapshots.proofs.gathering.files_of.Goals as goal
 pub loop-at-preserved : goal.loop-at-preserved
 loop-at-preserved c =
     let facts = c.args.journal.now.facts in
-    let within : c.loop-at.at < length facts = omega (arith, c.loop-at-test.true, c.len.ensures) in
+    let within : c.loop-at.at < length facts =
+    omega (arith, c.loop-at-test.true, c.len-at-end.ensures) in
     next_fact facts c.loop-at.at c.loop-at.files c.put_at.new.files
     (gathered facts finite.empty facts) within c.loop-at.invariant c.in_ok-put_at.ensures
 
@@ -16,5 +17,5 @@ pub returns : goal.returns
 returns c =
     let facts = c.args.journal.now.facts in
     subst (AreFiles facts) (sym (no_fact_more facts c.loop-at.at c.loop-at.files
-    (gathered facts finite.empty facts) (omega (arith, c.loop-at-test.false, c.len.ensures))
+    (gathered facts finite.empty facts) (omega (arith, c.loop-at-test.false, c.len-at-end.ensures))
     c.loop-at.invariant)) (all_files facts)
