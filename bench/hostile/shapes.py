@@ -1,12 +1,13 @@
 """Inputs of `pipectl compile` that want as much of it as they can, at its limits and past them. Each is a function that gives
 the bundle's text and the arguments of the run, with the statuses that the rules of docs/TEMPLATES.md allow (0 compiled, 8 refused, 9 no
 bundle, 10 too many bytes); want of memory (6) is always allowed. `seed` says that an input is small enough to be changed by
-mutate.py."""
+mutate.py, and OVER which are over the goal so far (docs/LIMITS.md)."""
 
 FILE = 262_144  # bytes of a file
 TEXT = 65_536  # bytes of a text that a function makes
 WHOLE = 67_108_864  # bytes of a bundle
 ALL = []
+OVER = frozenset()
 
 
 def shape(*statuses, seed=True, about=""):
@@ -389,6 +390,48 @@ def empty_loops_over_loops():
     return bundle(text + "  " * 4 + "- ${{ if 0 }}: []\n")
 
 
+@shape(0, 8, seed=False)
+def conditions_that_split_at_20000_characters_in_5000_turns():
+    characters = "".join(chr(0x4E00 + n) for n in range(20_000))
+    declared = f"- name: t\n  default: {'b' * TEXT}\n- name: s\n  default: {characters}\n"
+    return bundle(looped(5_000, "- ${{ if eq(length(split(parameters.t, parameters.s)), 0) }}:\n    - script: a", declared))
+
+
+@shape(0, 8)
+def names_sought_through_50_loops_in_20000_turns():
+    text = object_parameter(f"[{numbers(20_000)}]").replace("- name: l", "- name: o\n  type: object\n  default: [1]\n- name: l") + "steps:\n"
+    head = "".join("{'${{each x%d in parameters.o}}':" % n for n in range(50))
+    condition = "or(" + "eq(parameters.o,1)," * 200 + "0)"
+    return bundle(text + "- " + head + "{'${{each x in parameters.l}}':{'${{if " + condition + "}}': []}}" + "}" * 50 + "\n")
+
+
+@shape(0, 8, seed=False)
+def an_elseif_of_100000_bytes_behind_a_taken_branch_in_20000_turns():
+    return bundle(looped(20_000, "- ${{ if 1 }}: []\n  - ${{ elseif " + "a" * 100_000 + " }}: []"))
+
+
+@shape(0, 8, seed=False)
+def a_branch_of_60000_nodes_not_taken_in_20000_turns():
+    return bundle(looped(20_000, "- ${{ if 0 }}: [" + "a," * 60_000 + "]"))
+
+
+@shape(8, seed=False)
+def a_plain_path_of_200000_bytes_called_in_10000_turns():
+    return bundle(looped(10_000, f"- template: {'a' * 200_000}/../t.yml"), ("/t.yml", "steps:\n- script: a\n"))
+
+
+@shape(8)
+def a_template_of_15000_keys_called_7000_times():
+    text = "steps:\n- script: a\n" + "".join(f"k{n}: a\n" for n in range(15_000))
+    return bundle("steps:\n" + CALL * 7_000, ("/t.yml", text))
+
+
+@shape(8)
+def templates_that_call_the_next_twice_and_give_nothing():
+    files = [(f"/t{n}.yml", f"steps:\n- template: t{n + 1}.yml\n- template: t{n + 1}.yml\n") for n in range(98)]
+    return bundle("steps:\n- template: t0.yml\n", *files, ("/t98.yml", "steps: []\n"))
+
+
 # ---- plans
 
 
@@ -545,6 +588,16 @@ def folded_scalars_of_100_files_of_262000_bytes():
 @shape(0, seed=False)
 def quoted_scalars_of_100_files_of_262000_bytes():
     return hundred_files("steps:\n- script: \"" + "\\x41" * 65_000 + "\"\n")
+
+
+@shape(0, 8, seed=False)
+def all_at_once_in_67108863_bytes():
+    """A bundle as large as it may be, of whose files some are read and have many nodes, and texts that are made of them."""
+    nodes = [(f"/t{n}.yml", "steps:\n- ${{ if 0 }}: [" + "a," * 120_000 + "]\n") for n in range(8)]
+    steps = "".join(f"- template: t{n}.yml\n" for n in range(8)) + "- script: ${{parameters.t}}\n" * 260
+    text = bundle(text_parameter(TEXT - 6) + "steps:\n" + steps, *nodes)
+    text += "%%% a refs/b /c\n"
+    return text + "a" * (WHOLE - 2 - len(text)) + "\n"
 
 
 @shape(8, seed=False)
