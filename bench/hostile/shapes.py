@@ -502,6 +502,36 @@ def a_cycle_of_256_jobs():
     return bundle(text[: FILE - 1000].rsplit("- job:", 1)[0] + "- job: z\n  dependsOn: n0\n  steps:\n  - script: a\n")
 
 
+def of_loop(turns, form, item):
+    return bundle(object_parameter(f"[{numbers(turns)}]") + f"{form}:\n- ${{{{ each x in parameters.l }}}}:\n  - {item}\n")
+
+
+@shape(8)
+def jobs_12000_by_a_loop():
+    return of_loop(12_000, "jobs", "{job: 'j${{x}}', steps: [{script: a}]}")
+
+
+@shape(8)
+def stages_8000_by_a_loop():
+    return of_loop(8_000, "stages", "{stage: 's${{x}}', jobs: [{job: a, steps: [{script: a}]}]}")
+
+
+@shape(8)
+def a_matrix_of_6000_legs():
+    legs = "".join(f"      l{n}: {{v: a}}\n" for n in range(6_000))
+    return bundle(f"jobs:\n- job: a\n  strategy:\n    matrix:\n{legs}  steps:\n  - script: a\n")
+
+
+@shape(8)
+def a_job_that_waits_for_30000_names():
+    return bundle(f"jobs:\n- job: a\n  dependsOn: [{','.join(f'n{n}' for n in range(30_000))}]\n  steps:\n  - script: a\n")
+
+
+@shape(0, 8)
+def variables_20000_of_one_name():
+    return bundle("variables:\n" + "- {name: v, value: a}\n" * 10_000 + "jobs:\n- job: a\n  variables:\n" + "  - {name: v, value: a}\n" * 900 + "  steps:\n  - script: a\n")
+
+
 @shape(0)
 def steps_2000_by_calls():
     return bundle("steps:\n" + CALL * 2_000, ("/t.yml", "steps:\n- script: a\n"))
