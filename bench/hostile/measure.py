@@ -15,13 +15,15 @@ SECONDS, MEGABYTES, STACK = 2.0, 200, 8 * 1024
 MEMORY = 6
 
 
-def over(one, statuses):
+def over(one, statuses, wanted=None):
     """What of a shape is over the goal, in words."""
     found = []
     if one.ending < 0:
         found.append(f"signal {-one.ending}")
-    elif one.ending not in statuses | {MEMORY}:
+    elif one.ending not in statuses | ({MEMORY} if wanted is None else set()):
         found.append("status")
+    elif wanted is not None and one.output != wanted.encode():
+        found.append("answer")
     if one.seconds > SECONDS:
         found.append("seconds")
     if one.megabytes > MEGABYTES:
@@ -33,11 +35,11 @@ def over(one, statuses):
 
 def chosen(quick, parts):
     """The shapes to measure."""
-    for name, written, statuses, seed, _about in ALL:
+    for name, written, statuses, seed, wanted in ALL:
         if quick and (name in OVER or not seed):
             continue
         if not parts or any(part in name for part in parts):
-            yield name, written, statuses
+            yield name, written, statuses, wanted
 
 
 def main():
@@ -48,11 +50,11 @@ def main():
     print(f"{'input':62} {'bytes':>8} {'s':>6} {'MB':>6} {'KiB':>6} {'status':>6}  over")
     with tempfile.TemporaryDirectory() as folder:
         text, output = os.path.join(folder, "text"), os.path.join(folder, "output")
-        for name, written, statuses in chosen(quick, parts):
+        for name, written, statuses, wanted in chosen(quick, parts):
             with open(text, "w", encoding="utf-8", newline="\n") as file:
                 file.write(written())
             one = measure([program, "compile"], text, output)
-            wrong = over(one, statuses)
+            wrong = over(one, statuses, wanted)
             count += 1
             beyond += bool(wrong)
             failed += bool(wrong) != (name in OVER)

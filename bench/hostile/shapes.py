@@ -1,7 +1,8 @@
 """Inputs of `pipectl compile` that want as much of it as they can, at its limits and past them. Each is a function that gives
 the bundle's text and the arguments of the run, with the statuses that the rules of docs/TEMPLATES.md allow (0 compiled, 8 refused, 9 no
 bundle, 10 too many bytes); want of memory (6) is always allowed. `seed` says that an input is small enough to be changed by
-mutate.py, and OVER which are over the goal so far (docs/LIMITS.md)."""
+mutate.py, and OVER which are over the goal so far (docs/LIMITS.md). What comes near a limit and isn't past it has its whole
+answer in `wanted`, and want of memory is none."""
 
 FILE = 262_144  # bytes of a file
 TEXT = 65_536  # bytes of a text that a function makes
@@ -10,9 +11,9 @@ ALL = []
 OVER = frozenset()
 
 
-def shape(*statuses, seed=True, about=""):
+def shape(*statuses, seed=True, wanted=None):
     def put(function):
-        ALL.append((function.__name__.replace("_", "-"), function, set(statuses), seed, about or function.__doc__ or ""))
+        ALL.append((function.__name__.replace("_", "-"), function, set(statuses), seed, wanted))
         return function
 
     return put
@@ -670,3 +671,78 @@ def quotes_alone():
 @shape(8)
 def keys_20000_that_differ():
     return bundle("".join(f"key_{n:05}: 1\n" for n in range(18_000)))
+
+
+# ---- near a limit, with the whole answer
+
+
+def plan(*steps):
+    """The plan of a pipeline of steps alone, by the file, the place and the way of each."""
+    lines = ["stage __default depends [] lock runLatest uses [pool Default]", "job Job depends [] pool Default"]
+    return "".join(f"{line}\n" for line in (*lines, *(f"step script {step}" for step in steps)))
+
+
+def near(*steps, seed=True):
+    return shape(0, seed=seed, wanted=plan(*steps))
+
+
+@near("app refs/heads/main /ci.yml:2003:3 via")
+def near_1000_parameters_declared():
+    text = "parameters:\n" + "".join(f"- name: p{n}\n  default: a\n" for n in range(1_000))
+    return bundle(text + "steps:\n- script: ${{ parameters.p999 }}\n")
+
+
+@near("app refs/heads/main /t.yml:1003:3 via include", "app refs/heads/main /t.yml:1003:3 via include")
+def near_1000_parameters_declared_in_2_calls():
+    text = "parameters:\n" + "".join(f"- {{name: p{n}, default: a}}\n" for n in range(1_000)) + "steps:\n- script: ${{ parameters.p999 }}\n"
+    return bundle("steps:\n" + CALL * 2, ("/t.yml", text))
+
+
+@near("b refs/heads/main /t.yml:2:3 via include")
+def near_1000_repositories():
+    aliases = "".join(f"  - {{repository: r{n:03}, name: b}}\n" for n in range(1_000))
+    text = bundle(f"resources:\n  repositories:\n{aliases}steps:\n- template: t.yml@r999\n")
+    return text + "%%% b refs/heads/main /t.yml\nsteps:\n- script: a\n"
+
+
+@near("app refs/heads/main /t.yml:22:43 via" + " include" * 12)
+def near_500_open_nodes_over_calls():
+    nested = nested_blocks(20, "${{if 1}}:", "")
+    files = [(f"/t{n}.yml", f"steps:\n{nested}- template: t{n + 1}.yml\n") for n in range(10)]
+    return bundle("steps:\n- template: t0.yml\n", *files, ("/t10.yml", f"steps:\n{nested}- template: t.yml\n"), ("/t.yml", f"steps:\n{nested}- script: a\n"))
+
+
+@near("app refs/heads/main /t10.yml:5:5 via" + " include" * 11)
+def near_20_mebibytes_by_doubling():
+    double = "parameters:\n- name: t\nsteps:\n- template: t%d.yml\n  parameters:\n    t: ${{ parameters.t }}${{ parameters.t }}\n"
+    files = [(f"/t{n}.yml", double % (n + 1)) for n in range(10)]
+    last = "parameters:\n- name: t\nsteps:\n- ${{ if eq(length(parameters.t), 2560000) }}:\n  - script: a\n"
+    return bundle(f"steps:\n- template: t0.yml\n  parameters:\n    t: {'a' * 2_500}\n", *files, ("/t10.yml", last))
+
+
+@near("app refs/heads/main /ci.yml:5:5 via", seed=False)
+def near_20_mebibytes_by_pieces():
+    return bundle(text_parameter(TEXT - 6) + "steps:\n  - script: \"" + "${{parameters.t}}" * 150 + "\"\n")
+
+
+@near("app refs/heads/main /ci.yml:11:3 via")
+def near_all_work_by_conditions():
+    return bundle(looped(560, "- ${{ if eq(length(split(parameters.t, ',')), 0) }}:\n    - script: a", with_text(8_000)) + "- script: b\n")
+
+
+@near(*["app refs/heads/main /t.yml:203:3 via include"] * 1_000)
+def near_all_work_by_1000_calls_of_200_parameters():
+    text = "parameters:\n" + "".join(f"- {{name: p{n}, default: a}}\n" for n in range(200)) + "steps:\n- script: a\n"
+    return bundle("steps:\n" + CALL * 1_000, ("/t.yml", text))
+
+
+@near(*[f"app refs/heads/main /t{n}.yml:2:3 via include" for n in range(31)], seed=False)
+def near_8_mebibytes_of_files():
+    text = "steps:\n- script: a\n"
+    files = [(f"/t{n}.yml", text + "#" * (FILE - len(text) - 1) + "\n") for n in range(31)]
+    return bundle("steps:\n" + "".join(f"- template: t{n}.yml\n" for n in range(31)), *files)
+
+
+@near("app refs/heads/main /ci.yml:2:3 via", seed=False)
+def near_10000_files():
+    return files_10000_in_a_bundle()
