@@ -14,6 +14,3 @@ pub use fault::GraphFault;
 pub use topological::order;
 pub use transitive::ancestors;
 pub use waits::push_edges;
-
-#[cfg(test)]
-mod tests;
