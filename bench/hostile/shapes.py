@@ -8,7 +8,39 @@ FILE = 262_144  # bytes of a file
 TEXT = 65_536  # bytes of a text that a function makes
 WHOLE = 67_108_864  # bytes of a bundle
 ALL = []
-OVER = frozenset()
+OVER = frozenset(
+    """
+    a-text-that-doubles-from-level-to-level
+    a-key-that-doubles-from-level-to-level
+    texts-of-65530-bytes-20000-times
+    texts-in-upper-case-of-65530-bytes-20000-times
+    joined-texts-of-130000-bytes-20000-times
+    a-literal-of-100000-bytes-in-20000-turns
+    a-key-of-100000-bytes-in-20000-turns
+    a-scalar-of-10000-pieces-of-65530-bytes
+    a-key-of-10000-pieces-of-65530-bytes
+    a-default-of-200000-bytes-in-14000-calls
+    a-default-of-100000-nodes-open-at-100-levels
+    a-default-of-100000-nodes-in-14000-calls
+    conditions-that-split-65536-bytes-in-17000-turns
+    conditions-that-split-what-a-default-repeats
+    conditions-that-replace-in-65536-bytes-in-17000-turns
+    conditions-that-seek-in-200000-bytes-in-5000-turns
+    length-of-50000-items-often
+    value-contained-in-50000-items-often
+    whole-parameter-equal-to-itself-often
+    whole-parameter-among-others-often
+    whole-parameters-formatted
+    whole-parameter-joined-often
+    projections-of-50000-items-often
+    names-5000-declared-in-7000-calls
+    values-of-10000-allowed-ones-in-7000-calls
+    names-sought-through-50-loops-in-20000-turns
+    a-plain-path-of-200000-bytes-called-in-10000-turns
+    demands-20000-on-100-legs
+    all-at-once-in-67108863-bytes
+    """.split()
+)
 
 
 def shape(*statuses, seed=True, wanted=None):
