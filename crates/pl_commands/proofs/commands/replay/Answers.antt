@@ -8,7 +8,7 @@ use Rattle.pl_commands.specs.Run.{Outside, Replays}
 use Rattle.pl_commands.specs.Session.{Point, Session}
 use Rattle.pl_commands.specs.Statuses.{status_of}
 use Rattle.pl_commands.specs.Told.{Told, told_by_ends}
-use Rattle.pl_commands.proofs.run.replay.Goals as goal
+use Rattle.pl_commands.proofs.commands.replay.Goals as goal
 
 abbrev at : Told → Option (ℕ → ℕ) → Parts → Point
 at link coming desk = record { link = link; coming = coming; desk = desk }

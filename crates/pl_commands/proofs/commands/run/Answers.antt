@@ -2,7 +2,7 @@ use Rattle.std.proofs.Common.{map, string_bytes}
 use Rattle.pl_commands.specs.Outfit.{outside}
 use Rattle.pl_words.specs.Words.{command_of}
 use Rattle.pl_commands.proofs.Wanting.{before_all}
-use Rattle.pl_commands.proofs.run.run.Goals as goal
+use Rattle.pl_commands.proofs.commands.run.Goals as goal
 
 pub returns-in-Err-clause-runs : goal.returns-in-Err-clause-runs
 returns-in-Err-clause-runs g c =
