@@ -33,10 +33,17 @@ OVER = frozenset(
     whole-parameters-formatted
     whole-parameter-joined-often
     projections-of-50000-items-often
+    a-condition-of-100000-bytes-in-20000-turns
+    a-condition-of-10000-ors-in-20000-turns
+    elseifs-that-split-65536-bytes
     names-5000-declared-in-7000-calls
     values-of-10000-allowed-ones-in-7000-calls
+    conditions-that-split-at-20000-characters-in-5000-turns
     names-sought-through-50-loops-in-20000-turns
+    an-elseif-of-100000-bytes-behind-a-taken-branch-in-20000-turns
     a-plain-path-of-200000-bytes-called-in-10000-turns
+    a-condition-of-200000-bytes-on-100-legs
+    late-values-of-200000-bytes-on-100-legs
     demands-20000-on-100-legs
     all-at-once-in-67108863-bytes
     """.split()
