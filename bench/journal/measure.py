@@ -1,52 +1,54 @@
 """measure.py TOP: what run.sh prints."""
-import re, subprocess, sys, tempfile
-from scripts import JOURNAL, STAGES, VIEWS, as_script, looked_up, pushed, stages_alone, standing
+import glob, re, subprocess, sys, tempfile
+from scripts import JOURNAL, VIEWS, as_script, groups, standing, stages_alone
 
 top = sys.argv[1]
-ENDED = 100_000
+ENDED = int(sys.argv[2]) if len(sys.argv) > 2 else 100_000
 RUNS = 100_000
-INSTALL = "pl_open_runs::indexed_journal::IndexedJournal::install"
+# Of each program: a function that some look-ups call, each once; the first words of those that don't; the look-ups; runs' stages.
+# The journal's look-ups need no plans, and runs without a stage are never open.
+PROGRAMS = {
+    "cases_journal": ("cases_journal::settings::look_at_setting", lambda word: word[-1:] != "?" or word in BESIDE, JOURNAL, ""),
+    "cases_views": ("cases_views::looking::look_at_run", lambda word: word[-1:] != "?" or word == "open?", VIEWS, " A B:0 C:1"),
+}
+BESIDE = {line.split()[0] for line in JOURNAL[:13] + JOURNAL[-5:]}
 
 
 def play(program, script, before=()):
-    """Runs a program of cases over a script, and returns what it wrote."""
+    """Runs a program of cases over a script."""
     with tempfile.TemporaryFile() as file:
         file.write(script.encode())
         file.seek(0)
         command = [*before, f"{top}/crates/{program}/out/{program}"]
-        return subprocess.run(command, stdin=file, check=True, capture_output=True).stdout
+        subprocess.run(command, stdin=file, check=True, stdout=subprocess.DEVNULL, stderr=subprocess.DEVNULL)
 
 
-def calls_told(path, caller):
-    """What functions of `caller` called, by callgrind's file: of each name the calls and their instructions."""
-    names, told, within, callee, count = {}, {}, "", "", None
-    for line in open(path):
-        named = re.match(r"(c?)fn=\((\d+)\)(?: (.*))?", line)
-        if named:
-            if named[3]:
-                names[named[2]] = named[3].strip()
-            if named[1]:
-                callee = names[named[2]]
-            else:
-                within = names[named[2]]
-        elif line.startswith("calls="):
-            count = int(line[6:].split()[0])
-        elif count is not None:
-            if re.match(caller, within):
-                calls, cost = told.get(callee, (0, 0))
-                told[callee] = (calls + count, cost + int(line.split()[1]))
-            count = None
+def dumped(program, marker, script):
+    """The instructions between two calls of the marker, from the first one on."""
+    with tempfile.TemporaryDirectory() as room:
+        play(program, script, ["valgrind", "--tool=callgrind", f"--callgrind-out-file={room}/out", f"--dump-before={marker}"])
+        numbered = sorted((int(path.rsplit(".", 1)[1]), path) for path in glob.glob(f"{room}/out.*"))
+        counts = [int(re.search(r"^(?:summary|totals): (\d+)", open(path).read(), re.M)[1]) for _, path in numbered]
+    return counts[1:]
+
+
+def counted(program, ended):
+    """The instructions of a line of each group: reading it, what it does, and writing what was found."""
+    marker, is_beside, look_ups, plan = PROGRAMS[program]
+    lines, calls = list(standing(ended, plan)), []
+    lines.append("view? 0")
+    for name, group in groups(look_ups, plan):
+        lines += [*group, "view? 0"]
+        calls.append((name, len(group), 1 + sum(not is_beside(line.split()[0]) for line in group)))
+    counts = iter(dumped(program, marker, as_script(lines)))
+    told, none = {}, 0
+    for name, many, dumps in calls:
+        cost = sum(next(counts) for _ in range(dumps))
+        if many:
+            told[name] = (cost - none) / many
+        else:
+            none = cost
     return told
-
-
-def behind(program, ended, plan, look_ups):
-    """Of each call the instructions of one, behind the facts of the open runs and the ended ones: callgrind forgets what came
-    before the last installing."""
-    script = as_script([*standing(ended, plan), *pushed(ended, plan), *looked_up(ended, look_ups)])
-    with tempfile.NamedTemporaryFile() as out:
-        play(program, script, ["valgrind", "--tool=callgrind", f"--callgrind-out-file={out.name}", f"--zero-before={INSTALL}"])
-        told = calls_told(out.name, r"(cases_journal|cases_views|pl_scripts)\b")
-    return {name: cost / calls for name, (calls, cost) in told.items() if re.match(r"(pl_journal|pl_open_runs|pl_views)\b", name)}
 
 
 def most_held(program, script):
@@ -60,13 +62,12 @@ def most_held(program, script):
         return int(subprocess.run(command, stdin=file, check=True, capture_output=True).stdout)
 
 
-# the journal's look-ups need no plans, and runs without a stage are never open
-for program, plan, look_ups in (("cases_journal", "", JOURNAL), ("cases_views", STAGES, VIEWS)):
-    alone, beside = behind(program, 0, plan, look_ups), behind(program, ENDED, plan, look_ups)
-    print(f"{program}: instructions of one call beside 100 open runs, and beside {ENDED} ended ones besides")
-    for name in sorted(beside):
-        print(f"{name}: {alone[name]:.0f} and {beside[name]:.0f}, ratio {beside[name] / alone[name]:.2f}", flush=True)
 facts = 12 * RUNS
-held = most_held("cases_journal", as_script(stages_alone(RUNS)))
-unheld = most_held("cases_journal", as_script(stages_alone(RUNS, "stant", "enk")))
-print(f"memory: {(held - unheld) * 1024 / facts:.1f} bytes a fact at most, of {facts} facts that hold no text")
+held, unheld = (most_held("cases_journal", as_script(stages_alone(RUNS, *words))) for words in (("start", "end"), ("stant", "enk")))
+print(f"memory: {(held - unheld) * 1024 / facts:.1f} bytes a fact at most, of {facts} facts that hold no text", flush=True)
+for program in PROGRAMS:
+    alone, beside = counted(program, 0), counted(program, ENDED)
+    print(f"{program}: instructions of a line beside 100 open runs, and beside {ENDED} ended ones besides")
+    for name, cost in beside.items():
+        few, many = alone[name] - alone["asks for nothing"], cost - alone["asks for nothing"]
+        print(f"{name}: {alone[name]:.0f} and {cost:.0f}; less what a line takes that asks for nothing {few:.0f} and {many:.0f}", flush=True)
