@@ -5,7 +5,7 @@ use pl_base::Place;
 use pl_eval::EvalCode;
 use pl_expr::ExprCode;
 use pl_line::YamlCode;
-use pl_params::ParamProblem;
+use pl_params::{ParamProblem, Placed};
 use thiserror::Error;
 
 /// What is wrong with a template.
@@ -78,6 +78,14 @@ fn told(code: EvalCode) -> &'static str {
 pub struct Complaint {
     pub problem: ExpandProblem,
     pub place: Place,
+}
+
+impl Placed for Complaint {
+    ghost place = { λ complaint. complaint.place };
+
+    fn stands_at(&self) -> &Place {
+        &self.place
+    }
 }
 
 /// Why a pipeline isn't expanded.

@@ -1,7 +1,7 @@
 -- Which kind of item a mapping is, by its first key (Microsoft Learn, Azure Pipelines, "YAML schema
 -- reference": the pages of steps, jobs.job, jobs.deployment, stages.stage, and of the templates of
 -- these).
-use Rattle.std.specs.Prelude.{ℕ, Bool, List, [], ◌∷◌, Option, Some, None, codes}
+use Rattle.std.specs.Prelude.{ℕ, List, [], ◌∷◌, Option, Some, None, codes}
 use Rattle.std.specs.Prelude.{if◌then◌else◌}
 use Rattle.std.specs.List.{list_any}
 use Rattle.pl_base.specs.Texts.{is}

@@ -1,5 +1,5 @@
 -- Keys of files that a test finds the same.
-use Rattle.std.proofs.Common.{◌≡◌, ℕ, true, List, sym}
+use Rattle.std.proofs.Common.{◌≡◌, true, sym}
 use Rattle.std.specs.Cmp.Lexicographic.{same_text}
 use Rattle.std.proofs.lemmas.Bool.{and_parts}
 use Rattle.pl_base.specs.Texts.{is}

@@ -1,6 +1,6 @@
 -- Declarations of parameters (Microsoft Learn, Azure Pipelines, "YAML schema reference",
 -- parameters).
-use Rattle.std.specs.Prelude.{ℕ, Bool, ◌&&◌, ◌||◌, ◌==◌, nat_lt, List, [], ◌∷◌, map, fold, codes}
+use Rattle.std.specs.Prelude.{ℕ, Bool, List, [], ◌∷◌, map, fold, codes}
 use Rattle.std.specs.Prelude.{Option, Some, None, unwrap_or, Result, Ok, Err, if◌then◌else◌}
 use Rattle.std.specs.Option.{option_map_or, option_and_then}
 use Rattle.std.specs.List.{list_any}
@@ -22,6 +22,7 @@ use Rattle.pl_params.specs.declared.kind.ParamKind.{ParamKind}
 use Rattle.pl_params.specs.declared.kind.ParamKind.TheVariants as kind
 use Rattle.pl_params.specs.declared.param.Param.{Param}
 use Rattle.pl_params.specs.Complaints.{complaint}
+use Rattle.pl_params.specs.Earliest.{earlier}
 use Rattle.pl_params.specs.Judging.{judged}
 use Rattle.pl_params.specs.Kinds.{kind_named}
 use Rattle.pl_params.specs.Names.{is_declared}
@@ -105,18 +106,11 @@ key_complaint pair = if is_key pair.key then None
 
 -- ---- of several complaints the one at the earliest place, at one place the first
 
-abbrev pub is_before : Place → Place → Bool
-is_before left right = nat_lt left.line right.line ||
-    ((left.line == right.line) && nat_lt left.col right.col)
-
-abbrev pub earlier : Option Complaint → Option Complaint → Option Complaint
-earlier None next = next
-earlier (Some first) None = Some first
-earlier (Some first) (Some next) = if is_before next.place first.place then Some next
-    else Some first
+abbrev pub place_of : Complaint → Place
+place_of complaint = complaint.place
 
 abbrev pub first_of : List (Option Complaint) → Option Complaint
-first_of complaints = fold earlier None complaints
+first_of complaints = fold (earlier place_of) None complaints
 
 -- in the order of their codes
 abbrev pub complaints_of : List Param → Place → List NodePair → List (Option Complaint)
@@ -168,7 +162,7 @@ object_param pair = record {
 }
 
 abbrev pub pair_complaint : List Param → NodePair → Option Complaint
-pair_complaint before pair = earlier (again_complaint before pair.key_place pair.key)
+pair_complaint before pair = earlier place_of (again_complaint before pair.key_place pair.key)
     (name_complaint pair.key_place pair.key)
 
 abbrev pub pair_param : List Param → NodePair → Result Param Complaint

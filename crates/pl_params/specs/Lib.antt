@@ -2,6 +2,7 @@ pub mod Binding
 pub mod Codes
 pub mod Complaints
 pub mod Declaring
+pub mod Earliest
 pub mod Gives
 pub mod Judging
 pub mod Kinds

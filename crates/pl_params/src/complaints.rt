@@ -4,9 +4,10 @@ ghost use Rattle.pl_params.specs.declared.fault.ParamProblem.TheVariants.{TypeUn
 ghost use Rattle.pl_params.specs.Complaints.{complaint};
 ghost use Rattle.pl_params.specs.Declaring.{misdeclared, kind_complaint, again_complaint};
 ghost use Rattle.pl_params.specs.Declaring.{default_complaint, name_complaint, values_complaint};
-ghost use Rattle.pl_params.specs.Declaring.{key_complaint, is_before, earlier, first_of};
+ghost use Rattle.pl_params.specs.Declaring.{key_complaint, first_of};
 ghost use Rattle.pl_params.specs.Nodes.{found_at};
 
+use crate::earliest::earlier;
 use crate::fault::{Complaint, Misdeclared, ParamProblem};
 use crate::judging::{Judged, judge, written};
 use crate::kind::ParamKind;
@@ -156,28 +157,4 @@ pub fn keys_complaint(alloc: Global, pairs: &List<NodePair>) -> Result<Option<Co
         first = earlier(first, key_complaint(alloc, pair)?);
     }
     Ok(first)
-}
-
-/// Whether a place is before another one of its file.
-pub fn is_before(left: &Place, right: &Place) -> bool
-    ensures { result ≡ is_before left.now right.now }
-{
-    left.line < right.line || (left.line == right.line && left.col < right.col)
-}
-
-/// Of two complaints the one at the earlier place, at one place the first.
-pub fn earlier(first: Option<Complaint>, next: Option<Complaint>) -> Option<Complaint>
-    ensures { result ≡ earlier first next }
-{
-    let Some(first) = first else {
-        return next;
-    };
-    let Some(next) = next else {
-        return Some(first);
-    };
-    if is_before(&next.place, &first.place) {
-        Some(next)
-    } else {
-        Some(first)
-    }
 }

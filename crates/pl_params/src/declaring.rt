@@ -1,16 +1,18 @@
 ghost use Rattle.std.specs.Prelude.{◌≡◌, [], codes, IfOk};
 ghost use Rattle.pl_params.specs.Declaring.{name_of, kind_of, values_of, kind_complaint};
-ghost use Rattle.pl_params.specs.Declaring.{again_complaint, default_complaint, earlier};
+ghost use Rattle.pl_params.specs.Declaring.{again_complaint, default_complaint, place_of};
 ghost use Rattle.pl_params.specs.Declaring.{complaints_of, first_of, item_param, object_param};
 ghost use Rattle.pl_params.specs.Declaring.{pair_complaint, pair_param, declares};
+ghost use Rattle.pl_params.specs.Earliest.{earlier};
 ghost use Rattle.pl_params.specs.Nodes.{under};
 ghost use Rattle.pl_params.specs.Gives.{Gives};
 ghost use Rattle.pl_params.specs.Steps.{in_turn};
 
 use crate::complaints::{
-    again_complaint, default_complaint, earlier, keys_complaint, kind_complaint, misdeclared,
+    again_complaint, default_complaint, keys_complaint, kind_complaint, misdeclared,
     name_complaint, values_complaint,
 };
+use crate::earliest::earlier;
 use crate::fault::{Complaint, Misdeclared, ParamFault};
 use crate::kind::ParamKind;
 use crate::param::{Declared, Param};
@@ -106,7 +108,7 @@ fn heading_complaint(
     pairs: &List<NodePair>,
 ) -> Result<Option<Complaint>, Memory>
     ensures { IfOk result (λ first. first ≡
-        earlier (kind_complaint (name_of pairs.now) (under (codes "type") pairs.now))
+        earlier place_of (kind_complaint (name_of pairs.now) (under (codes "type") pairs.now))
         (again_complaint before.now place.now (name_of pairs.now))) }
 {
     let name = name_of(pairs);

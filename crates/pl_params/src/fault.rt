@@ -1,3 +1,4 @@
+use crate::earliest::Placed;
 use crate::kind::ParamKind;
 use pl_base::{Place, Text};
 use std::fmt;
@@ -77,6 +78,14 @@ pub enum ParamProblem {
 pub struct Complaint {
     pub problem: ParamProblem,
     pub place: Place,
+}
+
+impl Placed for Complaint {
+    ghost place = { λ complaint. complaint.place };
+
+    fn stands_at(&self) -> &Place {
+        &self.place
+    }
 }
 
 /// Why parameters aren't declared or bound.

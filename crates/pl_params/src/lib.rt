@@ -4,6 +4,7 @@
 mod binding;
 mod complaints;
 mod declaring;
+mod earliest;
 mod fault;
 mod given;
 mod judging;
@@ -15,8 +16,8 @@ mod reading;
 mod refusing;
 
 pub use binding::bind;
-pub use complaints::is_before;
 pub use declaring::declare;
+pub use earliest::{Placed, earlier, is_before};
 pub use fault::{Complaint, Found, Misdeclared, ParamFault, ParamProblem};
 pub use given::{Bound, Given};
 pub use kind::ParamKind;

@@ -6,7 +6,7 @@ use Rattle.std.specs.Prelude.{Contains, IfOk, codes, filter, not, nat_le, ◌||�
 use Rattle.std.specs.List.{slice_index_or}
 use Rattle.std.specs.FinMap as finite
 use Rattle.std.specs.List.{AllByRecursion as Each}
-use Rattle.std.proofs.lemmas.Bool.{false≢true, and_parts}
+use Rattle.std.proofs.lemmas.Bool.{false≢true}
 use Rattle.pl_base.specs.declared.expanded.Argument.{Argument as RunArgument}
 use Rattle.pl_base.specs.declared.expanded.Expanded.{Expanded}
 use Rattle.pl_base.specs.declared.node.Node.{Node}

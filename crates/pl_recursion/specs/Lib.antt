@@ -4,4 +4,3 @@ pub mod Levels
 pub mod Putting
 pub mod Scalars
 pub mod Settling
-pub mod Steps

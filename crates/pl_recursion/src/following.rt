@@ -4,8 +4,8 @@ ghost use Rattle.pl_calls.specs.Gives.{GivesUsed};
 ghost use Rattle.pl_calls.specs.Reaching.{opens};
 ghost use Rattle.pl_directives.specs.Gives.{Gives};
 ghost use Rattle.pl_recursion.specs.Following.{scope_of};
-ghost use Rattle.pl_recursion.specs.Levels.{followed, frame_for, border};
-ghost use Rattle.pl_recursion.specs.Steps.{call_in, reached, found_in, filled_in};
+ghost use Rattle.pl_recursion.specs.Levels.{followed, below, frame_for, border};
+ghost use Rattle.pl_recursion.specs.Levels.{call_in, reached, found_in, filled_in};
 
 use crate::expanding::expand_node;
 use crate::followed::Followed;
@@ -84,9 +84,10 @@ fn descend<F: Files>(
     files: &mut F,
     reach: &mut Reach,
 ) -> Result<Followed, ExpandFault>
-    ensures reached { GivesUsed result reach.new.used (reached levels (opens (F.files files.old)
-        reach.old.home) (call_in calling.now.frame.now calling.now.form (seen calling.now.call.now)
-        calling.now.count) reach.old.used) }
+    ensures reached { GivesUsed result reach.new.used (reached (below levels (opens (F.files
+        files.old) reach.old.home)) (opens (F.files files.old) reach.old.home) (call_in
+        calling.now.frame.now calling.now.form (seen calling.now.call.now) calling.now.count)
+        reach.old.used) }
     ensures files { F.files files.new ≡ F.files files.old }
     ensures home { reach.new.home ≡ reach.old.home }
 {
@@ -109,8 +110,8 @@ fn enter_file<F: Files>(
     files: &mut F,
     reach: &mut Reach,
 ) -> Result<Followed, ExpandFault>
-    ensures found { GivesUsed result reach.new.used (found_in opened.now left (opens (F.files
-        files.old) reach.old.home) (call_in calling.now.frame.now calling.now.form (seen
+    ensures found { GivesUsed result reach.new.used (found_in opened.now (followed left (opens
+        (F.files files.old) reach.old.home)) (call_in calling.now.frame.now calling.now.form (seen
         calling.now.call.now) calling.now.count) reach.old.used) }
     ensures files { F.files files.new ≡ F.files files.old }
     ensures home { reach.new.home ≡ reach.old.home }

@@ -9,7 +9,7 @@ use Rattle.pl_base.specs.declared.node.Node.{Node}
 use Rattle.pl_base.specs.declared.node.NodePair.{NodePair}
 use Rattle.pl_base.specs.declared.place.Place.{Place}
 use Rattle.pl_base.specs.Texts.{is}
-use Rattle.pl_params.specs.Declaring.{is_before}
+use Rattle.pl_params.specs.Earliest.{is_before}
 use Rattle.pl_directives.specs.declared.fault.Complaint.{Complaint}
 use Rattle.pl_directives.specs.declared.fault.ExpandProblem.TheVariants.{WrongKind}
 use Rattle.pl_root.specs.declared.root_key.RootKey.{RootKey}

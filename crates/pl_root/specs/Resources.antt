@@ -12,7 +12,7 @@ use Rattle.pl_base.specs.declared.node.NodeBody.TheOpen.{NodeBody-F, Node-F, Nod
 use Rattle.pl_base.specs.declared.node.NodeBody.TheOpen.{Scalar, Seq, Map}
 use Rattle.pl_base.specs.declared.node.NodePair.{NodePair, fold-NodePair}
 use Rattle.pl_base.specs.Texts.{is}
-use Rattle.pl_params.specs.Declaring.{is_before}
+use Rattle.pl_params.specs.Earliest.{earlier}
 use Rattle.pl_template.specs.Cutting.{holds_opening}
 use Rattle.pl_directives.specs.declared.fault.Complaint.{Complaint}
 use Rattle.pl_directives.specs.declared.fault.ExpandProblem.TheVariants.{BadDirective, WrongKind}
@@ -146,9 +146,8 @@ repositories_in resources = map repository_at (unwrap_or (listed resources) [])
 
 -- ---- of several complaints the one at the earliest place; at one place the first
 
-abbrev pub earlier : Option Complaint → Complaint → Option Complaint
-earlier None next = Some next
-earlier (Some first) next = if is_before next.place first.place then Some next else Some first
+abbrev pub place_of : Complaint → Place
+place_of complaint = complaint.place
 
 abbrev pub earliest : List Complaint → Option Complaint
-earliest complaints = fold earlier None complaints
+earliest complaints = fold (λ first next. earlier place_of first (Some next)) None complaints

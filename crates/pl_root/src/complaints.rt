@@ -1,29 +1,14 @@
 ghost use Rattle.std.specs.Prelude.{◌≡◌, ◌++◌, IfOk};
 ghost use Rattle.std.specs.Option.{option_copied};
-ghost use Rattle.pl_params.specs.Declaring.{is_before};
-ghost use Rattle.pl_root.specs.Resources.{earlier, earliest, resources_complaints};
+ghost use Rattle.pl_root.specs.Resources.{earliest, resources_complaints};
 ghost use Rattle.pl_root.specs.Keys.{later, beside, root_complaints};
 
 use crate::resources::{judge_mapping, opening};
 use pl_base::{List, Memory, Node, NodePair, Place};
 use pl_calls::{key_place, under};
 use pl_directives::{Complaint, ExpandProblem, complain};
-use pl_params::is_before;
+use pl_params::{earlier, is_before};
 use std::alloc::Global;
-
-/// Of two complaints the one at the earlier place, at one place the first.
-fn earlier(first: Option<Complaint>, next: Complaint) -> Option<Complaint>
-    ensures { result ≡ earlier first next }
-{
-    let Some(first) = first else {
-        return Some(next);
-    };
-    if is_before(&next.place, &first.place) {
-        Some(next)
-    } else {
-        Some(first)
-    }
-}
 
 /// Of several complaints the one at the earliest place, at one place the first.
 fn earliest(complaints: List<Complaint>) -> Option<Complaint>
@@ -31,7 +16,7 @@ fn earliest(complaints: List<Complaint>) -> Option<Complaint>
 {
     let mut first = None;
     for next in complaints.into_vec() {
-        first = earlier(first, next);
+        first = earlier(first, Some(next));
     }
     first
 }
