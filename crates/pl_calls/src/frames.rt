@@ -11,7 +11,7 @@ use pl_base::{
     Crossing, ExactCopy, FileKey, List, MarkedPair, Memory, NodePair, Shared, SharedList,
 };
 use pl_directives::ExpandFault;
-use pl_frame::{Frame, Parameter, Variable, parameters_of};
+use pl_frame::{Frame, Parameter, Variables, parameters_of};
 use pl_params::{Given, under};
 use std::alloc::Global;
 
@@ -63,7 +63,7 @@ fn inner_frame(
     alloc: Global,
     file: &Shared<FileKey>,
     parameters: Shared<List<Parameter>>,
-    variables: &Shared<List<Variable>>,
+    variables: &Shared<Variables>,
     crossings: &SharedList<Crossing>,
 ) -> Result<Frame, Memory>
     ensures { IfOk result (λ frame. frame ≡ inner_frame file.now parameters variables.now
@@ -101,7 +101,7 @@ pub struct Template<'t> {
 fn framed(
     alloc: Global,
     template: &Template<'_>,
-    variables: &Shared<List<Variable>>,
+    variables: &Shared<Variables>,
     given: &List<Given>,
     crossings: &SharedList<Crossing>,
 ) -> Result<Frame, ExpandFault>
@@ -119,7 +119,7 @@ fn framed(
 pub fn framed_by(
     alloc: Global,
     template: &Template<'_>,
-    variables: &Shared<List<Variable>>,
+    variables: &Shared<Variables>,
     arguments: Option<&List<MarkedPair>>,
     border: &Crossing,
     crossings: &SharedList<Crossing>,

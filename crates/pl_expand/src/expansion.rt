@@ -17,6 +17,7 @@ use crate::root::{RootMapping, RootNode, RootTree};
 use pl_base::{
     Argument, ExactCopy, Expanded, FileKey, List, Memory, Node, NodeBody, NodePair, Place, Shared,
 };
+use pl_budgets::Meter;
 use pl_calls::{Files, Home, Reach, node_in, same_file, under};
 use pl_directives::{Counted, ExpandFault, ExpandProblem, complain, enter};
 use pl_extends::ROOT;
@@ -79,7 +80,8 @@ fn expand_pairs<F: Files>(
 {
     let parameters = Shared::new(alloc, parameters)?;
     let count = enter(alloc, place, 0)?;
-    let first = first_frame(alloc, root, &parameters)?;
+    let meter = Meter::new(alloc)?;
+    let first = first_frame(alloc, root, &parameters, &meter)?;
     let early = early_by(
         alloc,
         under("variables", pairs),
@@ -93,6 +95,7 @@ fn expand_pairs<F: Files>(
         place,
         pairs,
         parameters: &parameters,
+        meter: &meter,
     };
     fill_root(alloc, &mapping, early, files, reach)
 }
@@ -190,7 +193,8 @@ fn expand_other<F: Files>(
     ensures files { F.files files.new ≡ F.files files.old }
 {
     let parameters = Shared::new(alloc, parameters_by(alloc, None, arguments)?)?;
-    let frame = first_frame(alloc, root, &parameters)?;
+    let meter = Meter::new(alloc)?;
+    let frame = first_frame(alloc, root, &parameters, &meter)?;
     expand_bare(alloc, root, node, &frame, files)
 }
 
