@@ -7,6 +7,7 @@ ghost use Rattle.pl_directives.specs.Gives.{Gives};
 
 use crate::call::given_across;
 use crate::parameters::{bound_to, declared_by};
+use crate::weighing::{keep_parameters, work_of_calling};
 use pl_base::{
     Crossing, ExactCopy, FileKey, List, MarkedPair, Memory, NodePair, Shared, SharedList,
 };
@@ -108,7 +109,10 @@ fn framed(
     ensures { Gives result (framed (template_seen template.now) variables.now given.now
         crossings.now) }
 {
+    let meter = variables.meter();
+    meter.work(work_of_calling(template.pairs, given))?;
     let parameters = parameters_for(alloc, template.pairs, crossings, given)?;
+    keep_parameters(meter, &parameters)?;
     let parameters = Shared::new(alloc, parameters)?;
     Ok(inner_frame(alloc, template.file, parameters, variables, crossings)?)
 }
