@@ -15,7 +15,8 @@ ghost use Rattle.pl_expand.specs.Tree.{expansion};
 use crate::filling::{early_by, fill_root};
 use crate::root::{RootMapping, RootNode, RootTree};
 use pl_base::{
-    Argument, ExactCopy, Expanded, FileKey, List, Memory, Node, NodeBody, NodePair, Place, Shared,
+    Argument, ExactCopy, Expanded, FileKey, List, Memory, Node, NodeBody, NodePair, Place,
+    Repository, Shared,
 };
 use pl_budgets::Meter;
 use pl_calls::{Files, Home, Reach, node_in, same_file, under};
@@ -100,12 +101,25 @@ fn expand_pairs<F: Files>(
     fill_root(alloc, &mapping, early, files, reach)
 }
 
+/// How many repositories a root file has: each call seeks its alias among them. More are want of
+/// memory.
+const MOST_REPOSITORIES: usize = 1_000;
+
+/// Memory where there are more repositories than may be.
+fn judge_repositories(repositories: &List<Repository>) -> Result<(), Memory> {
+    if repositories.len() > MOST_REPOSITORIES {
+        return Err(Memory);
+    }
+    Ok(())
+}
+
 /// Where paths lead from a root of these pairs. Nothing is called yet.
 fn reach_from(alloc: Global, root: &FileKey, pairs: &List<NodePair>) -> Result<Reach, Memory>
     ensures home { IfOk result (λ reach. reach.home ≡ home_of root.now pairs.now) }
     ensures used { IfOk result (λ reach. reach.used ≡ []) }
 {
     let repositories = repositories_of(alloc, under("resources", pairs))?;
+    judge_repositories(&repositories)?;
     let root = root.copy(alloc)?;
     Ok(Reach {
         home: Home { root, repositories },
