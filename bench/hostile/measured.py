@@ -59,5 +59,5 @@ def measure(words, text, output, seconds=10, memory=4096, stack=64):
             number = 0
     ending = os.waitstatus_to_exitcode(status)
     with open(output, "rb") as file:
-        written = file.read(200)
+        written = file.read()
     return Measured(used.ru_utime + used.ru_stime, (held_most or used.ru_maxrss) * 1.024e-3, stack_most, ending, written)

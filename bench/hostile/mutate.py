@@ -24,7 +24,7 @@ WORDS = ["${{ parameters.a }}", "${{ each x in parameters.l }}:", "${{ if 1 }}:"
 
 def seeds():
     """Texts of bundles."""
-    found = [written() for _name, written, _statuses, seed, _about in ALL if seed]
+    found = [written() for _name, written, _statuses, seed, _wanted in ALL if seed]
     for path in sorted(glob.glob(f"{TOP}/crates/cases_bundles/data/*.cases")):
         with open(path, encoding="utf-8", errors="replace") as file:
             for part in file.read().split("%%% case ")[1:]:

@@ -1,17 +1,58 @@
 """Inputs of `pipectl compile` that want as much of it as they can, at its limits and past them. Each is a function that gives
 the bundle's text and the arguments of the run, with the statuses that the rules of docs/TEMPLATES.md allow (0 compiled, 8 refused, 9 no
 bundle, 10 too many bytes); want of memory (6) is always allowed. `seed` says that an input is small enough to be changed by
-mutate.py."""
+mutate.py, and OVER which are over the goal so far (docs/LIMITS.md). What comes near a limit and isn't past it has its whole
+answer in `wanted`, and want of memory is none."""
 
 FILE = 262_144  # bytes of a file
 TEXT = 65_536  # bytes of a text that a function makes
 WHOLE = 67_108_864  # bytes of a bundle
 ALL = []
+OVER = frozenset(
+    """
+    a-text-that-doubles-from-level-to-level
+    a-key-that-doubles-from-level-to-level
+    texts-of-65530-bytes-20000-times
+    texts-in-upper-case-of-65530-bytes-20000-times
+    joined-texts-of-130000-bytes-20000-times
+    a-literal-of-100000-bytes-in-20000-turns
+    a-key-of-100000-bytes-in-20000-turns
+    a-scalar-of-10000-pieces-of-65530-bytes
+    a-key-of-10000-pieces-of-65530-bytes
+    a-default-of-200000-bytes-in-14000-calls
+    a-default-of-100000-nodes-open-at-100-levels
+    a-default-of-100000-nodes-in-14000-calls
+    conditions-that-split-65536-bytes-in-17000-turns
+    conditions-that-split-what-a-default-repeats
+    conditions-that-replace-in-65536-bytes-in-17000-turns
+    conditions-that-seek-in-200000-bytes-in-5000-turns
+    length-of-50000-items-often
+    value-contained-in-50000-items-often
+    whole-parameter-equal-to-itself-often
+    whole-parameter-among-others-often
+    whole-parameters-formatted
+    whole-parameter-joined-often
+    projections-of-50000-items-often
+    a-condition-of-100000-bytes-in-20000-turns
+    a-condition-of-10000-ors-in-20000-turns
+    elseifs-that-split-65536-bytes
+    names-5000-declared-in-7000-calls
+    values-of-10000-allowed-ones-in-7000-calls
+    conditions-that-split-at-20000-characters-in-5000-turns
+    names-sought-through-50-loops-in-20000-turns
+    an-elseif-of-100000-bytes-behind-a-taken-branch-in-20000-turns
+    a-plain-path-of-200000-bytes-called-in-10000-turns
+    a-condition-of-200000-bytes-on-100-legs
+    late-values-of-200000-bytes-on-100-legs
+    demands-20000-on-100-legs
+    all-at-once-in-67108863-bytes
+    """.split()
+)
 
 
-def shape(*statuses, seed=True, about=""):
+def shape(*statuses, seed=True, wanted=None):
     def put(function):
-        ALL.append((function.__name__.replace("_", "-"), function, set(statuses), seed, about or function.__doc__ or ""))
+        ALL.append((function.__name__.replace("_", "-"), function, set(statuses), seed, wanted))
         return function
 
     return put
@@ -389,6 +430,48 @@ def empty_loops_over_loops():
     return bundle(text + "  " * 4 + "- ${{ if 0 }}: []\n")
 
 
+@shape(0, 8, seed=False)
+def conditions_that_split_at_20000_characters_in_5000_turns():
+    characters = "".join(chr(0x4E00 + n) for n in range(20_000))
+    declared = f"- name: t\n  default: {'b' * TEXT}\n- name: s\n  default: {characters}\n"
+    return bundle(looped(5_000, "- ${{ if eq(length(split(parameters.t, parameters.s)), 0) }}:\n    - script: a", declared))
+
+
+@shape(0, 8)
+def names_sought_through_50_loops_in_20000_turns():
+    text = object_parameter(f"[{numbers(20_000)}]").replace("- name: l", "- name: o\n  type: object\n  default: [1]\n- name: l") + "steps:\n"
+    head = "".join("{'${{each x%d in parameters.o}}':" % n for n in range(50))
+    condition = "or(" + "eq(parameters.o,1)," * 200 + "0)"
+    return bundle(text + "- " + head + "{'${{each x in parameters.l}}':{'${{if " + condition + "}}': []}}" + "}" * 50 + "\n")
+
+
+@shape(0, 8, seed=False)
+def an_elseif_of_100000_bytes_behind_a_taken_branch_in_20000_turns():
+    return bundle(looped(20_000, "- ${{ if 1 }}: []\n  - ${{ elseif " + "a" * 100_000 + " }}: []"))
+
+
+@shape(0, 8, seed=False)
+def a_branch_of_60000_nodes_not_taken_in_20000_turns():
+    return bundle(looped(20_000, "- ${{ if 0 }}: [" + "a," * 60_000 + "]"))
+
+
+@shape(8, seed=False)
+def a_plain_path_of_200000_bytes_called_in_10000_turns():
+    return bundle(looped(10_000, f"- template: {'a' * 200_000}/../t.yml"), ("/t.yml", "steps:\n- script: a\n"))
+
+
+@shape(8)
+def a_template_of_15000_keys_called_7000_times():
+    text = "steps:\n- script: a\n" + "".join(f"k{n}: a\n" for n in range(15_000))
+    return bundle("steps:\n" + CALL * 7_000, ("/t.yml", text))
+
+
+@shape(8)
+def templates_that_call_the_next_twice_and_give_nothing():
+    files = [(f"/t{n}.yml", f"steps:\n- template: t{n + 1}.yml\n- template: t{n + 1}.yml\n") for n in range(98)]
+    return bundle("steps:\n- template: t0.yml\n", *files, ("/t98.yml", "steps: []\n"))
+
+
 # ---- plans
 
 
@@ -457,6 +540,36 @@ def a_cycle_of_256_jobs():
     for n in range(256):
         text += f"- job: n{n}\n  dependsOn: [{','.join(f'n{m}' for m in range(256) if m != n)}]\n  steps:\n  - script: a\n"
     return bundle(text[: FILE - 1000].rsplit("- job:", 1)[0] + "- job: z\n  dependsOn: n0\n  steps:\n  - script: a\n")
+
+
+def of_loop(turns, form, item):
+    return bundle(object_parameter(f"[{numbers(turns)}]") + f"{form}:\n- ${{{{ each x in parameters.l }}}}:\n  - {item}\n")
+
+
+@shape(8)
+def jobs_12000_by_a_loop():
+    return of_loop(12_000, "jobs", "{job: 'j${{x}}', steps: [{script: a}]}")
+
+
+@shape(8)
+def stages_8000_by_a_loop():
+    return of_loop(8_000, "stages", "{stage: 's${{x}}', jobs: [{job: a, steps: [{script: a}]}]}")
+
+
+@shape(8)
+def a_matrix_of_6000_legs():
+    legs = "".join(f"      l{n}: {{v: a}}\n" for n in range(6_000))
+    return bundle(f"jobs:\n- job: a\n  strategy:\n    matrix:\n{legs}  steps:\n  - script: a\n")
+
+
+@shape(8)
+def a_job_that_waits_for_30000_names():
+    return bundle(f"jobs:\n- job: a\n  dependsOn: [{','.join(f'n{n}' for n in range(30_000))}]\n  steps:\n  - script: a\n")
+
+
+@shape(0, 8)
+def variables_20000_of_one_name():
+    return bundle("variables:\n" + "- {name: v, value: a}\n" * 10_000 + "jobs:\n- job: a\n  variables:\n" + "  - {name: v, value: a}\n" * 900 + "  steps:\n  - script: a\n")
 
 
 @shape(0)
@@ -547,6 +660,16 @@ def quoted_scalars_of_100_files_of_262000_bytes():
     return hundred_files("steps:\n- script: \"" + "\\x41" * 65_000 + "\"\n")
 
 
+@shape(0, 8, seed=False)
+def all_at_once_in_67108863_bytes():
+    """A bundle as large as it may be, of whose files some are read and have many nodes, and texts that are made of them."""
+    nodes = [(f"/t{n}.yml", "steps:\n- ${{ if 0 }}: [" + "a," * 120_000 + "]\n") for n in range(8)]
+    steps = "".join(f"- template: t{n}.yml\n" for n in range(8)) + "- script: ${{parameters.t}}\n" * 260
+    text = bundle(text_parameter(TEXT - 6) + "steps:\n" + steps, *nodes)
+    text += "%%% a refs/b /c\n"
+    return text + "a" * (WHOLE - 2 - len(text)) + "\n"
+
+
 @shape(8, seed=False)
 def a_root_of_262145_bytes():
     return bundle("steps:\n- script: " + "a" * (FILE - 17) + "\n")
@@ -587,3 +710,78 @@ def quotes_alone():
 @shape(8)
 def keys_20000_that_differ():
     return bundle("".join(f"key_{n:05}: 1\n" for n in range(18_000)))
+
+
+# ---- near a limit, with the whole answer
+
+
+def plan(*steps):
+    """The plan of a pipeline of steps alone, by the file, the place and the way of each."""
+    lines = ["stage __default depends [] lock runLatest uses [pool Default]", "job Job depends [] pool Default"]
+    return "".join(f"{line}\n" for line in (*lines, *(f"step script {step}" for step in steps)))
+
+
+def near(*steps, seed=True):
+    return shape(0, seed=seed, wanted=plan(*steps))
+
+
+@near("app refs/heads/main /ci.yml:2003:3 via")
+def near_1000_parameters_declared():
+    text = "parameters:\n" + "".join(f"- name: p{n}\n  default: a\n" for n in range(1_000))
+    return bundle(text + "steps:\n- script: ${{ parameters.p999 }}\n")
+
+
+@near("app refs/heads/main /t.yml:1003:3 via include", "app refs/heads/main /t.yml:1003:3 via include")
+def near_1000_parameters_declared_in_2_calls():
+    text = "parameters:\n" + "".join(f"- {{name: p{n}, default: a}}\n" for n in range(1_000)) + "steps:\n- script: ${{ parameters.p999 }}\n"
+    return bundle("steps:\n" + CALL * 2, ("/t.yml", text))
+
+
+@near("b refs/heads/main /t.yml:2:3 via include")
+def near_1000_repositories():
+    aliases = "".join(f"  - {{repository: r{n:03}, name: b}}\n" for n in range(1_000))
+    text = bundle(f"resources:\n  repositories:\n{aliases}steps:\n- template: t.yml@r999\n")
+    return text + "%%% b refs/heads/main /t.yml\nsteps:\n- script: a\n"
+
+
+@near("app refs/heads/main /t.yml:22:43 via" + " include" * 12)
+def near_500_open_nodes_over_calls():
+    nested = nested_blocks(20, "${{if 1}}:", "")
+    files = [(f"/t{n}.yml", f"steps:\n{nested}- template: t{n + 1}.yml\n") for n in range(10)]
+    return bundle("steps:\n- template: t0.yml\n", *files, ("/t10.yml", f"steps:\n{nested}- template: t.yml\n"), ("/t.yml", f"steps:\n{nested}- script: a\n"))
+
+
+@near("app refs/heads/main /t10.yml:5:5 via" + " include" * 11)
+def near_20_mebibytes_by_doubling():
+    double = "parameters:\n- name: t\nsteps:\n- template: t%d.yml\n  parameters:\n    t: ${{ parameters.t }}${{ parameters.t }}\n"
+    files = [(f"/t{n}.yml", double % (n + 1)) for n in range(10)]
+    last = "parameters:\n- name: t\nsteps:\n- ${{ if eq(length(parameters.t), 2560000) }}:\n  - script: a\n"
+    return bundle(f"steps:\n- template: t0.yml\n  parameters:\n    t: {'a' * 2_500}\n", *files, ("/t10.yml", last))
+
+
+@near("app refs/heads/main /ci.yml:5:5 via", seed=False)
+def near_20_mebibytes_by_pieces():
+    return bundle(text_parameter(TEXT - 6) + "steps:\n  - script: \"" + "${{parameters.t}}" * 150 + "\"\n")
+
+
+@near("app refs/heads/main /ci.yml:11:3 via")
+def near_all_work_by_conditions():
+    return bundle(looped(560, "- ${{ if eq(length(split(parameters.t, ',')), 0) }}:\n    - script: a", with_text(8_000)) + "- script: b\n")
+
+
+@near(*["app refs/heads/main /t.yml:203:3 via include"] * 1_000)
+def near_all_work_by_1000_calls_of_200_parameters():
+    text = "parameters:\n" + "".join(f"- {{name: p{n}, default: a}}\n" for n in range(200)) + "steps:\n- script: a\n"
+    return bundle("steps:\n" + CALL * 1_000, ("/t.yml", text))
+
+
+@near(*[f"app refs/heads/main /t{n}.yml:2:3 via include" for n in range(31)], seed=False)
+def near_8_mebibytes_of_files():
+    text = "steps:\n- script: a\n"
+    files = [(f"/t{n}.yml", text + "#" * (FILE - len(text) - 1) + "\n") for n in range(31)]
+    return bundle("steps:\n" + "".join(f"- template: t{n}.yml\n" for n in range(31)), *files)
+
+
+@near("app refs/heads/main /ci.yml:2:3 via", seed=False)
+def near_10000_files():
+    return files_10000_in_a_bundle()
