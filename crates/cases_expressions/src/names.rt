@@ -7,6 +7,7 @@ ghost use Rattle.pl_eval.specs.Statuses.{results_named};
 ghost use Rattle.pl_base.specs.Folding.{folded};
 
 use pl_base::{List, MarkedPair, Memory, Outcome, Text, Value};
+use pl_budgets::Meter;
 use pl_eval::{Names, RootPart, is_named, part_behind, place_of};
 use pl_expr::Function;
 use std::alloc::Global;
@@ -37,9 +38,16 @@ impl Names for MemNames {
 
     fn part(&self, alloc: Global, root: &Text, path: &[Value]) -> Result<RootPart, Memory> {
         match place_of(&self.roots, root) {
-            Some(place) => part_behind(alloc, &self.roots.as_slice()[place].item, path),
+            Some(place) => {
+                let meter = Meter::new(alloc)?;
+                part_behind(alloc, &meter, &self.roots.as_slice()[place].item, path)
+            }
             None => Ok(RootPart::NoRoot),
         }
+    }
+
+    fn spend(&self, _bytes: u64, _work: u64) -> Result<(), Memory> {
+        Ok(())
     }
 
     fn status(&self, function: Function, names: &List<Text>) -> bool {

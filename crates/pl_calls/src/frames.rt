@@ -7,11 +7,12 @@ ghost use Rattle.pl_directives.specs.Gives.{Gives};
 
 use crate::call::given_across;
 use crate::parameters::{bound_to, declared_by};
+use crate::weighing::{keep_parameters, work_of_calling};
 use pl_base::{
     Crossing, ExactCopy, FileKey, List, MarkedPair, Memory, NodePair, Shared, SharedList,
 };
 use pl_directives::ExpandFault;
-use pl_frame::{Frame, Parameter, Variable, parameters_of};
+use pl_frame::{Frame, Parameter, Variables, parameters_of};
 use pl_params::{Given, under};
 use std::alloc::Global;
 
@@ -63,7 +64,7 @@ fn inner_frame(
     alloc: Global,
     file: &Shared<FileKey>,
     parameters: Shared<List<Parameter>>,
-    variables: &Shared<List<Variable>>,
+    variables: &Shared<Variables>,
     crossings: &SharedList<Crossing>,
 ) -> Result<Frame, Memory>
     ensures { IfOk result (λ frame. frame ≡ inner_frame file.now parameters variables.now
@@ -101,14 +102,17 @@ pub struct Template<'t> {
 fn framed(
     alloc: Global,
     template: &Template<'_>,
-    variables: &Shared<List<Variable>>,
+    variables: &Shared<Variables>,
     given: &List<Given>,
     crossings: &SharedList<Crossing>,
 ) -> Result<Frame, ExpandFault>
     ensures { Gives result (framed (template_seen template.now) variables.now given.now
         crossings.now) }
 {
+    let meter = variables.meter();
+    meter.work(work_of_calling(template.pairs, given))?;
     let parameters = parameters_for(alloc, template.pairs, crossings, given)?;
+    keep_parameters(meter, &parameters)?;
     let parameters = Shared::new(alloc, parameters)?;
     Ok(inner_frame(alloc, template.file, parameters, variables, crossings)?)
 }
@@ -119,7 +123,7 @@ fn framed(
 pub fn framed_by(
     alloc: Global,
     template: &Template<'_>,
-    variables: &Shared<List<Variable>>,
+    variables: &Shared<Variables>,
     arguments: Option<&List<MarkedPair>>,
     border: &Crossing,
     crossings: &SharedList<Crossing>,

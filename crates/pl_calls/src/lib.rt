@@ -9,6 +9,7 @@ mod judging;
 mod parameters;
 mod parts;
 mod reaching;
+mod weighing;
 
 pub use call::{Call, arguments_at, call_of, given_across, pairs_from, path_text};
 pub use files::{Files, Parsed};

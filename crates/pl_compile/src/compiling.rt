@@ -7,6 +7,7 @@ ghost use Rattle.pl_compile.specs.Compiling.{texts_of};
 ghost use Rattle.pl_compile.specs.Tracing.{AreKnown, AreSaid, AreWritten, ComeFromClosure};
 ghost use Rattle.pl_compile.specs.Tracing.{ComeThrough};
 
+use crate::copying::judge_copies;
 use crate::expanding::expanded;
 use crate::fault::CompileFault;
 use pl_base::{
@@ -67,6 +68,7 @@ fn read(alloc: Global, whole: &Expanded) -> Result<Pipeline, CompileFault>
 fn planned(alloc: Global, pipeline: &Pipeline) -> Result<Plan, CompileFault>
     ensures { Plans pipeline.now result }
 {
+    judge_copies(pipeline)?;
     match plan_of(alloc, pipeline) {
         Ok(plan) => Ok(plan),
         Err(PlanFault::Refused(code, place)) => {

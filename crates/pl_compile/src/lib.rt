@@ -4,6 +4,7 @@
 
 mod codes;
 mod compiling;
+mod copying;
 mod expanding;
 mod fault;
 mod laws;

@@ -148,6 +148,7 @@ fn computed_asks(
 fn plain_asks(alloc: Global, key: &Text, frame: &Frame, place: &Place) -> Result<Action, Memory>
     ensures { IfOk result (λ action. action ≡ Put key.now (literal_at frame.now place.now)) }
 {
+    frame.keep_text(key)?;
     let key = key.copy(alloc)?;
     let origin = literal_at(alloc, frame, place)?;
     Ok(Action::Put(key, origin))
@@ -165,6 +166,7 @@ pub fn key_asks(
 ) -> Result<Action, ExpandFault>
     ensures { Gives result (key_asks key.now frame.now place.now chain count) }
 {
+    frame.read_text(key)?;
     match key_form(alloc, key)? {
         KeyForm::Plain => Ok(plain_asks(alloc, key, frame, place)?),
         KeyForm::Computed(form) => computed_asks(alloc, &form, frame, place),

@@ -53,12 +53,14 @@ fn key_piece(
     let mut text = before;
     match piece {
         Piece::Literal(literal) => {
+            frame.keep_text(literal)?;
             text.push_str(literal.as_str())?;
             Ok(text)
         }
         Piece::Expression(inside) => {
             let node = value_at(alloc, frame, place, inside)?;
             let more = to_text(alloc, &node.value)?;
+            frame.keep_text(&more)?;
             text.push_str(more.as_str())?;
             Ok(text)
         }
@@ -108,6 +110,7 @@ pub fn key_by(
     match form {
         ScalarForm::Whole(inside) => {
             let node = value_at(alloc, frame, place, inside)?;
+            frame.keep(&node.value)?;
             key_from(alloc, place, node)
         }
         ScalarForm::Joined(pieces) => joined_key(alloc, frame, place, pieces),

@@ -118,6 +118,7 @@ pub fn counted_value_at(
     ensures { Gives result (counted_value_at frame.now place.now text.now count) }
 {
     let node = value_at(alloc, frame, place, text)?;
+    frame.keep(&node.value)?;
     one_more(alloc, place, count, node)
 }
 
@@ -141,12 +142,14 @@ fn join_piece(
     let JoinedText { mut text, count } = joined;
     match piece {
         Piece::Literal(literal) => {
+            frame.keep_text(literal)?;
             text.push_str(literal.as_str())?;
             Ok(JoinedText { text, count })
         }
         Piece::Expression(inside) => {
             let one = counted_value_at(alloc, frame, place, inside, count)?;
             let more = to_text(alloc, &one.node.value)?;
+            frame.keep_text(&more)?;
             text.push_str(more.as_str())?;
             Ok(JoinedText {
                 text,
@@ -183,6 +186,7 @@ fn plain_scalar(
 ) -> Result<Counted, Memory>
     ensures { IfOk result (λ one. one ≡ plain_scalar text.now frame.now place.now count) }
 {
+    frame.keep_text(text)?;
     let origin = literal_at(alloc, frame, place)?;
     let value = Value::Str(text.copy(alloc)?);
     let node = MarkedNode { origin, value };
@@ -225,6 +229,7 @@ pub fn scalar_value(
     ensures { Gives result (scalar_value text.now frame.now place.now count) }
 {
     let count = enter(alloc, place, count)?;
+    frame.read_text(text)?;
     match scalar_form(alloc, text)? {
         ScalarForm::Plain => Ok(plain_scalar(alloc, text, frame, place, count)?),
         ScalarForm::Whole(inside) => counted_value_at(alloc, frame, place, &inside, count),

@@ -17,6 +17,7 @@ use crate::manner::{Manner, manner_of};
 use crate::names::Names;
 use crate::projecting::project;
 use crate::texts::cast_items;
+use crate::weighing::work_of_applying;
 use pl_base::{ExactCopy, List, MarkedNode, Memory, Origin, Value};
 use pl_expr::{Expr, Function, loosely_equal, to_bool};
 use std::alloc::Global;
@@ -187,6 +188,7 @@ fn call<N: Names>(
         }
         Manner::Strict(operation) => {
             let nodes = evaluate_all(alloc, function, arguments, names, here)?;
+            names.spend(0, work_of_applying(operation, &nodes))?;
             Ok(make(alloc, apply(alloc, operation, &nodes, here)?, here)?)
         }
     }

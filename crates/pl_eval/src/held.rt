@@ -7,7 +7,8 @@ use crate::fault::{EvalCode, EvalFault};
 use crate::look_ups::{look_up, make};
 use crate::names::Names;
 use crate::parts::RootPart;
-use pl_base::{List, MarkedNode, Origin, Text, Value};
+use crate::weighing::{weight_of, work_of};
+use pl_base::{List, MarkedNode, Memory, Origin, Text, Value};
 use std::alloc::Global;
 
 /// What is held of an expression while the indices behind it are evaluated: a part of a root is
@@ -18,6 +19,12 @@ pub enum Held<'e> {
     Part(&'e Text, List<Value>),
     /// The value.
     Node(MarkedNode),
+}
+
+/// A value that was made or copied counts as held, and as work.
+fn charge<N: Names>(value: &Value, names: &N) -> Result<(), Memory> {
+    let weight = weight_of(value);
+    names.spend(weight, work_of(weight))
 }
 
 /// What a path finds in a root, or a Null that is made where it finds nothing. UnknownRoot comes
@@ -34,7 +41,10 @@ fn part<N: Names>(
     match names.part(alloc, root, path.as_slice())? {
         RootPart::NoRoot => Err(EvalFault::Refused(EvalCode::UnknownRoot)),
         RootPart::Missing => Ok(make(alloc, Value::Null, here)?),
-        RootPart::Found(node) => Ok(node),
+        RootPart::Found(node) => {
+            charge(&node.value, names)?;
+            Ok(node)
+        }
     }
 }
 
@@ -49,7 +59,10 @@ pub fn value_of<N: Names>(
 {
     match held {
         Held::Part(root, path) => part(alloc, root, &path, names, here),
-        Held::Node(node) => Ok(node),
+        Held::Node(node) => {
+            charge(&node.value, names)?;
+            Ok(node)
+        }
     }
 }
 
@@ -94,6 +107,7 @@ pub fn look_behind<'e, N: Names>(
         Held::Part(root, path) => lengthen(alloc, root, path, at, names, here),
         Held::Node(node) => {
             let at = at?;
+            charge(&node.value, names)?;
             Ok(Held::Node(look_up(alloc, node.value, &at.value, here)?))
         }
     }

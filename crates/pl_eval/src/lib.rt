@@ -12,9 +12,11 @@ mod names;
 mod parts;
 mod projecting;
 mod texts;
+mod weighing;
 
 pub use evaluate::eval;
 pub use fault::{EvalCode, EvalFault};
 pub use look_ups::{find_member, is_named, place_of};
 pub use names::Names;
 pub use parts::{RootPart, find_behind, part_behind};
+pub use weighing::{weight_of, work_of};

@@ -21,6 +21,10 @@ pub trait Names {
     fn part(&self, alloc: Global, root: &Text, path: &[Value]) -> Result<RootPart, Memory>
         ensures { IfOk result (λ part. part ≡ root_part (known self.now) root.now path.now) };
 
+    /// So many bytes are held besides, and so many units of work are done. Memory where that may not
+    /// be.
+    fn spend(&self, bytes: u64, work: u64) -> Result<(), Memory>;
+
     /// What a status function answers: without names over all dependencies, with names over those
     /// of these names, the case aside, where the first result of a name counts and a name without
     /// one has none.

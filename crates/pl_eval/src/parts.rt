@@ -4,6 +4,7 @@ ghost use Rattle.pl_eval.specs.LookUps.{found_behind, part_of};
 
 use crate::look_ups::find_member;
 use pl_base::{ExactCopy, MarkedNode, Memory, Value};
+use pl_budgets::Meter;
 use std::alloc::Global;
 
 /// What a path of indices finds in the value of a root.
@@ -17,11 +18,20 @@ pub enum RootPart {
     Found(MarkedNode),
 }
 
+/// How many units of work it is to seek what an index finds in a value.
+fn work_of_seeking(value: &Value) -> u64 {
+    match value {
+        Value::Object(pairs) => (pairs.len() as u64).saturating_mul(2).saturating_add(16),
+        _ => 16,
+    }
+}
+
 /// What the indices of a path find in a node, each looked up in what the one before it found; the
 /// node itself where the path is empty, and None where one of them finds nothing.
 #[tactic(auto, using(crate::proofs::Finding::path_some, crate::proofs::Finding::path_none))]
 pub fn find_behind<'v>(
     alloc: Global,
+    meter: &Meter,
     node: &'v MarkedNode,
     path: &[Value],
 ) -> Result<Option<&'v MarkedNode>, Memory>
@@ -29,6 +39,7 @@ pub fn find_behind<'v>(
 {
     let mut node = node;
     for at in path {
+        meter.work(work_of_seeking(&node.value))?;
         match find_member(alloc, &node.value, at)? {
             Some(found) => node = found,
             None => return Ok(None),
@@ -38,10 +49,15 @@ pub fn find_behind<'v>(
 }
 
 /// The part of a node that a path finds. Nothing else of the node is copied.
-pub fn part_behind(alloc: Global, node: &MarkedNode, path: &[Value]) -> Result<RootPart, Memory>
+pub fn part_behind(
+    alloc: Global,
+    meter: &Meter,
+    node: &MarkedNode,
+    path: &[Value],
+) -> Result<RootPart, Memory>
     ensures { IfOk result (λ part. part ≡ part_of (Some (found_behind path.now node.now))) }
 {
-    match find_behind(alloc, node, path)? {
+    match find_behind(alloc, meter, node, path)? {
         Some(found) => Ok(RootPart::Found(found.copy(alloc)?)),
         None => Ok(RootPart::Missing),
     }

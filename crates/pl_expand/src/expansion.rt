@@ -15,8 +15,10 @@ ghost use Rattle.pl_expand.specs.Tree.{expansion};
 use crate::filling::{early_by, fill_root};
 use crate::root::{RootMapping, RootNode, RootTree};
 use pl_base::{
-    Argument, ExactCopy, Expanded, FileKey, List, Memory, Node, NodeBody, NodePair, Place, Shared,
+    Argument, ExactCopy, Expanded, FileKey, List, Memory, Node, NodeBody, NodePair, Place,
+    Repository, Shared,
 };
+use pl_budgets::Meter;
 use pl_calls::{Files, Home, Reach, node_in, same_file, under};
 use pl_directives::{Counted, ExpandFault, ExpandProblem, complain, enter};
 use pl_extends::ROOT;
@@ -79,7 +81,8 @@ fn expand_pairs<F: Files>(
 {
     let parameters = Shared::new(alloc, parameters)?;
     let count = enter(alloc, place, 0)?;
-    let first = first_frame(alloc, root, &parameters)?;
+    let meter = Meter::new(alloc)?;
+    let first = first_frame(alloc, root, &parameters, &meter)?;
     let early = early_by(
         alloc,
         under("variables", pairs),
@@ -93,8 +96,21 @@ fn expand_pairs<F: Files>(
         place,
         pairs,
         parameters: &parameters,
+        meter: &meter,
     };
     fill_root(alloc, &mapping, early, files, reach)
+}
+
+/// How many repositories a root file has: each call seeks its alias among them. More are want of
+/// memory.
+const MOST_REPOSITORIES: usize = 1_000;
+
+/// Memory where there are more repositories than may be.
+fn judge_repositories(repositories: &List<Repository>) -> Result<(), Memory> {
+    if repositories.len() > MOST_REPOSITORIES {
+        return Err(Memory);
+    }
+    Ok(())
 }
 
 /// Where paths lead from a root of these pairs. Nothing is called yet.
@@ -103,6 +119,7 @@ fn reach_from(alloc: Global, root: &FileKey, pairs: &List<NodePair>) -> Result<R
     ensures used { IfOk result (λ reach. reach.used ≡ []) }
 {
     let repositories = repositories_of(alloc, under("resources", pairs))?;
+    judge_repositories(&repositories)?;
     let root = root.copy(alloc)?;
     Ok(Reach {
         home: Home { root, repositories },
@@ -190,7 +207,8 @@ fn expand_other<F: Files>(
     ensures files { F.files files.new ≡ F.files files.old }
 {
     let parameters = Shared::new(alloc, parameters_by(alloc, None, arguments)?)?;
-    let frame = first_frame(alloc, root, &parameters)?;
+    let meter = Meter::new(alloc)?;
+    let frame = first_frame(alloc, root, &parameters, &meter)?;
     expand_bare(alloc, root, node, &frame, files)
 }
 

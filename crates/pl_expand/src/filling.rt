@@ -302,6 +302,7 @@ pub fn fill_root<F: Files>(
     ensures files { F.files files.new ≡ F.files files.old }
     ensures home { reach.new.home ≡ reach.old.home }
 {
-    let frame = second_frame(alloc, root.file, root.parameters, early.node.as_ref())?;
+    let early_node = early.node.as_ref();
+    let frame = second_frame(alloc, root.file, root.parameters, early_node, root.meter)?;
     fill_in(alloc, root.place, root.pairs, &frame, early, files, reach)
 }

@@ -81,7 +81,7 @@ pub fn variables_at(alloc: Global, frame: &Frame, place: &Place) -> Result<Marke
 {
     let origin = made_at(alloc, frame, place)?;
     let mut pairs = List::new(alloc);
-    for variable in frame.variables.as_slice() {
+    for variable in frame.variables.all().as_slice() {
         pairs.push(variable_pair(alloc, &origin, variable)?)?;
     }
     let value = Value::Object(pairs);

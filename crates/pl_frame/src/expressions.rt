@@ -23,6 +23,8 @@ pub fn expression_at(
 ) -> Result<MarkedNode, ExpressionFault>
     ensures { Gives result (expression_at frame.now place.now text.now) }
 {
+    frame.meter().begin();
+    frame.read_text(text)?;
     match parse(alloc, text, Mode::Compile) {
         Ok(expr) => value_at(alloc, frame, place, &expr),
         Err(ExprFault::Refused { code, at: _ }) => {

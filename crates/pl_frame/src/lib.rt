@@ -21,7 +21,7 @@ pub use bindings::parameters_of;
 pub use counting::count_nodes;
 pub use doubles::first_double;
 pub use expressions::expression_at;
-pub use frame::{Frame, Loop, Parameter, Variable};
+pub use frame::{Frame, Loop, Parameter, Variable, Variables};
 pub use loops::{pair_object, within};
 pub use moving::cross;
 pub use origins::{literal_at, made_at};

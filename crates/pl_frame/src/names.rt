@@ -26,11 +26,18 @@ impl Names for FrameNames<'_> {
     ghost known = { λ names. known_at names.frame.now names.place.now };
 
     fn part(&self, alloc: Global, root: &Text, path: &[Value]) -> Result<RootPart, Memory> {
+        self.frame.meter().work(work_of_naming(self.frame))?;
         let found = loop_named(alloc, &self.frame.loops, root)?;
         match found {
-            Some(item) => part_behind(alloc, item, path),
+            Some(item) => part_behind(alloc, self.frame.meter(), item, path),
             None => context_part(alloc, self.frame, self.place, root, path),
         }
+    }
+
+    fn spend(&self, bytes: u64, work: u64) -> Result<(), Memory> {
+        let meter = self.frame.meter();
+        meter.hold(bytes)?;
+        meter.work(work)
     }
 
     fn status(&self, function: Function, names: &List<Text>) -> bool {
@@ -42,6 +49,16 @@ impl Names for FrameNames<'_> {
             _ => false,
         }
     }
+}
+
+/// How many units of work it is to seek a name among the loops, the parameters and the variables.
+fn work_of_naming(frame: &Frame) -> u64 {
+    let parameters = frame.parameters.len() as u64;
+    let variables = frame.variables.all().len() as u64;
+    parameters
+        .saturating_add(variables)
+        .saturating_mul(2)
+        .saturating_add(64)
 }
 
 /// What a path finds in a context, the case of its name aside. Nothing else of it is copied.

@@ -9,6 +9,7 @@ use crate::members::{parameter_at, variable_at};
 use crate::moving::move_node_to;
 use crate::origins::made_at;
 use pl_base::{Memory, Origin, Place, Value};
+use pl_budgets::Meter;
 use pl_eval::{RootPart, find_behind, find_member};
 use std::alloc::Global;
 
@@ -26,7 +27,7 @@ pub fn part_of_parameters(
         return Ok(RootPart::Found(parameters_at(alloc, frame, place)?));
     };
     match parameter_at(alloc, &frame.parameters, at)? {
-        Some(parameter) => part_of_parameter(alloc, place, parameter, rest),
+        Some(parameter) => part_of_parameter(alloc, frame.meter(), place, parameter, rest),
         None => Ok(RootPart::Missing),
     }
 }
@@ -34,6 +35,7 @@ pub fn part_of_parameters(
 /// What a path finds in what an expression at a place takes of a parameter.
 fn part_of_parameter(
     alloc: Global,
+    meter: &Meter,
     place: &Place,
     parameter: &Parameter,
     path: &[Value],
@@ -41,7 +43,7 @@ fn part_of_parameter(
     ensures { IfOk result
         (λ part. part ≡ part_of (Some (found_behind path.now (taken place.now parameter.now)))) }
 {
-    match find_behind(alloc, &parameter.value, path)? {
+    match find_behind(alloc, meter, &parameter.value, path)? {
         Some(found) => Ok(RootPart::Found(taken_of(alloc, place, parameter, found)?)),
         None => Ok(RootPart::Missing),
     }
@@ -61,8 +63,8 @@ pub fn part_of_variables(
         return Ok(RootPart::Found(variables_at(alloc, frame, place)?));
     };
     let here = made_at(alloc, frame, place)?;
-    match variable_at(alloc, &frame.variables, at)? {
-        Some(variable) => part_of_variable(alloc, &here, variable, rest),
+    match variable_at(alloc, frame.variables.all(), at)? {
+        Some(variable) => part_of_variable(alloc, frame.meter(), &here, variable, rest),
         None => Ok(RootPart::Missing),
     }
 }
@@ -70,6 +72,7 @@ pub fn part_of_variables(
 /// What a path finds in the value of a variable, all of which is made there.
 fn part_of_variable(
     alloc: Global,
+    meter: &Meter,
     here: &Origin,
     variable: &Variable,
     path: &[Value],
@@ -85,7 +88,7 @@ fn part_of_variable(
     let Some(node) = find_member(alloc, &variable.value, at)? else {
         return Ok(RootPart::Missing);
     };
-    match find_behind(alloc, node, rest)? {
+    match find_behind(alloc, meter, node, rest)? {
         Some(found) => Ok(RootPart::Found(move_node_to(alloc, found, here)?)),
         None => Ok(RootPart::Missing),
     }

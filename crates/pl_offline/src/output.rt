@@ -1,8 +1,8 @@
-ghost use Rattle.std.specs.Prelude.{IfOk};
+ghost use Rattle.std.specs.Prelude.{◌≡◌, IfOk};
 ghost use Rattle.pl_bundle.specs.Bundles.{bundle_of};
 ghost use Rattle.pl_offline.specs.Output.{IsOutput};
 
-use pl_base::{Argument, List, Memory, Text};
+use pl_base::{Argument, Bytes, List, Memory, Text};
 use pl_bundle::{Bundle, bundle_of};
 use pl_compile::{CompileFault, compile};
 use pl_plan_report::plan_text;
@@ -31,15 +31,22 @@ fn compiled(alloc: Global, bundle: &Bundle, arguments: &List<Argument>) -> Resul
     }
 }
 
-/// What is told of bytes.
+/// The bundle that bytes are. The bytes are dropped.
+fn bundle_in(alloc: Global, bytes: Bytes) -> Result<Option<Bundle>, Memory>
+    ensures { IfOk result (λ bundle. bundle ≡ bundle_of bytes) }
+{
+    bundle_of(alloc, bytes.as_slice())
+}
+
+/// What is told of bytes, which are dropped before what they hold is compiled.
 pub(crate) fn output_of(
     alloc: Global,
-    bytes: &[u8],
+    bytes: Bytes,
     arguments: &List<Argument>,
 ) -> Result<Output, Memory>
-    ensures { IfOk result (λ output. IsOutput (bundle_of bytes.now) arguments.now output) }
+    ensures { IfOk result (λ output. IsOutput (bundle_of bytes) arguments.now output) }
 {
-    match bundle_of(alloc, bytes)? {
+    match bundle_in(alloc, bytes)? {
         Some(bundle) => compiled(alloc, &bundle, arguments),
         None => Ok(Output::Nothing),
     }

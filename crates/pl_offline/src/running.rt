@@ -30,7 +30,7 @@ pub fn compile_bundle<S: Source, K: Sink>(
         Err(Unread::Spent) => return Ending::Spent,
         Err(Unread::Memory) => return Ending::Memory,
     };
-    match output_of(alloc, bytes.as_slice(), arguments) {
+    match output_of(alloc, bytes, arguments) {
         Ok(Output::Plan(text)) => match write_all(sink, text.as_str().as_bytes()) {
             Ok(()) => Ending::Compiled,
             Err(_) => Ending::WriteFault,

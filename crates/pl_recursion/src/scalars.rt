@@ -47,6 +47,7 @@ fn plain_path(alloc: Global, text: &Text, frame: &Frame, place: &Place) -> Resul
           place.now;
     }) }
 {
+    frame.keep_text(text)?;
     let key = text.copy(alloc)?;
     let origin = literal_at(alloc, frame, place)?;
     Ok(MadeKey { key, origin })

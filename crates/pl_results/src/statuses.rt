@@ -24,6 +24,10 @@ impl Names for Statuses {
         Ok(RootPart::NoRoot)
     }
 
+    fn spend(&self, _bytes: u64, _work: u64) -> Result<(), Memory> {
+        Ok(())
+    }
+
     fn status(&self, function: Function, names: &List<Text>) -> bool {
         let members = self.members.as_slice();
         let names = names.as_slice();

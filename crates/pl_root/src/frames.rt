@@ -3,7 +3,8 @@ ghost use Rattle.std.specs.Option.{option_copied};
 ghost use Rattle.pl_root.specs.Frames.{root_frame, first_frame, second_frame};
 
 use pl_base::{Crossing, ExactCopy, FileKey, List, MarkedNode, Memory, Shared, SharedList, Value};
-use pl_frame::{Frame, Loop, Parameter, Variable, variables_of};
+use pl_budgets::Meter;
+use pl_frame::{Frame, Loop, Parameter, Variable, Variables, variables_of};
 use std::alloc::Global;
 
 /// No loops, and no crossings.
@@ -26,17 +27,20 @@ fn make_bare(alloc: Global) -> Result<Bare, Memory>
 #[derive(Drop)]
 struct Contexts {
     parameters: Shared<List<Parameter>>,
-    variables: Shared<List<Variable>>,
+    variables: Shared<Variables>,
 }
 
 fn make_contexts(
     alloc: Global,
     parameters: &Shared<List<Parameter>>,
     variables: List<Variable>,
+    meter: &Meter,
 ) -> Result<Contexts, Memory>
     ensures parameters { IfOk result (λ both. both.parameters ≡ parameters.now) }
     ensures variables { IfOk result (λ both. both.variables ≡ variables) }
 {
+    let meter = meter.share()?;
+    let variables = Variables::new(variables, meter);
     let variables = Shared::new(alloc, variables)?;
     let parameters = parameters.copy(alloc)?;
     Ok(Contexts {
@@ -75,11 +79,12 @@ fn root_frame(
     root: &FileKey,
     parameters: &Shared<List<Parameter>>,
     variables: List<Variable>,
+    meter: &Meter,
 ) -> Result<Frame, Memory>
     ensures { IfOk result (λ frame. frame ≡ root_frame root.now parameters.now variables) }
 {
     let file = Shared::new(alloc, root.copy(alloc)?)?;
-    let contexts = make_contexts(alloc, parameters, variables)?;
+    let contexts = make_contexts(alloc, parameters, variables, meter)?;
     let bare = make_bare(alloc)?;
     Ok(framed(file, contexts, bare))
 }
@@ -91,11 +96,12 @@ pub fn first_frame(
     alloc: Global,
     root: &FileKey,
     parameters: &Shared<List<Parameter>>,
+    meter: &Meter,
 ) -> Result<Frame, Memory>
     ensures { IfOk result (λ frame. frame ≡ first_frame root.now parameters.now) }
 {
     let variables = variables_of(alloc, &root.git_ref, &Value::Null)?;
-    root_frame(alloc, root, parameters, variables)
+    root_frame(alloc, root, parameters, variables, meter)
 }
 
 /// The frame in which the rest is expanded: as the first, with the file's own variables besides.
@@ -105,6 +111,7 @@ pub fn second_frame(
     root: &FileKey,
     parameters: &Shared<List<Parameter>>,
     early: Option<&MarkedNode>,
+    meter: &Meter,
 ) -> Result<Frame, Memory>
     ensures { IfOk result (λ frame. frame ≡ second_frame root.now parameters.now (option_copied
         early.entry)) }
@@ -113,5 +120,5 @@ pub fn second_frame(
         Some(node) => variables_of(alloc, &root.git_ref, &node.value)?,
         None => variables_of(alloc, &root.git_ref, &Value::Null)?,
     };
-    root_frame(alloc, root, parameters, variables)
+    root_frame(alloc, root, parameters, variables, meter)
 }

@@ -19,11 +19,16 @@ use std::marker::Model;
 /// How many nodes all files have that are read together. More are want of memory.
 const MOST_NODES: u32 = 1_000_000;
 
-/// Files in memory, each read as YAML once, when it is put, and how many nodes more may be read.
+/// How many bytes all files have that are read together. More are want of memory.
+const MOST_BYTES: usize = 8_388_608;
+
+/// Files in memory, each read as YAML once, when it is put, and how many nodes and bytes more may be
+/// read.
 #[derive(Drop)]
 pub struct MemFiles {
     files: BTreeMap<FileKey, Shared<Parsed>>,
     left: u32,
+    bytes: usize,
 }
 
 impl Model for MemFiles {
@@ -59,6 +64,11 @@ fn left_behind(file: &Parsed, left: u32) -> Result<u32, Memory> {
     }
 }
 
+/// How many bytes more may be read behind a text, of so many.
+fn bytes_behind(text: &[u8], bytes: usize) -> Result<usize, Memory> {
+    bytes.checked_sub(text.len()).ok_or(Memory)
+}
+
 /// A text, read as YAML.
 fn parsed(alloc: Global, key: &FileKey, text: &[u8]) -> Result<Shared<Parsed>, Memory>
     ensures { IfOk result (λ file. file ≡ parsed key.now text.now) }
@@ -75,15 +85,18 @@ impl MemFiles {
         MemFiles {
             files: BTreeMap::new(alloc),
             left: MOST_NODES,
+            bytes: MOST_BYTES,
         }
     }
 
     /// Reads a text and puts it at its key, in the place of the file that is there. After Memory,
-    /// which comes too where more than 1,000,000 nodes are read together, the files are as before.
+    /// which comes too where more than `MOST_NODES` nodes or `MOST_BYTES` bytes are read together,
+    /// the files are as before.
     pub fn put(&mut self, alloc: Global, key: FileKey, text: &[u8]) -> Result<(), Memory>
         ensures ok { OnOk result (self.new ≡ finite.insert self.old key (parsed key text.now)) }
         ensures err { OnErr result (self.new ≡ self.old) }
     {
+        self.bytes = bytes_behind(text, self.bytes)?;
         let file = parsed(alloc, &key, text)?;
         self.left = left_behind(&file, self.left)?;
         self.put_parsed(key, file)

@@ -25,7 +25,7 @@ returns-in-Some-2 c =
     c.in-Some.ensures.cases.0
     (sym (ap option_copied c.in-Some-2.is)
     ∙ (c.in_ok-variable.ensures
-    ∙ ap (λ variables. variable_at variables c.in-Some.at.now) c.deref.ensures)))
+    ∙ ap (λ variables. variable_at variables c.in-Some.at.now) (c.all.ensures ∙ c.deref.ensures))))
     c.part_of_variable.ensures
 
 pub returns : goal.returns
@@ -36,4 +36,4 @@ returns c =
     c.in-Some.at.now c.in-Some.rest.now c.args.path.now None c.in-Some.ensures.cases.0
     (sym (ap option_copied c.in-None.is)
     ∙ (c.in_ok-variable.ensures
-    ∙ ap (λ variables. variable_at variables c.in-Some.at.now) c.deref.ensures))
+    ∙ ap (λ variables. variable_at variables c.in-Some.at.now) (c.all.ensures ∙ c.deref.ensures)))
