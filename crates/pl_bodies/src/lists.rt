@@ -16,9 +16,7 @@ pub(crate) fn each<F: Field>(alloc: Global, values: Vec<Value>) -> Result<List<F
     ensures { Gives result (each F.meant (items_view values.items)) }
 {
     let mut all = List::new(alloc);
-    let mut rest = values;
-    rest.reverse();
-    while let Some(value) = rest.pop() {
+    for value in values {
         let item = F::read(alloc, value)?;
         all.push(item)?;
     }
