@@ -1,22 +1,5 @@
-//! The form of files of cases, which their heads tell their readers.
-use pl_base::{Memory, Text};
+use pl_base::Memory;
 use std::alloc::Global;
-
-/// The first line, and what stands behind it.
-pub fn parts(text: &str) -> (&str, &str) {
-    match text.split_once('\n') {
-        Some(parts) => parts,
-        None => (text, ""),
-    }
-}
-
-/// A line that begins with `%%% `.
-pub fn push_head(out: &mut Text, word: &str, name: &str) -> Result<(), Memory> {
-    out.push_str("%%% ")?;
-    out.push_str(word)?;
-    out.push_str(name)?;
-    out.push_str("\n")
-}
 
 /// The text of lines `COUNT PIECE`: each piece so many times, with nothing between.
 pub fn repeated(alloc: Global, lines: &str) -> Result<String, Memory> {
@@ -76,44 +59,4 @@ fn pictured(character: char) -> char {
         '\u{2421}' => '\x7f',
         _ => character,
     }
-}
-
-/// Adds an answer as one line, which says each character that can't be seen as a case may.
-pub fn push_line(out: &mut Text, alloc: Global, answer: &str) -> Result<(), Memory> {
-    let shown = shown(alloc, answer)?;
-    out.push_str(shown.as_str())?;
-    out.push_str("\n")
-}
-
-fn shown(alloc: Global, text: &str) -> Result<String, Memory> {
-    let mut all = String::new(alloc);
-    for character in text.chars() {
-        push_shown(&mut all, character)?;
-    }
-    Ok(all)
-}
-
-fn push_shown(all: &mut String, character: char) -> Result<(), Memory> {
-    match character {
-        '\0'..='\x1f' => all.push(picture(character as u8))?,
-        '\x7f' => all.push('\u{2421}')?,
-        '\u{80}'..='\u{a0}'
-        | '\u{2000}'..='\u{200f}'
-        | '\u{2028}'..='\u{202f}'
-        | '\u{3000}'
-        | '\u{d7ff}'..='\u{f8ff}'
-        | '\u{feff}'
-        | '\u{10ffff}' => {
-            let number = character as u32;
-            all.push_str("\\u{")?;
-            write!(all, "{number:x}")?;
-            all.push('}')?
-        }
-        _ => all.push(character)?,
-    }
-    Ok(())
-}
-
-fn picture(control: u8) -> char {
-    char::from_u32(0x2400 + u32::from(control)).unwrap_or('?')
 }

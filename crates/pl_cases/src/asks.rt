@@ -1,0 +1,36 @@
+use crate::answers::Answers;
+use std::alloc::Global;
+
+/// What a program of cases answers.
+pub trait Questions {
+    /// Writes the answer to a case, behind the line of its name. The notes stand between the
+    /// question and its first case.
+    fn answer(&mut self, alloc: Global, out: &mut Answers, question: &str, notes: &str, case: &str);
+}
+
+/// A first line, and what stands below it.
+pub fn first_line(text: &str) -> (&str, &str) {
+    text.split_once('\n').unwrap_or((text, ""))
+}
+
+/// Answers all cases of a text. In it, behind what is for readers alone, stand questions, each on a
+/// line `%%% ask QUESTION`, and behind a question, after notes, its cases: a line `%%% case NAME`
+/// and all that follows, up to the line feed before the next such line or the text's end. An answer
+/// stands behind the line `%%% case NAME`.
+pub fn answer_all<Q: Questions>(alloc: Global, out: &mut Answers, questions: &mut Q, text: &str) {
+    let text = text.strip_suffix('\n').unwrap_or(text);
+    for ask in text.split("\n%%% ask ").skip(1) {
+        answer_ask(alloc, out, questions, ask);
+    }
+}
+
+/// Answers the cases of a question.
+fn answer_ask<Q: Questions>(alloc: Global, out: &mut Answers, questions: &mut Q, ask: &str) {
+    let (question, rest) = first_line(ask);
+    let (notes, cases) = rest.split_once("%%% case ").unwrap_or((rest, ""));
+    for case in cases.split("\n%%% case ") {
+        let (name, case) = first_line(case);
+        out.line("%%% case ", name);
+        questions.answer(alloc, out, question, notes, case);
+    }
+}
