@@ -1,20 +1,7 @@
 //! The program `pipectl`: a template compiler and run service for Azure Pipelines' YAML.
 #![tactic(auto)]
 
-mod alone;
-mod buffer;
-mod laws;
-mod outfit;
-mod real;
-mod replay;
-mod run;
-mod served;
-mod serving;
-mod status;
-
-use crate::real::Process;
-use crate::run::run;
-use crate::status::Status;
+use pl_commands::{Process, Status, run};
 use std::process::ExitCode;
 use std::{env, io};
 
@@ -35,6 +22,3 @@ fn main(rt: HostRuntime) -> ExitCode {
     let mut process = Process::new(rt, rt.stdin(), rt.stdout());
     run(rt.alloc(), &words, &mut process).exit_code()
 }
-
-#[cfg(test)]
-mod tests;

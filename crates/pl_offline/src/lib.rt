@@ -4,8 +4,6 @@
 mod ending;
 mod output;
 mod running;
-#[cfg(test)]
-mod tests;
 
 pub use ending::Ending;
 pub use running::compile_bundle;

@@ -6,7 +6,5 @@ mod lines;
 mod nodes;
 mod reading;
 mod script;
-#[cfg(test)]
-mod tests;
 
 pub use reading::{spelling, step_list};

@@ -12,6 +12,3 @@ pub use laws::{no_entry_is_of_two_seats, seats_stand_in_one_history};
 pub use seat::Seat;
 pub use standing::Standing;
 pub use turn_lock::TurnLock;
-
-#[cfg(test)]
-mod tests;
