@@ -63,32 +63,31 @@ fn answer_input(alloc: Global, out: &mut Answers, question: &str, words: &[Strin
 
 /// Answers what is asked beside a whole run.
 fn answer_whole(alloc: Global, out: &mut Answers, question: &str, words: &[String], input: &[u8]) {
-    let mut whole = Vec::new(alloc);
-    match ran(
-        alloc,
-        words,
-        input,
-        in_pieces(1_000_000, 1_000_000),
-        &mut whole,
-    ) {
-        Ok(_) => {
-            let whole = whole.as_slice();
-            answer_beside(
-                alloc,
-                out,
-                question,
-                Asked {
-                    words,
-                    input,
-                    whole,
-                },
-            )
-        }
+    let mut written = Vec::new(alloc);
+    let whole = in_pieces(1_000_000, 1_000_000);
+    match ran(alloc, words, input, whole, &mut written) {
+        Ok(_) => answer_over(alloc, out, question, words, input, written.as_slice()),
         Err(_) => out.fail(),
     }
 }
 
-fn answer_beside(alloc: Global, out: &mut Answers, question: &str, asked: Asked<'_>) {
+fn answer_over(
+    alloc: Global,
+    out: &mut Answers,
+    question: &str,
+    words: &[String],
+    input: &[u8],
+    whole: &[u8],
+) {
+    let asked = Asked {
+        words,
+        input,
+        whole,
+    };
+    answer_beside(alloc, out, question, &asked)
+}
+
+fn answer_beside(alloc: Global, out: &mut Answers, question: &str, asked: &Asked<'_>) {
     let (front, piece) = question.rsplit_once(' ').unwrap_or((question, ""));
     match front {
         "failing reads of" => answer_reads(alloc, out, asked, usize::from(number(piece))),

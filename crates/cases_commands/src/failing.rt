@@ -7,7 +7,6 @@ use pl_cases::Answers;
 use std::alloc::Global;
 
 /// What all runs of a case share: the words, the input, and what the whole run writes.
-#[derive(Clone, Copy)]
 pub struct Asked<'t> {
     pub words: &'t [String],
     pub input: &'t [u8],
@@ -15,7 +14,7 @@ pub struct Asked<'t> {
 }
 
 /// Writes ` STATUS BYTES`, and whether those are another text than the whole run's beginning.
-fn push_told(alloc: Global, out: &mut Answers, asked: Asked<'_>, code: u8, written: &[u8]) {
+fn push_told(alloc: Global, out: &mut Answers, asked: &Asked<'_>, code: u8, written: &[u8]) {
     out.push(" ");
     out.number(alloc, u64::from(code));
     out.push(" ");
@@ -29,7 +28,7 @@ fn push_told(alloc: Global, out: &mut Answers, asked: Asked<'_>, code: u8, writt
 
 /// Runs over the input's beginnings, the shortest first, and writes for each that ends otherwise
 /// than the one before it, or writes another number of bytes, `LENGTH STATUS BYTES`.
-pub fn answer_cuts(alloc: Global, out: &mut Answers, asked: Asked<'_>) {
+pub fn answer_cuts(alloc: Global, out: &mut Answers, asked: &Asked<'_>) {
     let mut written = Vec::new(alloc);
     let mut last = (u8::MAX, usize::MAX);
     for len in 0..asked.input.len() {
@@ -52,7 +51,7 @@ pub fn answer_cuts(alloc: Global, out: &mut Answers, asked: Asked<'_>) {
 fn answer_failing(
     alloc: Global,
     out: &mut Answers,
-    asked: Asked<'_>,
+    asked: &Asked<'_>,
     outside: Outside,
     ending: u8,
 ) -> Result<bool, Memory> {
@@ -64,7 +63,7 @@ fn answer_failing(
 
 /// Writes `NUMBER STATUS BYTES` of the runs whose first, second and so on read fails, of so many
 /// bytes at most, up to the one that doesn't end by that.
-pub fn answer_reads(alloc: Global, out: &mut Answers, asked: Asked<'_>, piece: usize) {
+pub fn answer_reads(alloc: Global, out: &mut Answers, asked: &Asked<'_>, piece: usize) {
     for call in 1..1_000 {
         out.number(alloc, call);
         let outside = Outside {
@@ -80,7 +79,7 @@ pub fn answer_reads(alloc: Global, out: &mut Answers, asked: Asked<'_>, piece: u
 }
 
 /// The same of writes.
-pub fn answer_writes(alloc: Global, out: &mut Answers, asked: Asked<'_>, piece: usize) {
+pub fn answer_writes(alloc: Global, out: &mut Answers, asked: &Asked<'_>, piece: usize) {
     for call in 1..1_000 {
         out.number(alloc, call);
         let outside = Outside {
