@@ -16,12 +16,8 @@ use std::io;
 fn main(rt: HostRuntime) -> io::Result<()> {
     let cases = io::read_to_string(rt.alloc(), rt.reader())?;
     let mut out = Answers::new(rt.alloc());
-    answer_all(
-        rt.alloc(),
-        &mut out,
-        &mut Commands { runtime: rt },
-        cases.as_str(),
-    );
+    let mut commands = Commands { runtime: rt };
+    answer_all(rt.alloc(), &mut out, &mut commands, cases.as_str());
     match out.text() {
         Ok(text) => print!(rt; "{text}"),
         Err(_) => Err(io::Error::from(io::ErrorKind::OutOfMemory)),
