@@ -1,6 +1,6 @@
 //! Streams whose first calls a signal interrupts.
 
-use pl_base::{Sink, Source};
+use pl_base::{Failed, Sink, Source};
 use pl_cases::Answers;
 use pl_commands::{Outfit, Process};
 use std::alloc::Global;
@@ -42,7 +42,7 @@ impl io::Write for Interrupted {
 }
 
 /// How many bytes a call moved, or 99 where it failed.
-fn moved<E: Drop>(result: Result<usize, E>) -> u64 {
+fn moved(result: Result<usize, Failed>) -> u64 {
     match result {
         Ok(count) => count as u64,
         Err(_) => 99,
