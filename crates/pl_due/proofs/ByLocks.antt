@@ -1,11 +1,11 @@
 -- What is due among contenders.
-use Rattle.std.proofs.Common.{◌≡◌, ℕ, List, [], ◌∷◌, Option, Some, None, drop, sym, ap, ◌∙◌}
+use Rattle.std.proofs.Common.{◌≡◌, ℕ, List, [], ◌∷◌, Option, Some, drop, sym, ap, ◌∙◌}
 use Rattle.std.proofs.Common.{inl, inr}
 use Rattle.pl_base.specs.declared.outcome.Outcome.TheVariants.{Skipped}
 use Rattle.pl_facts.specs.declared.fact.Event.{Event}
 use Rattle.pl_facts.specs.declared.fact.Event.TheVariants.{StageEnded, StageStarted}
 use Rattle.pl_facts.specs.declared.fact.Fact.{Fact}
-use Rattle.pl_locks.specs.Locks.{IsAt, IsLeastLaterRun, IsLeastSuperseded, IsNext, Locks}
+use Rattle.pl_locks.specs.Locks.{IsAt, IsLeastLaterRun, IsLeastSuperseded, IsNext}
 use Rattle.pl_locks.specs.declared.contender.Contender.{Contender}
 use Rattle.pl_rules.specs.declared.rule.Rule.TheVariants as rules
 use Rattle.pl_due.specs.Contention.{IsContention, locks}

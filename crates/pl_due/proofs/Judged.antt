@@ -1,9 +1,9 @@
 -- What is due in one stage, kind after kind.
-use Rattle.std.proofs.Common.{◌≡◌, ◌<◌, ◌≤◌, ◌&&◌, ◌↔◌, ℕ, Bool, true, false, not, List, []}
-use Rattle.std.proofs.Common.{length, Option, Some, None, is_some, is_none, refl, sym, ap, ◌∙◌}
+use Rattle.std.proofs.Common.{◌≡◌, ◌<◌, ◌≤◌, ◌&&◌, ◌↔◌, ℕ, Bool, true, false, not, List}
+use Rattle.std.proofs.Common.{length, Option, Some, None, is_none, refl, sym, ap, ◌∙◌}
 use Rattle.std.proofs.Common.{subst, arith}
 use Rattle.std.specs.Option.{option_map_or}
-use Rattle.std.specs.Prelude.{slice_get, IsTrue}
+use Rattle.std.specs.Prelude.{IsTrue}
 use Rattle.std.proofs.lemmas.Bool.{false≢true}
 use Rattle.std.proofs.lemmas.Option.{slice_get_past}
 use Rattle.pl_checks.specs.declared.view.Verdict.{Verdict}
@@ -174,7 +174,8 @@ module _ (facts : List Fact) (moment : ℕ) (told : QueuedRun) (one : PlanStage)
     Judged judgement = IsJudgement (all_checks facts one.uses)
         (check_view told one run stage facts) moment judgement
 
-    module _ (law : (left right : List Verdict) → AreVerdictsOf facts moment told one run stage left →
+    module _ (law : (left right : List Verdict) →
+        AreVerdictsOf facts moment told one run stage left →
         AreVerdictsOf facts moment told one run stage right → left ≡ right) (judgement : Judgement)
         (judged : Judged judgement) where
       pub fails_some : (rule : Rule) (event : Event) → is_waiting one run stage facts ≡ true →

@@ -1,8 +1,7 @@
 -- The facts and a moment leave no choice in what is due.
-use Rattle.std.proofs.Common.{◌≡◌, ◌<◌, ◌≤◌, ◌⊎◌, ℕ, Bool, true, false, List, [], ◌∷◌, Option}
+use Rattle.std.proofs.Common.{◌≡◌, ◌≤◌, ◌⊎◌, ℕ, List, [], ◌∷◌, Option}
 use Rattle.std.proofs.Common.{Some, None, drop, refl, sym, ap, ◌∙◌, subst, arith, inl, inr, ⊎_elim}
-use Rattle.std.specs.List.{All, AllPairs, Any, Contains}
-use Rattle.std.proofs.lemmas.Bool.{cases_lt, false≢true}
+use Rattle.std.specs.List.{Contains}
 use Rattle.pl_base.specs.declared.outcome.Outcome.TheVariants.{Skipped}
 use Rattle.pl_checks.specs.declared.check.Check.{Check}
 use Rattle.pl_checks.specs.declared.view.CheckView.{CheckView}
@@ -14,13 +13,12 @@ use Rattle.pl_facts.specs.declared.fact.Fact.{Fact}
 use Rattle.pl_facts.specs.declared.fact.QueuedRun.{QueuedRun}
 use Rattle.pl_judgement.specs.Said.{first_fail}
 use Rattle.pl_judgement.proofs.Asking.{one_list}
-use Rattle.pl_locks.specs.Locks.{GivesWay, IsAt, IsLeastLaterRun, IsLeastSuperseded, IsNext, Locks}
+use Rattle.pl_locks.specs.Locks.{IsLeastLaterRun, IsLeastSuperseded, IsNext, Locks}
 use Rattle.pl_locks.specs.Locks.{IsSuperseded, MayStart, Precedes}
 use Rattle.pl_locks.specs.Kept.{IsOrdered}
 use Rattle.pl_locks.specs.declared.contender.Contender.{Contender}
 use Rattle.pl_locks.proofs.Ordered.{neither_precedes, same_at}
 use Rattle.pl_plan.specs.declared.plan.PlanStage.{PlanStage}
-use Rattle.pl_rules.specs.declared.rule.Rule.{Rule}
 use Rattle.pl_rules.specs.declared.rule.Rule.TheVariants as rules
 use Rattle.pl_views.specs.CheckViews.{check_view}
 use Rattle.pl_due.specs.Checked.{AreVerdictsOf, all_checks}
@@ -28,7 +26,7 @@ use Rattle.pl_due.specs.Contention.{AreThose, Holds, InRun, IsContention, IsElig
 use Rattle.pl_due.specs.Contention.{contender_of, locks}
 use Rattle.pl_due.specs.Due.{Among, IsDue, Next, Superseded, findings}
 use Rattle.pl_due.specs.Kinds.{Fails, IsDone, IsPassedOver, JobIsPassedOver, TimesOut, fail_end}
-use Rattle.pl_due.specs.Least.{FirstOf, InStage, IsLeastOf, Least, OfStages}
+use Rattle.pl_due.specs.Least.{FirstOf, InStage, Least, OfStages}
 use Rattle.pl_due.specs.Least.{Precedes as Before}
 use Rattle.pl_due.specs.Nodes.{IsStageOf}
 use Rattle.pl_due.proofs.Members.{cons_cases, head_before, here, of_member, tail_pairs, there}

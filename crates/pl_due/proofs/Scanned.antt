@@ -9,7 +9,7 @@ use Rattle.pl_facts.specs.declared.fact.QueuedRun.{QueuedRun}
 use Rattle.pl_journal.specs.Runs.{stage_end}
 use Rattle.pl_plan.specs.declared.plan.PlanStage.{PlanStage}
 use Rattle.pl_due.specs.declared.open_stages.Place.{Place}
-use Rattle.pl_due.specs.Least.{InStage, IsLeastOf, Least, OfStages, Precedes}
+use Rattle.pl_due.specs.Least.{InStage, Least, OfStages}
 use Rattle.pl_due.specs.Nodes.{IsStageOf}
 use Rattle.pl_due.specs.Open.{at_place}
 use Rattle.pl_due.specs.Scans.{FirstJob, FirstStage, HasOpenStages, IsBefore}
@@ -104,7 +104,8 @@ module _ (facts : List Fact) (kind : InStage) where
         },
       )
   found_among (first ∷ places) event ordered (inr (none, rest)) =
-      let (at, found) = found_among places event (tail_pairs IsBefore first places ordered) rest in (
+      let (at, found) =
+      found_among places event (tail_pairs IsBefore first places ordered) rest in (
         at,
         record {
           among = there at first places found.among;

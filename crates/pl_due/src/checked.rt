@@ -20,8 +20,9 @@ fn is_exclusive(journal: &Journal, key: &ResourceKey) -> bool
     }
 }
 
-/// The exclusive ones of the resources that a stage uses.
-pub(crate) fn exclusive_uses(
+/// The exclusive ones of the resources that a stage uses, in its order, as they are set now: one
+/// that was never set isn't exclusive. Memory comes where there is none, and nothing else.
+pub fn exclusive_uses(
     alloc: Global,
     journal: &Journal,
     planned: &PlanStage,
@@ -45,8 +46,9 @@ fn is_among(names: &[Text], name: &Text) -> bool
     names.iter().any(|one| one.cmp(name).is_eq())
 }
 
-/// Whether a pipeline may use a resource.
-fn permits(journal: &Journal, pipeline: &Text, key: &ResourceKey) -> bool
+/// Whether a pipeline may use a resource, as it is set now: each pipeline may where no list names
+/// those that do, and none may where the resource was never set. It takes no memory.
+pub fn permits(journal: &Journal, pipeline: &Text, key: &ResourceKey) -> bool
     ensures { result ≡ spec.permits journal.now.facts pipeline.now key.now }
 {
     match journal.resource(key) {

@@ -11,9 +11,11 @@ use crate::eligible::{Eligible, Holding, Running};
 use crate::open_stages::{Place, open_stages};
 use crate::stage_at::StageAt;
 use pl_base::{ExactCopy, List, Memory, Moment};
+use pl_facts::QueuedRun;
 use pl_journal::Journal;
 use pl_locks::Contender;
 use pl_open_runs::IndexedJournal;
+use pl_plan::PlanStage;
 use std::alloc::Global;
 
 /// The stages that contend for exclusive resources, by run, then by place: those that may be
@@ -59,20 +61,28 @@ pub(crate) fn contention_among(
     Ok(Contention { eligible, holders })
 }
 
-/// A stage as one that wants its exclusive resources.
-fn contender(alloc: Global, at: &StageAt<'_>) -> Result<Contender, Memory>
-    ensures { IfOk result (λ one. one ≡ spec.contender_of (facts_of at.now) at.now.queued.now
-        at.now.planned.now at.now.run at.now.stage) }
+/// A stage as one that wants its exclusive resources, as they are set now. Memory comes where there
+/// is none, and nothing else.
+pub fn contender_of(
+    alloc: Global,
+    journal: &Journal,
+    run: u64,
+    stage: u32,
+    queued: &QueuedRun,
+    planned: &PlanStage,
+) -> Result<Contender, Memory>
+    ensures { IfOk result (λ one. one ≡ spec.contender_of journal.now.facts queued.now planned.now
+        run stage) }
 {
-    let pipeline = at.queued.pipeline.copy(alloc)?;
-    let name = at.planned.name.copy(alloc)?;
-    let resources = exclusive_uses(alloc, at.journal, at.planned)?;
+    let pipeline = queued.pipeline.copy(alloc)?;
+    let name = planned.name.copy(alloc)?;
+    let resources = exclusive_uses(alloc, journal, planned)?;
     Ok(Contender {
-        run: at.run,
-        position: at.stage,
+        run,
+        position: stage,
         pipeline,
         name,
-        behaviour: at.planned.behaviour,
+        behaviour: planned.behaviour,
         resources,
     })
 }
@@ -88,7 +98,8 @@ fn contender_if<H: Holding>(
         (H.of holding.now (facts_of at.now) at.now.moment) at.now.run at.now.stage) }
 {
     if holding.holds(alloc, at)? {
-        Ok(Some(contender(alloc, at)?))
+        let one = contender_of(alloc, at.journal, at.run, at.stage, at.queued, at.planned)?;
+        Ok(Some(one))
     } else {
         Ok(None)
     }

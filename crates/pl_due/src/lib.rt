@@ -13,11 +13,14 @@ mod jobs;
 mod judging;
 mod laws;
 mod nodes;
+mod one_stage;
 mod open_stages;
 mod scanning;
 mod stage_at;
 mod stages;
 
-pub use contention::{Contention, contention_at};
+pub use checked::{exclusive_uses, permits};
+pub use contention::{Contention, contender_of, contention_at};
 pub use first_due::due;
 pub use laws::due_laws;
+pub use one_stage::judgement_of;

@@ -315,7 +315,7 @@ fn fill_extension<F: Files>(
 }
 
 /// The template that the path led to.
-fn enter_file<F: Files>(
+fn fill_opened<F: Files>(
     alloc: Global,
     opened: &Opened,
     shown: &Origin,
@@ -337,12 +337,12 @@ fn enter_file<F: Files>(
         file: &opened.key,
         pairs,
     };
-    let inner = frame_for(alloc, &template, shown, arguments, frame)?;
+    let inner = extended_frame(alloc, &template, shown, arguments, frame)?;
     fill_extension(alloc, &template, &node.place, &inner, count, files, reach)
 }
 
 /// The frame of the template.
-fn frame_for(
+fn extended_frame(
     alloc: Global,
     template: &Template<'_>,
     shown: &Origin,
@@ -389,7 +389,7 @@ fn reach_file<F: Files>(
     ensures home { reach.new.home ≡ reach.old.home }
 {
     let opened = open(alloc, at, path, files, reach)?;
-    enter_file(alloc, &opened, shown, arguments, frame, count, files, reach)
+    fill_opened(alloc, &opened, shown, arguments, frame, count, files, reach)
 }
 
 /// The origin that shows where a path comes from: its own, unless that crossed nothing.

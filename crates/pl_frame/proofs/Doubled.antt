@@ -3,7 +3,6 @@ use Rattle.std.proofs.Common.{◌≡◌, ℕ, ◌+◌, ◌<◌, ◌≤◌, Bool,
 use Rattle.std.proofs.Common.{None, List, [], ◌∷◌, ◌++◌, length, take, drop, map, get_or, refl, sym}
 use Rattle.std.proofs.Common.{ap, ap₂, ◌∙◌}
 use Rattle.std.specs.Prelude.{nat_eq}
-use Rattle.std.specs.Option.{option_map}
 use Rattle.std.specs.List.{list_any}
 use Rattle.std.specs.Ordering.{nat_cmp}
 use Rattle.std.specs.Cmp.Lexicographic.{slice_cmp, pointwise, texts_ties}
@@ -13,8 +12,7 @@ use Rattle.std.proofs.lemmas.List.{take_more, at_drop_more, at_drop_all}
 use Rattle.std.proofs.lemmas.List.Folds.{list_any-append}
 use Rattle.pl_base.specs.declared.value.MarkedPair.{MarkedPair}
 use Rattle.pl_base.specs.Texts.{is}
-use Rattle.pl_frame.specs.Doubles.{double_behind, first_double}
-use Rattle.pl_frame.specs.Repeats.{double_in}
+use Rattle.pl_frame.specs.Doubles.{double_in}
 use Rattle.pl_frame.proofs.Named.{pointwise_swap}
 
 abbrev pub keys_of : List MarkedPair → List (List ℕ)
@@ -96,27 +94,3 @@ keys_more old new pairs at pair copy key within item copied updated same =
     ∙ ap (λ last. list_any (λ other. pointwise nat_eq key other)
     (keys_of (take at pairs) ++ last ∷ [])) copied
     ∙ ap (list_any (λ other. pointwise nat_eq key other)) (keys_next pairs at pair within item)
-
--- ---- where it comes from
-
-pub place_of_double : (keys : List (List ℕ)) (pairs : List MarkedPair) →
-    option_map (λ pair. pair.key_origin.source) (double_in keys pairs) ≡ double_behind keys pairs
-unfolding double_behind
-place_of_double keys [] = refl
-place_of_double keys (pair ∷ pairs) =
-    by (list_any (is pair.key) keys) (place_of_double (keys ++ pair.key ∷ []) pairs)
-  where
-    by : (b : Bool) →
-        option_map (λ pair. pair.key_origin.source)
-        (double_in (keys ++ pair.key ∷ []) pairs) ≡ double_behind (keys ++ pair.key ∷ []) pairs →
-        option_map (λ pair. pair.key_origin.source)
-        (cond b (Some pair) (double_in (keys ++ pair.key ∷ []) pairs)) ≡ cond b
-        (Some pair.key_origin.source) (double_behind (keys ++ pair.key ∷ []) pairs)
-    by true later = refl
-    by false later = later
-
-pub place_found : (pairs : List MarkedPair) (found : Option MarkedPair) →
-    found ≡ double_in [] pairs →
-    option_map (λ pair. pair.key_origin.source) found ≡ first_double pairs
-place_found pairs found is = ap (option_map (λ pair. pair.key_origin.source)) is
-    ∙ place_of_double [] pairs

@@ -1,16 +1,18 @@
 -- Keys that stand twice.
 use Rattle.std.specs.Prelude.{ℕ, List, [], ◌∷◌, ◌++◌, Option, Some, None, if◌then◌else◌}
 use Rattle.std.specs.List.{list_any}
+use Rattle.std.specs.Option.{option_map}
 use Rattle.pl_base.specs.declared.place.Place.{Place}
 use Rattle.pl_base.specs.declared.value.MarkedPair.{MarkedPair}
 use Rattle.pl_base.specs.Texts.{is}
 
--- the first pair whose key stands before it, behind keys: where its key comes from
-unfoldable pub double_behind : List (List ℕ) → List MarkedPair → Option Place
-double_behind before [] = None
-double_behind before (pair ∷ pairs) =
-    if list_any (is pair.key) before then Some pair.key_origin.source
-    else double_behind (before ++ pair.key ∷ []) pairs
+-- the first pair whose key stands before it, behind keys
+abbrev pub double_in : List (List ℕ) → List MarkedPair → Option MarkedPair
+double_in before [] = None
+double_in before (pair ∷ pairs) =
+    if list_any (is pair.key) before then Some pair
+    else double_in (before ++ pair.key ∷ []) pairs
 
+-- where its key comes from
 abbrev pub first_double : List MarkedPair → Option Place
-first_double pairs = double_behind [] pairs
+first_double pairs = option_map (λ pair. pair.key_origin.source) (double_in [] pairs)

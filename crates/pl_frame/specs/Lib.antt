@@ -8,6 +8,5 @@ pub mod Moves
 pub mod Names
 pub mod Origins
 pub mod Placing
-pub mod Repeats
 pub mod Trees
 pub mod Variables

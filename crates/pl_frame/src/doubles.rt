@@ -2,8 +2,7 @@ ghost use Rattle.std.specs.Prelude.{◌≡◌, [], IfOk};
 ghost use Rattle.std.specs.List.{list_any};
 ghost use Rattle.std.specs.Option.{option_copied};
 ghost use Rattle.pl_base.specs.Texts.{is};
-ghost use Rattle.pl_frame.specs.Doubles.{first_double};
-ghost use Rattle.pl_frame.specs.Repeats.{double_in};
+ghost use Rattle.pl_frame.specs.Doubles.{double_in, first_double};
 
 use pl_base::{ExactCopy, List, MarkedPair, Memory, Place, Text};
 use std::alloc::Global;

@@ -29,8 +29,10 @@ fn is_held(holders: &[Contender], stage: &Contender) -> bool
     holders.iter().any(|holder| stage.shares(holder))
 }
 
-/// Whether a stage comes first where both want one resource.
-fn comes_first(eligible: &[Contender], other: &Contender, stage: &Contender) -> bool
+/// Whether `other`, of an earlier run or place, comes before `stage` at a resource that both want:
+/// it is before it, shares an exclusive resource with it, and isn't superseded by one of the
+/// `eligible` stages. It takes no memory.
+pub fn comes_first(eligible: &[Contender], other: &Contender, stage: &Contender) -> bool
     ensures { IsTrue result ↔ ComesFirst eligible.now other.now stage.now }
 {
     other.precedes(stage) && other.shares(stage) && !is_superseded(eligible, other)

@@ -8,7 +8,7 @@ mod contenders;
 mod laws;
 mod ordering;
 
-pub use choosing::{least_superseded, next_of};
+pub use choosing::{comes_first, least_superseded, next_of};
 pub use contender::Contender;
 pub use contenders::Contenders;
 pub use laws::lock_laws;

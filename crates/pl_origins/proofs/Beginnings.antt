@@ -422,7 +422,7 @@ spread_items (layer.Str text) scope node progress used has =
 mapping_items : (manner : Manner) (fill : Filling) (place : Place) →
     KeepsItems (mapping_behind manner fill place)
 mapping_items Empty fill place scope progress used has =
-    any_then (λ both. OfItems both.0)
+    any_then (λ (both : Progress × List FileKey). OfItems both.0)
     (finished (literal_at scope.frame place) (begun kind.Pairs Closed progress.count)) _
     (λ one. add_item_items scope one.node (with_chain Closed (with_count one.count progress)) used
     has)
@@ -430,7 +430,7 @@ mapping_items Stays fill place scope progress used has =
     any_after OfItems
     (fill (in_region (of_item scope.region) scope)
     (begun kind.Pairs progress.chain progress.count) used) _
-    (λ inner later. any_then (λ both. OfItems both.0)
+    (λ inner later. any_then (λ (both : Progress × List FileKey). OfItems both.0)
     (finished (literal_at scope.frame place) inner) _
     (λ one. add_item_items scope one.node (with_chain inner.chain (with_count inner.count progress))
     later has))
@@ -444,7 +444,7 @@ mapping_items (Unclosed key) fill place scope progress used has = tt
 
 item_items : (shape : Shape) (place : Place) → KeepsItems (item_by shape place)
 item_items (scalar text) place scope progress used has =
-    any_then (λ both. OfItems both.0)
+    any_then (λ (both : Progress × List FileKey). OfItems both.0)
     (given_value text scope.frame place progress.count (of_item scope.region) None) _
     (λ one. any_after OfItems (node_settling one.node scope one.count used) _
     (λ one later. spread_items (out-Value one.node.value) scope one.node

@@ -13,7 +13,7 @@ use Rattle.pl_log.specs.Keys.{Job, Named, Stage, same_key}
 use Rattle.pl_log.proofs.Naming.{exact_key}
 use Rattle.pl_due.proofs.Standing.{waiting_open, waiting_unstarted}
 use Rattle.pl_settling.specs.Gives.{Gives}
-use Rattle.pl_settling.specs.Laws.{WasNext}
+use Rattle.pl_settling.specs.Laws.{IsOnce}
 use Rattle.pl_settling.specs.Settles.{Adds}
 use Rattle.pl_settling.proofs.Behind.{touched, untouched}
 use Rattle.pl_settling.proofs.Giving.{gives}
@@ -75,7 +75,8 @@ module _ (run stage job moment : ℕ) where
       by_event (event.StageStarted r s) e is same = absurd (cc)
       by_event (event.StageEnded r s outcome rule) e is same = absurd (cc)
       by_event (event.JobEnded outcome reported s j r rule outputs) e is same =
-          let key : Job r s j ≡ Job run stage job = exact_key (Job r s j) (Job run stage job) same in
+          let key : Job r s j ≡ Job run stage job =
+          exact_key (Job r s j) (Job run stage job) same in
           let a : r ≡ run = cc in
           let b : s ≡ stage = cc in
           let c : j ≡ job = cc in (
@@ -111,7 +112,7 @@ module _ (run stage job moment : ℕ) where
           let e : used_by_job (facts ++ one ∷ []) ≡ used_by_job facts = ap one_if same in
           omega (arith, e)
 
-  pub job_once : (facts added : List Fact) → Adds moment facts added →
+  job_once : (facts added : List Fact) → Adds moment facts added →
       count_by (is_about (Job run stage job)) added ≤ 1
   job_once facts added adds = at_most (is_about (Job run stage job)) used_by_job 1 moment job_step
       (λ before. at_most_one (job_end run stage job before)) facts added adds
@@ -241,9 +242,15 @@ module _ (run stage moment : ℕ) where
           ∙ ap (used_of (stage_start run stage facts)) end in
           omega (arith, e)
 
-  pub stage_twice : (facts added : List Fact) → Adds moment facts added →
+  stage_twice : (facts added : List Fact) → Adds moment facts added →
       count_by (is_about (Stage run stage)) added ≤ 2
   stage_twice facts added adds = at_most (is_about (Stage run stage)) used_by_stage 2 moment
       stage_step
       (λ before. at_most_two (stage_start run stage before) (stage_end run stage before))
       facts added adds
+
+pub once : (moment : ℕ) (facts added : List Fact) → Adds moment facts added → IsOnce added
+once moment facts added adds = record {
+  job = λ run stage one. job_once run stage one moment facts added adds;
+  stage = λ run stage. stage_twice run stage moment facts added adds;
+}

@@ -1,33 +1,31 @@
 -- What is due of each kind.
-use Rattle.std.proofs.Common.{◌≡◌, ◌&&◌, ◌<◌, ℕ, Bool, true, false, List, Option, Some, None}
+use Rattle.std.proofs.Common.{◌≡◌, ◌&&◌, ℕ, Bool, true, false, List, Option, Some, None}
 use Rattle.std.proofs.Common.{is_some, is_none, refl, sym, ap, ◌∙◌, subst, inl, inr}
-use Rattle.std.specs.List.{All, Any, Contains}
+use Rattle.std.specs.List.{Contains}
 use Rattle.std.specs.Option.{option_map_or, option_or}
 use Rattle.std.specs.Prelude.{if◌then◌else◌, slice_get}
-use Rattle.pl_base.specs.declared.resource.ResourceKey.{ResourceKey}
 use Rattle.pl_facts.specs.declared.fact.Event.{Event}
 use Rattle.pl_facts.specs.declared.fact.Fact.{Fact}
 use Rattle.pl_facts.specs.declared.fact.QueuedRun.{QueuedRun}
-use Rattle.pl_journal.specs.Runs.{holding, job_end, job_ending, skipping, stage_end, stage_start}
+use Rattle.pl_journal.specs.Runs.{holding, job_end, job_ending, skipping, stage_end}
 use Rattle.pl_journal.specs.Runs.{taking}
-use Rattle.pl_locks.specs.Locks.{IsAt, IsNext, Locks, Shares}
+use Rattle.pl_locks.specs.Locks.{IsNext, Locks, Shares}
 use Rattle.pl_locks.specs.declared.contender.Contender.{Contender}
 use Rattle.pl_plan.specs.declared.plan.PlanJob.{PlanJob}
 use Rattle.pl_plan.specs.declared.plan.PlanStage.{PlanStage}
-use Rattle.pl_views.specs.Ready.{is_ready, job_is_ready}
+use Rattle.pl_views.specs.Ready.{job_is_ready}
 use Rattle.pl_due.specs.Checked.{exclusive_uses}
-use Rattle.pl_due.specs.Contention.{AreThose, Holds, IsContention, IsEligible, IsOne, contender_of}
-use Rattle.pl_due.specs.Due.{Among, GivesUp, IsDue, Next, Starts, Superseded}
+use Rattle.pl_due.specs.Contention.{Holds, IsContention, IsEligible, IsOne}
+use Rattle.pl_due.specs.Due.{Among, IsDue, Next, Superseded}
 use Rattle.pl_due.specs.Kinds.{Fails, IsDone, IsPassedOver, JobIsPassedOver, TimesOut}
 use Rattle.pl_due.specs.Least.{IsLeastOf}
 use Rattle.pl_due.specs.Nodes.{IsStageOf, awaits_agent, has_had, is_out_of_time, is_running}
-use Rattle.pl_due.specs.Nodes.{is_waiting}
 use Rattle.pl_due.proofs.Members.{any_of, of_member}
 use Rattle.pl_due.proofs.OneStage.{one_planned}
 use Rattle.pl_due.proofs.Standing.{first_of_two, is_nothing, running_open, second_of_two}
 use Rattle.pl_due.proofs.Standing.{waiting_open}
 use Rattle.pl_settling.specs.Gives.{Gives}
-use Rattle.pl_settling.specs.Laws.{Occupies, WasNext}
+use Rattle.pl_settling.specs.Laws.{WasNext}
 
 -- ---- jobs that haven't ended
 
@@ -40,7 +38,7 @@ unended : (run stage job : ℕ) (facts : List Fact) → job_ending run stage job
 unended run stage job facts h =
     or_none (job_end run stage job facts) (skipping run stage facts) h
 
-map_or_true : {X : Type 0} (f : X → Bool) (o : Option X) → option_map_or f o false ≡ true →
+pub map_or_true : {X : Type 0} (f : X → Bool) (o : Option X) → option_map_or f o false ≡ true →
     (x : X) × (o ≡ Some x) × (f x ≡ true)
 map_or_true f None h = absurd (cc)
 map_or_true f (Some x) h = (x, refl, h)

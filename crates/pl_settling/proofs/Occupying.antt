@@ -1,9 +1,8 @@
 -- Who holds exclusive resources behind one fact more.
 use Rattle.std.proofs.Common.{◌≡◌, ◌&&◌, ◌⊎◌, ℕ, Bool, true, false, cond, List, [], ◌∷◌, ◌++◌}
-use Rattle.std.proofs.Common.{Option, Some, None, is_some, is_none, refl, sym, ap, ◌∙◌, subst, inl}
+use Rattle.std.proofs.Common.{is_some, is_none, refl, sym, ap, ◌∙◌, subst, inl}
 use Rattle.std.proofs.Common.{inr, ⊎_elim}
 use Rattle.std.specs.List.{Contains, filter}
-use Rattle.std.specs.Option.{option_map_or, option_or}
 use Rattle.pl_base.specs.declared.resource.ResourceKey.{ResourceKey}
 use Rattle.pl_facts.specs.declared.fact.Event.{Event}
 use Rattle.pl_facts.specs.declared.fact.Event.TheVariants as event
@@ -12,7 +11,7 @@ use Rattle.pl_facts.specs.declared.fact.QueuedRun.{QueuedRun}
 use Rattle.pl_journal.specs.About.{is_about}
 use Rattle.pl_journal.specs.Kinds.{is_queueing, is_stage_end, is_start}
 use Rattle.pl_journal.specs.Runs.{queueing, run_told, stage_end, stage_start}
-use Rattle.pl_journal.specs.Settings.{by, resource, resource_set}
+use Rattle.pl_journal.specs.Settings.{by, resource}
 use Rattle.pl_log.specs.Keys.{Resource, Run, Stage, same_key}
 use Rattle.pl_log.proofs.Naming.{exact_key}
 use Rattle.pl_plan.specs.declared.plan.PlanStage.{PlanStage}
@@ -71,8 +70,8 @@ module _ (facts : List Fact) (one : Fact) (quiet : IsQuiet one) where
       let now_end = is_nothing (stage_end run stage (facts ++ one ∷ []))
       (second_of_two (is_some (stage_start run stage (facts ++ one ∷ [])))
       (is_none (stage_end run stage (facts ++ one ∷ []))) runs) in
-      let end = none_before (λ fact. is_about (Stage run stage) fact && is_stage_end fact.event) facts
-      one now_end in
+      let end = none_before (λ fact. is_about (Stage run stage) fact && is_stage_end fact.event)
+      facts one now_end in
       both (is_some (stage_start run stage facts)) (is_none (stage_end run stage facts))
       (ap is_some (sym start) ∙ now_start) (ap is_none end)
 
@@ -147,28 +146,50 @@ no_start : (b : Bool) → (b && false) ≡ false
 no_start true = refl
 no_start false = refl
 
+-- nothing that is due queues a run or sets a resource
+pub quiet_if : (facts : List Fact) (moment : ℕ) (one : Fact) → Gives facts moment one.event →
+    IsQuiet one
+quiet_if facts moment one is = go one.event refl is
+  where
+    go : (told : Event) → one.event ≡ told → Gives facts moment told → IsQuiet one
+    go (event.StageStarted run stage) e due =
+        record { run = λ number. rw e refl; resource = λ key. rw e refl }
+    go (event.StageEnded run stage outcome rule) e due =
+        record { run = λ number. rw e refl; resource = λ key. rw e refl }
+    go (event.JobEnded outcome reported stage job run rule outputs) e due =
+        record { run = λ number. rw e refl; resource = λ key. rw e refl }
+    go (event.FilePut file) e none = absurd none
+    go (event.FileRemoved key) e none = absurd none
+    go (event.PipelineSet told) e none = absurd none
+    go (event.ResourceSet told) e none = absurd none
+    go (event.PrincipalSet told) e none = absurd none
+    go (event.AgentSet told) e none = absurd none
+    go (event.RunQueued told) e none = absurd none
+    go (event.DecisionMade run stage approver approve) e none = absurd none
+    go (event.JobTaken run stage job agent) e none = absurd none
+    go (event.RunCanceled run) e none = absurd none
+
 -- every fact that is due keeps it
 pub keeps_one : (moment : ℕ) (facts : List Fact) (one : Fact) → one.moment ≡ moment →
     Gives facts moment one.event → HasOneHolder facts → HasOneHolder (facts ++ one ∷ [])
 keeps_one moment facts one at is holds = go one.event refl is
   where
+    quiet : IsQuiet one
+    quiet = quiet_if facts moment one is
+
     go : (told : Event) → one.event ≡ told → Gives facts moment told →
         HasOneHolder (facts ++ one ∷ [])
     go (event.StageStarted started place) e next =
-        one_more facts one
-        (record { run = λ number. rw e refl; resource = λ key. rw e refl })
-        moment started place next
+        one_more facts one quiet moment started place next
         (λ run stage. rw e (names_one started place run stage
         (same_key (Stage started place) (Stage run stage))
         (λ h. exact_key (Stage started place) (Stage run stage) h)))
         holds
     go (event.StageEnded run stage outcome rule) e ended =
-        still_one facts one
-        (record { run = λ number. rw e refl; resource = λ key. rw e refl })
+        still_one facts one quiet
         (λ r s. rw e (no_start (same_key (Stage run stage) (Stage r s)))) holds
     go (event.JobEnded outcome reported stage job run rule outputs) e ended =
-        still_one facts one
-        (record { run = λ number. rw e refl; resource = λ key. rw e refl })
+        still_one facts one quiet
         (λ r s. rw e refl) holds
     go (event.FilePut file) e none = absurd none
     go (event.FileRemoved key) e none = absurd none

@@ -1,9 +1,8 @@
 -- One fact more is added.
-use Rattle.std.proofs.Common.{◌≡◌, ◌≤◌, ℕ, List, [], ◌∷◌, ◌++◌, Some, None, refl, sym, ap, ◌∙◌}
-use Rattle.std.proofs.Common.{subst}
-use Rattle.std.specs.List.{All}
+use Rattle.std.proofs.Common.{◌≡◌, ◌<◌, ◌≤◌, ◌+◌, ◌-◌, ℕ, List, [], ◌∷◌, ◌++◌, Some, None, length}
+use Rattle.std.proofs.Common.{refl, sym, ap, ◌∙◌, subst, arith}
 use Rattle.std.specs.Prelude.{Err, Ok, OnErr, Result}
-use Rattle.std.proofs.lemmas.List.{append_assoc, append-nil}
+use Rattle.std.proofs.lemmas.List.{append_assoc, append-nil, length-append, length_push}
 use Rattle.std.proofs.lemmas.List.Elements.{All-append, All-cons, All-nil}
 use Rattle.pl_due.specs.Due.{IsDue}
 use Rattle.pl_due.specs.Fit.{AreFit, IsFit, last_moment}
@@ -11,9 +10,12 @@ use Rattle.pl_facts.specs.declared.fact.Event.{Event}
 use Rattle.pl_facts.specs.declared.fact.Event.TheVariants as event
 use Rattle.pl_facts.specs.declared.fact.Fact.{Fact}
 use Rattle.pl_journal.specs.Log.{Log}
+use Rattle.pl_settling.specs.Allowed.{allowed}
 use Rattle.pl_settling.specs.Gives.{Gives}
 use Rattle.pl_settling.specs.Settles.{Adds, Settles}
 use Rattle.pl_settling.proofs.Adding.{adds_more, fact, settles_so}
+use Rattle.pl_settling.proofs.Bounded.{bounded}
+use Rattle.pl_settling.proofs.Counting.{once}
 use Rattle.pl_settling.proofs.Giving.{gives}
 
 abbrev pub with_facts : Log → List Fact → Log
@@ -47,6 +49,23 @@ over moment start now (added, adds, is) none =
     let e : now.facts ≡ start.facts ++ added = ap (λ (l : Log). l.facts) is in
     let P : List Fact → Type 0 = λ fs. IsDue fs moment None in
     (added, settles_so moment start.facts added adds (subst P e none), is)
+
+-- how many more can come: what plans allow, without what was added so far
+abbrev pub left : Log → Log → ℕ
+left start now = allowed start.facts + length start.facts - length now.facts
+
+pub less_left : (moment : ℕ) (start now new : Log) (told : Event) → SoFar moment start now →
+    IsDue now.facts moment (Some told) →
+    new ≡ record now { facts = now.facts ++ fact moment told ∷ [] } →
+    left start new < left start now
+less_left moment start now new told so_far due grown =
+    let (added, adds, is) = one_more moment start now new told so_far due grown in
+    let most = bounded moment start.facts added (once moment start.facts added adds) adds in
+    let whole : length new.facts ≡ length start.facts + length added =
+    ap (λ (l : Log). length l.facts) is ∙ length-append start.facts added in
+    let one : length new.facts ≡ length now.facts + 1 =
+    ap (λ (l : Log). length l.facts) grown ∙ length_push now.facts (fact moment told) in
+    omega (arith, most, whole, one)
 
 -- what holds anyway holds after an error
 pub on_err : {X E : Type 0} (r : Result X E) (A : Type 0) → A → OnErr r A

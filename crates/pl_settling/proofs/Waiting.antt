@@ -1,17 +1,13 @@
 -- Where nothing is due, something keeps each stage waiting that is neither started nor ended.
-use Rattle.std.proofs.Common.{◌≡◌, ◌&&◌, ◌<◌, ◌⊎◌, ℕ, Bool, true, false, List, Option, Some, None}
-use Rattle.std.proofs.Common.{is_none, refl, sym, ap, ◌∙◌, subst, inl, inr, ◌∷◌}
-use Rattle.std.specs.List.{All, Any, Contains}
-use Rattle.pl_checks.specs.declared.view.Verdict.{Verdict}
-use Rattle.pl_facts.specs.declared.fact.Event.{Event}
+use Rattle.std.proofs.Common.{◌≡◌, ◌&&◌, ℕ, Bool, true, false, List, Option, Some, None}
+use Rattle.std.proofs.Common.{is_none, refl, ap, ◌∙◌, subst, inl, inr}
+use Rattle.std.specs.List.{Contains}
 use Rattle.pl_facts.specs.declared.fact.Fact.{Fact}
-use Rattle.pl_facts.specs.declared.fact.QueuedRun.{QueuedRun}
 use Rattle.pl_journal.specs.Runs.{stage_end, stage_start}
 use Rattle.pl_judgement.specs.Said.{all_pass, first_fail, first_wait}
 use Rattle.pl_judgement.proofs.Asking.{passing}
-use Rattle.pl_locks.specs.Locks.{IsAt, IsBehind, IsHeld, IsSuperseded, Locks, MayStart}
+use Rattle.pl_locks.specs.Locks.{IsBehind, IsHeld, IsSuperseded, Locks, MayStart}
 use Rattle.pl_locks.specs.declared.contender.Contender.{Contender}
-use Rattle.pl_plan.specs.declared.plan.PlanStage.{PlanStage}
 use Rattle.pl_results.specs.declared.members.PlanNode.TheVariants.{Stage}
 use Rattle.pl_rules.specs.declared.rule.Rule.{Rule}
 use Rattle.pl_views.specs.Ready.{is_ready}

@@ -25,11 +25,10 @@ pub fn settle(alloc: Global, journal: &mut IndexedJournal, moment: Moment) -> Re
         (journal.new ≡ record journal.old { facts = journal.old.facts ++ added })) }
     ensures fit { AreFit journal.new.facts }
 {
-    for _turn in 0..u64::MAX {
+    loop {
         match due(alloc, journal, moment)? {
             Some(event) => journal.push(Fact { moment, event })?,
             None => return Ok(()),
         }
     }
-    Err(Memory)
 }

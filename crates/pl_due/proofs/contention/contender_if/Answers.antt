@@ -4,12 +4,12 @@ use Rattle.pl_due.specs.Asked.{facts_of}
 use Rattle.pl_due.proofs.Picking.{not_picked, picked_one}
 use Rattle.pl_due.proofs.contention.contender_if.Goals as goal
 
-pub returns-in_ok-contender : goal.returns-in_ok-contender
-returns-in_ok-contender g c =
+pub returns-in_ok-one : goal.returns-in_ok-one
+returns-in_ok-one g c =
     let at = c.args.at.now in
     picked_one (facts_of at) (g.H.Holding.of c.args.holding.now (facts_of at) at.moment)
-    at.queued.now at.planned.now at.run at.stage c.requires.there c.in_ok-contender.field-0
-    (c.in_ok-holds.ensures.0 c.if-branch.true) c.in_ok-contender.ensures
+    at.queued.now at.planned.now at.run at.stage c.requires.there c.in_ok-one.one
+    (c.in_ok-holds.ensures.0 c.if-branch.true) c.in_ok-one.ensures
 
 pub returns-else-branch : goal.returns-else-branch
 returns-else-branch g c =

@@ -9,7 +9,8 @@ use Rattle.pl_due.proofs.Ranges.{first_here, none_at_all, none_yet}
 use Rattle.pl_due.proofs.jobs.first_false.Goals as goal
 
 pub overflow_cast-job-end : goal.overflow_cast-job-end
-overflow_cast-job-end c = omega (arith, c.len-job-end.ensures, few_jobs_at c.args.at.now c.requires.asked)
+overflow_cast-job-end c =
+    omega (arith, c.len-job-end.ensures, few_jobs_at c.args.at.now c.requires.asked)
 
 pub loop-job-init : goal.loop-job-init
 loop-job-init c = λ job below.

@@ -19,7 +19,8 @@ overflow_cast-job c = omega (
 pub loop-job-preserved : goal.loop-job-preserved
 loop-job-preserved c =
     let at = c.args.at.now in
-    let made : ℕ → Option Outcome = λ job. by outcome_told (job_ending at.run at.stage job (facts_of at)) in
+    let made : ℕ → Option Outcome =
+    λ job. by outcome_told (job_ending at.run at.stage job (facts_of at)) in
     elim c.match-outcome_at.branch [
       | in-Some+in_ok-push w ↦
           made_some made c.loop-job.job w.in-Some.outcome c.loop-job.all c.match-outcome_at.all

@@ -1,8 +1,6 @@
-use Rattle.std.proofs.Common.{◌<◌, ◌≡◌, ◌^◌, ◌++◌, length, ap, arith, sym, ◌∙◌, Option}
-use Rattle.std.specs.Option.{option_map_or}
-use Rattle.pl_facts.specs.declared.fact.QueuedRun.{QueuedRun}
+use Rattle.std.proofs.Common.{◌++◌, length, ap, arith, sym, ◌∙◌}
 use Rattle.pl_plan.specs.declared.plan.Compiled.{Compiled}
-use Rattle.pl_due.specs.Open.{open_among, open_of_run}
+use Rattle.pl_due.specs.Open.{open_among}
 use Rattle.pl_due.proofs.Fits.{few_stages}
 use Rattle.pl_due.proofs.Opened.{no_run, of_told}
 use Rattle.pl_due.proofs.open_stages.push_run.Goals as goal

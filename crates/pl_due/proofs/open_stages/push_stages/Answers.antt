@@ -1,7 +1,6 @@
-use Rattle.std.proofs.Common.{◌++◌, length, ap, arith, sym, ◌∙◌}
+use Rattle.std.proofs.Common.{sym, ◌∙◌}
 use Rattle.std.proofs.lemmas.List.{append-nil}
 use Rattle.pl_journal.specs.Runs.{stage_end}
-use Rattle.pl_due.specs.Open.{open_among}
 use Rattle.pl_due.proofs.Ranges.{opened_none, opened_some}
 use Rattle.pl_due.proofs.Standing.{none_when, some_by}
 use Rattle.pl_due.proofs.open_stages.push_stages.Goals.{then-is_none+in_ok-push, else-is_none}

@@ -1,5 +1,5 @@
 use Rattle.std.proofs.Common.{◌≡◌, [], map, take, drop}
-use Rattle.pl_frame.specs.Repeats.{double_in}
+use Rattle.pl_frame.specs.Doubles.{double_in}
 use Rattle.pl_frame.proofs.doubles.double_by_search.Given as goal
 
 abbrev pub invariant-loop-at : goal.invariant-loop-at

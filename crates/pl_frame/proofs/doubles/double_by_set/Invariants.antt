@@ -4,7 +4,7 @@ use Rattle.std.specs.Ordering.{nat_cmp}
 use Rattle.std.specs.Cmp.Lexicographic.{slice_cmp}
 use Rattle.std.specs.BTreeSet.{contains}
 use Rattle.pl_base.specs.Texts.{is}
-use Rattle.pl_frame.specs.Repeats.{double_in}
+use Rattle.pl_frame.specs.Doubles.{double_in}
 use Rattle.pl_frame.proofs.doubles.double_by_set.Given as goal
 
 abbrev pub invariant-loop-pair : goal.invariant-loop-pair

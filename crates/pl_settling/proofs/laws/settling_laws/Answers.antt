@@ -1,11 +1,12 @@
-use Rattle.std.proofs.Common.{ℕ, List, ◌≡◌, sym, subst}
+use Rattle.std.proofs.Common.{ℕ, List, sym, subst}
 use Rattle.pl_facts.specs.declared.fact.Event.{Event}
 use Rattle.pl_facts.specs.declared.fact.Event.TheVariants as event
 use Rattle.pl_facts.specs.declared.fact.Fact.{Fact}
 use Rattle.pl_settling.specs.Gives.{Gives}
 use Rattle.pl_settling.specs.Laws.{HasOneHolder, NextIfStart, StartsAsNext}
 use Rattle.pl_settling.proofs.Adding.{holds_along, kept_along, one_settling}
-use Rattle.pl_settling.proofs.Counting.{job_once, stage_twice}
+use Rattle.pl_settling.proofs.Bounded.{bounded}
+use Rattle.pl_settling.proofs.Counting.{once}
 use Rattle.pl_settling.proofs.Occupying.{keeps_one}
 use Rattle.pl_settling.proofs.Waiting.{no_gap}
 use Rattle.pl_settling.proofs.laws.settling_laws.Goals as goal
@@ -41,10 +42,11 @@ returns-clause-no_gap c = λ moment facts none run stage gap.
     no_gap facts moment run stage gap none
 
 pub returns-clause-once : goal.returns-clause-once
-returns-clause-once c = λ moment facts added adds. record {
-  job = λ run stage one. job_once run stage one moment facts added adds;
-  stage = λ run stage. stage_twice run stage moment facts added adds;
-}
+returns-clause-once c = once
+
+pub returns-clause-bounded : goal.returns-clause-bounded
+returns-clause-bounded c = λ moment facts added adds.
+    bounded moment facts added (once moment facts added adds) adds
 
 pub returns-clause-one : goal.returns-clause-one
 returns-clause-one c = λ moment facts left right. one_settling

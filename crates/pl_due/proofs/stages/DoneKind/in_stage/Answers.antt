@@ -1,4 +1,4 @@
-use Rattle.std.proofs.Common.{Option, None, ap, sym, ◌∙◌}
+use Rattle.std.proofs.Common.{None, ap, sym, ◌∙◌}
 use Rattle.pl_facts.specs.declared.fact.Event.TheVariants.{StageEnded}
 use Rattle.pl_results.specs.Combining.{combined}
 use Rattle.pl_due.specs.Asked.{facts_of}

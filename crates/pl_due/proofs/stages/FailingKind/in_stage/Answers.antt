@@ -1,4 +1,4 @@
-use Rattle.std.proofs.Common.{ap, sym, ◌∙◌}
+use Rattle.std.proofs.Common.{sym, ◌∙◌}
 use Rattle.pl_views.specs.CheckViews.{check_view}
 use Rattle.pl_due.specs.Asked.{facts_of}
 use Rattle.pl_due.specs.Checked.{all_checks}
@@ -20,7 +20,8 @@ returns-in_ok-fail_end-in-Some c =
     (check_view at.queued.now at.planned.now at.run at.stage facts) at.moment)
     c.in_ok-judgement.field-0
     c.in_ok-judgement.ensures c.in-Some.rule c.in_ok-fail_end-in-Some.field-0
-    (sym c.is_waiting.ensures ∙ c.if-not-is_waiting.false) (sym c.in-Some.ensures) c.in_ok-fail_end-in-Some.ensures
+    (sym c.is_waiting.ensures ∙ c.if-not-is_waiting.false) (sym c.in-Some.ensures)
+    c.in_ok-fail_end-in-Some.ensures
 
 pub returns-in-None : goal.returns-in-None
 returns-in-None c =
