@@ -10,6 +10,7 @@ use pl_checks::{Check, matches};
 use std::alloc::Global;
 
 /// Questions on checks, zones and locks.
+#[derive(Drop)]
 pub struct Rules;
 
 impl Questions for Rules {

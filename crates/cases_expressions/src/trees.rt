@@ -110,7 +110,7 @@ fn push_expr(alloc: Global, out: &mut Answers, expr: &Expr) {
             out.push("}")
         }
         Expr::Call(function, arguments) => {
-            out.push("(")?;
+            out.push("(");
             out.push(function.name());
             push_arguments(alloc, out, arguments);
             out.push(")")

@@ -27,7 +27,7 @@ pub fn value_of(alloc: Global, text: &str) -> Result<Value, Memory> {
 fn letters(alloc: Global, count: u32) -> Result<Value, Memory> {
     let mut content = Text::new(alloc);
     for _ in 0..count {
-        content.push_str("x");
+        content.push_str("x")?;
     }
     Ok(Value::Str(content))
 }
