@@ -7,6 +7,7 @@ use pl_cases::Answers;
 use std::alloc::Global;
 
 /// What all runs of a case share: the words, the input, and what the whole run writes.
+#[derive(Clone, Copy)]
 pub struct Asked<'t> {
     pub words: &'t [String],
     pub input: &'t [u8],

@@ -42,8 +42,8 @@ impl io::Write for Interrupted {
 }
 
 /// How many bytes a call moved, or 99 where it failed.
-fn moved(result: Result<usize, Failed>) -> u64 {
-    match result {
+fn moved(outcome: Result<usize, Failed>) -> u64 {
+    match outcome {
         Ok(count) => count as u64,
         Err(_) => 99,
     }

@@ -72,7 +72,7 @@ fn sink(alloc: Global, outside: Outside) -> Result<MemSink, Memory> {
 }
 
 /// An outside that has this input to give, at the first moment of 2024.
-pub fn outfit(alloc: Global, input: &[u8], outside: Outside) -> Result<InMemory, Memory> {
+pub fn outside_of(alloc: Global, input: &[u8], outside: Outside) -> Result<InMemory, Memory> {
     let source = source(alloc, input, outside)?;
     let sink = sink(alloc, outside)?;
     Ok(InMemory {

@@ -1,6 +1,6 @@
 //! Runs of the program, and what is told of them.
 
-use crate::outside::{InMemory, Outside, in_pieces, outfit};
+use crate::outside::{InMemory, Outside, in_pieces, outside_of};
 use pl_base::Memory;
 use pl_cases::Answers;
 use pl_commands::run;
@@ -27,7 +27,7 @@ pub fn ran(
     outside: Outside,
     written: &mut Vec<u8>,
 ) -> Result<u8, Memory> {
-    let mut outfit = outfit(alloc, input, outside)?;
+    let mut outfit = outside_of(alloc, input, outside)?;
     run_in(alloc, words, &mut outfit, written)
 }
 

@@ -1,24 +1,22 @@
-//! Reads scripts of facts and look-ups, and writes what each look-up finds. The form of the scripts
-//! stands at their head.
+//! Plays scripts of facts and look-ups, and writes what each look-up of the journal finds. The form
+//! of the scripts stands at their head.
 #![tactic(auto)]
 
-mod facts;
 mod jobs;
-mod lines;
+mod looking;
 mod runs;
-mod scripts;
 mod settings;
-mod shown;
 
-use crate::scripts::play_all;
-use pl_base::Text;
+use crate::looking::LookUps;
+use pl_scripts::{Answers, play_all};
 use std::io;
 
 fn main(rt: HostRuntime) -> io::Result<()> {
     let scripts = io::read_to_string(rt.alloc(), rt.reader())?;
-    let mut out = Text::new(rt.alloc());
-    if play_all(rt.alloc(), &mut out, scripts.as_str()).is_err() {
-        return Err(io::Error::from(io::ErrorKind::OutOfMemory));
+    let mut out = Answers::new(rt.alloc());
+    play_all(&mut out, &LookUps, scripts.as_str());
+    match out.text() {
+        Ok(text) => print!(rt; "{text}"),
+        Err(_) => Err(io::Error::from(io::ErrorKind::OutOfMemory)),
     }
-    print!(rt; "{}", out.as_str())
 }

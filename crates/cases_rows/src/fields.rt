@@ -1,40 +1,29 @@
 use crate::bytes::{put_all, put_hex, put_long, put_text};
-use pl_base::{Bytes, List, Memory, Row};
-use std::alloc::Global;
+use pl_base::{Bytes, Memory, Row};
 
-/// The row of a line `TABLE | KEY | BODY`, or None where the line is none.
-pub fn row_of(alloc: Global, line: &str) -> Result<Option<Row>, Memory> {
+/// Puts the row of a line `TABLE | KEY | BODY`; false where the line is none.
+pub fn put_row(row: &mut Row, line: &str) -> Result<bool, Memory> {
     let Some((table, rest)) = line.split_once(" |") else {
-        return Ok(None);
+        return Ok(false);
     };
     let Some((key, body)) = rest.split_once(" |") else {
-        return Ok(None);
+        return Ok(false);
     };
-    match table.parse::<u8>() {
-        Ok(table) => row_from(alloc, table, key, body),
-        Err(_) => Ok(None),
-    }
+    let Ok(table) = table.parse::<u8>() else {
+        return Ok(false);
+    };
+    row.table = table;
+    Ok(put_fields(&mut row.key, key)? && put_fields(&mut row.body, body)?)
 }
 
-fn row_from(alloc: Global, table: u8, key: &str, body: &str) -> Result<Option<Row>, Memory> {
-    let Some(key) = fields_of(alloc, key)? else {
-        return Ok(None);
-    };
-    let Some(body) = fields_of(alloc, body)? else {
-        return Ok(None);
-    };
-    Ok(Some(Row { table, key, body }))
-}
-
-/// The bytes of fields that commas part, or None where one is none.
-fn fields_of(alloc: Global, fields: &str) -> Result<Option<Bytes>, Memory> {
-    let mut bytes = List::new(alloc);
+/// Puts fields that commas part; false where one is none.
+fn put_fields(out: &mut Bytes, fields: &str) -> Result<bool, Memory> {
     for field in fields.split(',') {
-        if !put_field(&mut bytes, field)? {
-            return Ok(None);
+        if !put_field(out, field)? {
+            return Ok(false);
         }
     }
-    Ok(Some(bytes))
+    Ok(true)
 }
 
 /// Puts a field behind those that are there; false where it is none.

@@ -4,17 +4,17 @@
 
 mod alone;
 mod buffer;
+mod commands;
 mod laws;
 mod outfit;
 mod real;
 mod replay;
-mod run;
 mod served;
 mod serving;
 mod status;
 
+pub use commands::run;
 pub use laws::{one_stream, rests_are_open, whole_input_finishes};
 pub use outfit::Outfit;
 pub use real::{Process, Reading, SystemClock, Writing};
-pub use run::run;
 pub use status::Status;

@@ -1,3 +1,1 @@
-mod fields;
 mod keepers;
-mod trips;

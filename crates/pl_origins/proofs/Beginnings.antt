@@ -55,6 +55,7 @@ use Rattle.pl_directives.specs.declared.region.Form.{Form}
 use Rattle.pl_directives.specs.Regions.{under, is_path, call_form, inside, of_item}
 use Rattle.pl_directives.specs.Scalars.{scalar_by, scalar_value}
 use Rattle.pl_directives.specs.Strays.{told, key_stray, unless_stray, given_value}
+use Rattle.pl_reading.specs.Steps.{◌>>=◌}
 use Rattle.pl_calls.specs.Meant.{◌>>>◌, alone}
 use Rattle.pl_calls.specs.Parts.{Body}
 use Rattle.pl_recursion.specs.Expanding.{Filling, Shape, Part, Entry, scalar, sequence, mapping}
@@ -419,18 +420,27 @@ spread_items (layer.Version segments) scope node progress used has =
 spread_items (layer.Str text) scope node progress used has =
     add_item_items scope node progress used has
 
+empty_items : (found : Result Counted ExpandFault) (scope : Scope) (progress : Progress)
+    (used : List FileKey) → OfItems progress →
+    IfOk (found >>= λ one.
+    add_item scope one.node (with_chain Closed (with_count one.count progress)) used)
+    (λ both. OfItems both.0)
+empty_items found scope progress used has =
+    any_then (λ both. OfItems both.0) found _
+    (λ one. add_item_items scope one.node (with_chain Closed (with_count one.count progress)) used
+    has)
+
 mapping_items : (manner : Manner) (fill : Filling) (place : Place) →
     KeepsItems (mapping_behind manner fill place)
 mapping_items Empty fill place scope progress used has =
-    any_then (λ (both : Progress × List FileKey). OfItems both.0)
-    (finished (literal_at scope.frame place) (begun kind.Pairs Closed progress.count)) _
-    (λ one. add_item_items scope one.node (with_chain Closed (with_count one.count progress)) used
-    has)
+    empty_items
+    (finished (literal_at scope.frame place) (begun kind.Pairs Closed progress.count)) scope
+    progress used has
 mapping_items Stays fill place scope progress used has =
     any_after OfItems
     (fill (in_region (of_item scope.region) scope)
     (begun kind.Pairs progress.chain progress.count) used) _
-    (λ inner later. any_then (λ (both : Progress × List FileKey). OfItems both.0)
+    (λ inner later. any_then (λ both. OfItems both.0)
     (finished (literal_at scope.frame place) inner) _
     (λ one. add_item_items scope one.node (with_chain inner.chain (with_count inner.count progress))
     later has))
@@ -444,7 +454,7 @@ mapping_items (Unclosed key) fill place scope progress used has = tt
 
 item_items : (shape : Shape) (place : Place) → KeepsItems (item_by shape place)
 item_items (scalar text) place scope progress used has =
-    any_then (λ (both : Progress × List FileKey). OfItems both.0)
+    any_then (λ both. OfItems both.0)
     (given_value text scope.frame place progress.count (of_item scope.region) None) _
     (λ one. any_after OfItems (node_settling one.node scope one.count used) _
     (λ one later. spread_items (out-Value one.node.value) scope one.node
