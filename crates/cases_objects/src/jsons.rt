@@ -1,7 +1,7 @@
 //! JSON as replies write it.
 
-use crate::answers::Answers;
 use pl_base::Memory;
+use pl_cases::Answers;
 use pl_json::Json;
 use pl_requests::{Body, Reply};
 use pl_wire::reply_bytes;
@@ -34,14 +34,6 @@ fn put_json(alloc: Global, out: &mut Answers, json: Json) {
 pub fn put_made(alloc: Global, out: &mut Answers, made: Result<Json, Memory>) {
     match made {
         Ok(json) => put_json(alloc, out, json),
-        Err(_) => out.fail(),
-    }
-}
-
-/// Writes a number.
-pub fn put_number(alloc: Global, out: &mut Answers, number: u64) {
-    match number.to_string(alloc) {
-        Ok(digits) => out.push(digits.as_str()),
         Err(_) => out.fail(),
     }
 }

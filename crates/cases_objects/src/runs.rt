@@ -1,10 +1,10 @@
 //! Jobs as agents get them, and runs as replies show them.
 
-use crate::answers::Answers;
 use crate::files::compiled;
 use crate::jsons::put_made;
 use crate::statuses::status_of;
 use pl_base::{List, Memory, Refusal, Shared, Text};
+use pl_cases::Answers;
 use pl_compile::CompileFault;
 use pl_facts::QueuedRun;
 use pl_json::Json;

@@ -1,55 +1,13 @@
-//! Sizes of requests and of entries.
+//! Sizes of entries.
 
-use crate::answers::Answers;
 use crate::files::compiled;
-use crate::jsons::put_number;
 use crate::runs::queued;
 use pl_base::{Digest, ExactCopy, List, Memory, Shared};
-use pl_facts::{Entry, Event, Fact, facts_size, fits, size_of, size_with};
+use pl_cases::Answers;
+use pl_facts::{Entry, Event, Fact, facts_size, fits, size_of};
 use pl_plan::Compiled;
 use pl_requests::{Call, Request, is_well_formed};
-use pl_wire::{Message, Next, next_request};
 use std::alloc::Global;
-
-/// The message of a request line's front and a content.
-fn message_of(alloc: Global, line: &str) -> Result<Vec<u8>, Memory> {
-    let (front, content) = line.split_once(" < ").unwrap_or((line, ""));
-    let len = content.len();
-    let text = format!(in alloc; "{front} HTTP/1.1\r\nContent-Length: {len}\r\n\r\n{content}")?;
-    Ok(text.into_bytes())
-}
-
-fn put_message(alloc: Global, out: &mut Answers, message: &Message) {
-    match message {
-        Message::Ask { caller: _, request } => {
-            put_number(alloc, out, size_with(request, &[]));
-        }
-        Message::Refused(_) => out.push("refused"),
-    }
-}
-
-fn put_next(alloc: Global, out: &mut Answers, next: &Next) {
-    match next {
-        Next::Whole { taken: _, message } => put_message(alloc, out, message),
-        Next::Partial => out.push("partial"),
-        Next::Bad(_) => out.push("bad"),
-    }
-}
-
-fn answer_bytes(alloc: Global, out: &mut Answers, bytes: &[u8]) {
-    match next_request(alloc, bytes) {
-        Ok(next) => put_next(alloc, out, &next),
-        Err(_) => out.fail(),
-    }
-}
-
-/// Writes how large a request is that no fact comes with.
-pub fn answer_request(alloc: Global, out: &mut Answers, line: &str) {
-    match message_of(alloc, line) {
-        Ok(bytes) => answer_bytes(alloc, out, bytes.as_slice()),
-        Err(_) => out.fail(),
-    }
-}
 
 fn run_queued(alloc: Global, compiled: Compiled) -> Result<List<Fact>, Memory> {
     let run = Shared::new(alloc, queued(alloc, compiled)?)?;
@@ -91,7 +49,7 @@ fn copied_size(alloc: Global, facts: &List<Fact>) -> Result<u64, Memory> {
 
 fn put_copied(alloc: Global, out: &mut Answers, facts: &List<Fact>) {
     match copied_size(alloc, facts) {
-        Ok(size) => put_number(alloc, out, size),
+        Ok(size) => out.number(alloc, size),
         Err(_) => out.fail(),
     }
 }
@@ -107,7 +65,7 @@ fn put_flag(out: &mut Answers, flag: bool) {
 
 fn put_entry(alloc: Global, out: &mut Answers, entry: &Entry) {
     let size = size_of(entry);
-    put_number(alloc, out, size);
+    out.number(alloc, size);
     let most = u32::try_from(size).unwrap_or(u32::MAX);
     let facts = entry.facts.as_slice();
     out.push(", fits:");
