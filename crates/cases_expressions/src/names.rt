@@ -1,12 +1,13 @@
-ghost use Rattle.std.specs.Prelude.{◌≡◌, List as list, ℕ, Bool, map, IfOk};
+ghost use Rattle.std.specs.Prelude.{◌≡◌, List as list, ℕ, Bool, map, IfOk, Some};
 ghost use Rattle.std.specs.List.{list_all, list_any};
 ghost use Rattle.std.specs.FinMap as finite;
 ghost use Rattle.pl_base.specs.declared.outcome.Outcome.{Outcome as Ended};
+ghost use Rattle.pl_eval.specs.LookUps.{found_behind, part_of};
 ghost use Rattle.pl_eval.specs.Statuses.{went_well, went_wrong, was_run, result_named};
 ghost use Rattle.pl_eval.specs.Statuses.{results_named};
 ghost use Rattle.pl_base.specs.Folding.{folded};
 
-use pl_base::{List, MarkedPair, Memory, Outcome, Text, Value};
+use pl_base::{List, MarkedNode, MarkedPair, Memory, Outcome, Text, Value};
 use pl_budgets::Meter;
 use pl_eval::{Names, RootPart, is_named, part_behind, place_of};
 use pl_expr::Function;
@@ -38,10 +39,7 @@ impl Names for MemNames {
 
     fn part(&self, alloc: Global, root: &Text, path: &[Value]) -> Result<RootPart, Memory> {
         match place_of(&self.roots, root) {
-            Some(place) => {
-                let meter = Meter::new(alloc)?;
-                part_behind(alloc, &meter, &self.roots.as_slice()[place].item, path)
-            }
+            Some(place) => part_in(alloc, &self.roots.as_slice()[place].item, path),
             None => Ok(RootPart::NoRoot),
         }
     }
@@ -61,6 +59,14 @@ impl Names for MemNames {
             _ => !self.canceled && (names.is_empty() || one_named_run(&self.named, names)),
         }
     }
+}
+
+/// The part of a root's value that a path finds, with a meter of its own.
+fn part_in(alloc: Global, node: &MarkedNode, path: &[Value]) -> Result<RootPart, Memory>
+    ensures { IfOk result (λ part. part ≡ part_of (Some (found_behind path.now node.now))) }
+{
+    let meter = Meter::new(alloc)?;
+    part_behind(alloc, &meter, node, path)
 }
 
 fn is_well(ended: Option<Outcome>) -> bool
