@@ -2,7 +2,7 @@
 
     python3 bench/hostile/mutate.py PROGRAM SECONDS [SEED]
 
-The seeds are the small shapes and the cases of bundles. What is over is kept in a folder that is named at the end, and the status is 1
+The seeds are the small shapes that are within the goal and the cases of bundles. What is over is kept in a folder that is named at the end, and the status is 1
 then."""
 
 import glob
@@ -15,7 +15,7 @@ import time
 
 from measure import over
 from measured import measure
-from shapes import ALL
+from shapes import ALL, OVER
 
 HERE = os.path.dirname(os.path.abspath(__file__))
 TOP = os.path.dirname(os.path.dirname(HERE))
@@ -24,7 +24,7 @@ WORDS = ["${{ parameters.a }}", "${{ each x in parameters.l }}:", "${{ if 1 }}:"
 
 def seeds():
     """Texts of bundles."""
-    found = [written() for _name, written, _statuses, seed, _wanted in ALL if seed]
+    found = [written() for name, written, _statuses, seed, _wanted in ALL if seed and name not in OVER]
     for path in sorted(glob.glob(f"{TOP}/crates/cases_bundles/data/*.cases")):
         with open(path, encoding="utf-8", errors="replace") as file:
             for part in file.read().split("%%% case ")[1:]:
