@@ -10,42 +10,10 @@ WHOLE = 67_108_864  # bytes of a bundle
 ALL = []
 OVER = frozenset(
     """
-    a-text-that-doubles-from-level-to-level
-    a-key-that-doubles-from-level-to-level
-    texts-of-65530-bytes-20000-times
-    texts-in-upper-case-of-65530-bytes-20000-times
-    joined-texts-of-130000-bytes-20000-times
-    a-literal-of-100000-bytes-in-20000-turns
-    a-key-of-100000-bytes-in-20000-turns
-    a-scalar-of-10000-pieces-of-65530-bytes
-    a-key-of-10000-pieces-of-65530-bytes
-    a-default-of-200000-bytes-in-14000-calls
-    a-default-of-100000-nodes-open-at-100-levels
-    a-default-of-100000-nodes-in-14000-calls
-    conditions-that-split-65536-bytes-in-17000-turns
-    conditions-that-split-what-a-default-repeats
-    conditions-that-replace-in-65536-bytes-in-17000-turns
-    conditions-that-seek-in-200000-bytes-in-5000-turns
-    length-of-50000-items-often
-    value-contained-in-50000-items-often
-    whole-parameter-equal-to-itself-often
-    whole-parameter-among-others-often
-    whole-parameters-formatted
-    whole-parameter-joined-often
-    projections-of-50000-items-often
-    a-condition-of-100000-bytes-in-20000-turns
-    a-condition-of-10000-ors-in-20000-turns
-    elseifs-that-split-65536-bytes
-    names-5000-declared-in-7000-calls
-    values-of-10000-allowed-ones-in-7000-calls
-    conditions-that-split-at-20000-characters-in-5000-turns
-    names-sought-through-50-loops-in-20000-turns
-    an-elseif-of-100000-bytes-behind-a-taken-branch-in-20000-turns
-    a-plain-path-of-200000-bytes-called-in-10000-turns
-    a-condition-of-200000-bytes-on-100-legs
-    late-values-of-200000-bytes-on-100-legs
-    demands-20000-on-100-legs
-    all-at-once-in-67108863-bytes
+    arguments-1000-with-long-names-in-20000-turns
+    the-last-of-1000-parameters-with-long-names-in-20000-turns
+    the-last-of-1500-long-keys-in-15000-turns
+    the-last-of-1500-variables-with-long-names-in-15000-turns
     """.split()
 )
 
@@ -402,6 +370,44 @@ def values_of_10000_allowed_ones_in_7000_calls():
 def the_last_of_5000_parameters_in_20000_turns():
     declared = "".join(f"- {{name: p{n}, default: a}}\n" for n in range(5_000))
     return bundle(looped(20_000, "- script: ${{ parameters.p4999 }}", declared))
+
+
+@shape(8)
+def names_1000_declared_in_7000_calls():
+    text = "parameters:\n" + "".join(f"- {{name: p{n}, default: a}}\n" for n in range(1_000)) + "steps:\n- script: a\n"
+    return bundle("steps:\n" + CALL * 7_000, ("/t.yml", text))
+
+
+@shape(8)
+def arguments_1000_with_long_names_in_20000_turns():
+    text = "parameters:\n" + "".join(f"- name: {'p' * 95}{n:04}\n" for n in range(1_000)) + "steps:\n- script: a\n"
+    given = ",".join(f"{'P' * 95}{n:04}: a" for n in reversed(range(1_000)))
+    return bundle(looped(20_000, f"- template: t.yml\n    parameters: {{{given}}}"), ("/t.yml", text))
+
+
+@shape(8)
+def the_last_of_1000_parameters_with_long_names_in_20000_turns():
+    declared = "".join(f"- {{name: {'p' * 95}{n:04}, default: a}}\n" for n in range(999))
+    return bundle(looped(20_000, f"- script: ${{{{ parameters.{'p' * 95}0998 }}}}", declared))
+
+
+@shape(8)
+def the_last_of_1500_variables_with_long_names_in_15000_turns():
+    variables = "variables:\n" + "".join(f"  {'v' * 90}{n:04}: a\n" for n in range(1_500))
+    return bundle(looped(15_000, f"- script: ${{{{ variables.{'v' * 90}1499 }}}}", variables))
+
+
+@shape(8)
+def the_last_of_1500_long_keys_in_15000_turns():
+    declared = "- name: o\n  type: object\n  default: {" + ",".join(f"{'k' * 90}{n:04}: a" for n in range(1_500)) + "}\n"
+    return bundle(looped(15_000, f"- script: ${{{{ parameters.o.{'k' * 90}1499 }}}}", declared))
+
+
+@shape(8)
+def the_last_of_1000_repositories_with_long_names_in_20000_turns():
+    aliases = "".join(f"  - {{repository: {'r' * 90}{n:04}, name: b}}\n" for n in range(1_000))
+    text = bundle(f"resources:\n  repositories:\n{aliases}" + looped(20_000, f"- template: t.yml@{'r' * 90}0999"))
+    return text + "%%% b refs/heads/main /t.yml\nsteps:\n- script: a\n"
 
 
 @shape(8)
