@@ -8,14 +8,7 @@ FILE = 262_144  # bytes of a file
 TEXT = 65_536  # bytes of a text that a function makes
 WHOLE = 67_108_864  # bytes of a bundle
 ALL = []
-OVER = frozenset(
-    """
-    arguments-1000-with-long-names-in-20000-turns
-    the-last-of-1000-parameters-with-long-names-in-20000-turns
-    the-last-of-1500-long-keys-in-15000-turns
-    the-last-of-1500-variables-with-long-names-in-15000-turns
-    """.split()
-)
+OVER = frozenset()
 
 
 def shape(*statuses, seed=True, wanted=None):
@@ -775,10 +768,10 @@ def near_all_work_by_conditions():
     return bundle(looped(560, "- ${{ if eq(length(split(parameters.t, ',')), 0) }}:\n    - script: a", with_text(8_000)) + "- script: b\n")
 
 
-@near(*["app refs/heads/main /t.yml:203:3 via include"] * 1_000)
-def near_all_work_by_1000_calls_of_200_parameters():
+@near(*["app refs/heads/main /t.yml:203:3 via include"] * 900)
+def near_all_work_by_900_calls_of_200_parameters():
     text = "parameters:\n" + "".join(f"- {{name: p{n}, default: a}}\n" for n in range(200)) + "steps:\n- script: a\n"
-    return bundle("steps:\n" + CALL * 1_000, ("/t.yml", text))
+    return bundle("steps:\n" + CALL * 900, ("/t.yml", text))
 
 
 @near(*[f"app refs/heads/main /t{n}.yml:2:3 via include" for n in range(31)], seed=False)

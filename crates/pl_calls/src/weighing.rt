@@ -29,14 +29,50 @@ fn work_of_declaring(node: Option<&Node>) -> u64 {
     }
 }
 
-/// Each name of a declaration is compared with those before it.
+/// Each name of a declaration is compared with those before it: half the square of how many there
+/// are, and 1 for each eight of their bytes and each other name.
 fn work_of_comparing(node: &Node) -> u64 {
-    let count = match &node.body {
-        NodeBody::Scalar(_) => 0,
-        NodeBody::Seq(items) => items.len(),
-        NodeBody::Map(pairs) => pairs.len(),
-    } as u64;
-    count.saturating_mul(count) / 2
+    let (count, bytes) = match &node.body {
+        NodeBody::Scalar(_) => (0, 0),
+        NodeBody::Seq(items) => (items.len(), bytes_of_names(items)),
+        NodeBody::Map(pairs) => (pairs.len(), bytes_of_keys(pairs)),
+    };
+    let count = count as u64;
+    (count / 2).saturating_add(bytes / 8).saturating_mul(count)
+}
+
+/// How many bytes the names of declarations have together.
+fn bytes_of_names(items: &List<Node>) -> u64 {
+    let mut all = 0u64;
+    for item in items.as_slice() {
+        all = all.saturating_add(bytes_of_name(item));
+    }
+    all
+}
+
+/// How many bytes the name of a declaration has.
+fn bytes_of_name(item: &Node) -> u64 {
+    let NodeBody::Map(pairs) = &item.body else {
+        return 0;
+    };
+    match under("name", pairs) {
+        Some(
+            Node {
+                body: NodeBody::Scalar(name),
+                ..
+            },
+        ) => name.len() as u64,
+        _ => 0,
+    }
+}
+
+/// How many bytes the names of declarations of the older form have together.
+fn bytes_of_keys(pairs: &List<NodePair>) -> u64 {
+    let mut all = 0u64;
+    for pair in pairs.as_slice() {
+        all = all.saturating_add(pair.key.len() as u64);
+    }
+    all
 }
 
 #[cycle(weighing)]

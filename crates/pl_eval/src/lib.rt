@@ -18,5 +18,5 @@ pub use evaluate::eval;
 pub use fault::{EvalCode, EvalFault};
 pub use look_ups::{find_member, is_named, place_of};
 pub use names::Names;
-pub use parts::{RootPart, find_behind, part_behind};
-pub use weighing::{weight_of, work_of};
+pub use parts::{RootPart, find_behind, part_behind, work_of_seeking_among};
+pub use weighing::{weight_of, work_of, work_of_comparing};

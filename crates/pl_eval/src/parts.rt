@@ -3,6 +3,7 @@ ghost use Rattle.std.specs.Option.{option_copied};
 ghost use Rattle.pl_eval.specs.LookUps.{found_behind, part_of};
 
 use crate::look_ups::find_member;
+use crate::weighing::work_of_comparing;
 use pl_base::{ExactCopy, MarkedNode, Memory, Value};
 use pl_budgets::Meter;
 use std::alloc::Global;
@@ -19,10 +20,18 @@ pub enum RootPart {
 }
 
 /// How many units of work it is to seek what an index finds in a value.
-fn work_of_seeking(value: &Value) -> u64 {
+fn work_of_seeking(value: &Value, at: &Value) -> u64 {
     match value {
-        Value::Object(pairs) => (pairs.len() as u64).saturating_mul(2).saturating_add(16),
+        Value::Object(pairs) => 16u64.saturating_add(work_of_seeking_among(pairs.len(), at)),
         _ => 16,
+    }
+}
+
+/// How many units of work it is to seek the name that an index converts to among so many.
+pub fn work_of_seeking_among(names: usize, at: &Value) -> u64 {
+    match at {
+        Value::Str(name) => work_of_comparing(name, names),
+        _ => (names as u64).saturating_mul(8),
     }
 }
 
@@ -39,7 +48,7 @@ pub fn find_behind<'v>(
 {
     let mut node = node;
     for at in path {
-        meter.work(work_of_seeking(&node.value))?;
+        meter.work(work_of_seeking(&node.value, at))?;
         match find_member(alloc, &node.value, at)? {
             Some(found) => node = found,
             None => return Ok(None),

@@ -1,5 +1,5 @@
 use crate::manner::{BinaryFunction, Operation};
-use pl_base::{List, MarkedNode, MarkedPair, Value};
+use pl_base::{List, MarkedNode, MarkedPair, Text, Value};
 
 /// How many bytes a node or a key counts beside its characters.
 const NODE: u64 = 72;
@@ -44,6 +44,13 @@ pub(crate) fn work_of_applying(operation: Operation, arguments: &List<MarkedNode
         }
         _ => 0,
     }
+}
+
+/// How many units of work it is to compare a name with so many others: 2 each, and 1 for each three of
+/// its bytes.
+pub fn work_of_comparing(name: &Text, others: usize) -> u64 {
+    let bytes = name.len() as u64;
+    (bytes / 3).saturating_add(2).saturating_mul(others as u64)
 }
 
 /// How many units of work it is to make, copy or go over what weighs so much.

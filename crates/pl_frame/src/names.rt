@@ -10,7 +10,7 @@ use crate::frame::Frame;
 use crate::members::loop_named;
 use crate::parts::{part_of_parameters, part_of_variables};
 use pl_base::{List, Memory, Place, Text, Value};
-use pl_eval::{Names, RootPart, part_behind};
+use pl_eval::{Names, RootPart, part_behind, work_of_seeking_among};
 use pl_expr::Function;
 use pl_literal::spells;
 use std::alloc::Global;
@@ -26,7 +26,9 @@ impl Names for FrameNames<'_> {
     ghost known = { λ names. known_at names.frame.now names.place.now };
 
     fn part(&self, alloc: Global, root: &Text, path: &[Value]) -> Result<RootPart, Memory> {
-        self.frame.meter().work(work_of_naming(self.frame))?;
+        self.frame
+            .meter()
+            .work(work_of_naming(self.frame, root, path))?;
         let found = loop_named(alloc, &self.frame.loops, root)?;
         match found {
             Some(item) => part_behind(alloc, self.frame.meter(), item, path),
@@ -51,14 +53,18 @@ impl Names for FrameNames<'_> {
     }
 }
 
-/// How many units of work it is to seek a name among the loops, the parameters and the variables.
-fn work_of_naming(frame: &Frame) -> u64 {
-    let parameters = frame.parameters.len() as u64;
-    let variables = frame.variables.all().len() as u64;
-    parameters
-        .saturating_add(variables)
-        .saturating_mul(2)
-        .saturating_add(64)
+/// How many units of work it is to seek a root's name among the loops, of which a file opens at most
+/// some thirty in one another, and the first index among the parameters or the variables.
+fn work_of_naming(frame: &Frame, root: &Text, path: &[Value]) -> u64 {
+    let loops = (root.len() as u64).saturating_mul(8).saturating_add(64);
+    let members = frame
+        .parameters
+        .len()
+        .saturating_add(frame.variables.all().len());
+    match path.first() {
+        Some(at) => loops.saturating_add(work_of_seeking_among(members, at)),
+        None => loops,
+    }
 }
 
 /// What a path finds in a context, the case of its name aside. Nothing else of it is copied.
