@@ -50,5 +50,7 @@ fn has_role(who: &PrincipalSetting, wanted: &Role) -> bool
 pub fn may_call(who: &PrincipalSetting, request: &Request) -> bool
     ensures { result ≡ spec.may_call who.now request.now }
 {
-    wanted_roles(request).iter().any(|wanted| has_role(who, wanted))
+    wanted_roles(request)
+        .iter()
+        .any(|wanted| has_role(who, wanted))
 }

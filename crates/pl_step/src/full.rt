@@ -34,12 +34,7 @@ fn is_full(held: &Held, journal: &Journal, request: &Request, added: &[Fact]) ->
 
 /// Whether these facts, which stand in the journal, are too much for the service. None are no
 /// entry, and never too much.
-pub(crate) fn is_too_much(
-    held: &Held,
-    journal: &Journal,
-    request: &Request,
-    added: &[Fact],
-) -> bool
+pub(crate) fn is_too_much(held: &Held, journal: &Journal, request: &Request, added: &[Fact]) -> bool
     ensures { result ≡ spec.is_too_much held.now journal.now request.now added.now }
 {
     !added.is_empty() && is_full(held, journal, request, added)
