@@ -1,6 +1,6 @@
 -- Where a request adds that a run was queued, the run's plan can run: no other request adds that.
-use Rattle.std.proofs.Common.{◌≡◌, ◌&&◌, ℕ, Bool, true, false, List, Option, Some, None, Ok, Err, is_some}
-use Rattle.std.proofs.Common.{slice_get, sym, subst, inl, inr, refl}
+use Rattle.std.proofs.Common.{◌&&◌, ℕ, Bool, true, false, List, Option, Some, None, Ok, Err, is_some}
+use Rattle.std.proofs.Common.{slice_get, sym, subst, inl, inr}
 use Rattle.std.specs.Option.{option_map_or}
 use Rattle.std.specs.Prelude.{codes, if◌then◌else◌}
 use Rattle.pl_answers.specs.Answers.{empty_object, refused, with_fact, without_fact}
@@ -13,8 +13,7 @@ use Rattle.pl_facts.specs.declared.fact.Fact.{Fact}
 use Rattle.pl_facts.specs.declared.fact.QueuedRun.{QueuedRun}
 use Rattle.pl_granting.specs.Named.{JobOf, job_named}
 use Rattle.pl_granting.specs.Rules.{is_held_by}
-use Rattle.pl_jobs.specs.Granting.{AsAgent, Asks, AsksAs, Claims, ClaimsAs, Draws, DrawsAs, give}
-use Rattle.pl_jobs.specs.Granting.{give_drawn, give_named, job_reply, why_answer}
+use Rattle.pl_jobs.specs.Granting.{AsAgent, AsksAs, ClaimsAs, DrawsAs, give, job_reply}
 use Rattle.pl_jobs.specs.Reports as reports
 use Rattle.pl_journal.specs.Log.{Log}
 use Rattle.pl_journal.specs.Runs.{canceling, queueing, run_told}
@@ -30,7 +29,6 @@ use Rattle.pl_requests.specs.declared.request.Request.{Request}
 use Rattle.pl_requests.specs.declared.request.Request.TheVariants as request
 use Rattle.pl_requests.specs.declared.settings.AgentSetting.{AgentSetting}
 use Rattle.pl_requests.specs.declared.settings.PrincipalSetting.{PrincipalSetting}
-use Rattle.pl_rules.specs.declared.rule.Rule.{Rule}
 use Rattle.pl_rules.specs.declared.rule.Rule.TheVariants as rules
 use Rattle.pl_runs.specs.Runs.{cancel_queued, read_queued}
 use Rattle.pl_settings.specs.Files as files
@@ -172,7 +170,7 @@ module _ (log : Log) (moment : ℕ) (who : List ℕ) (made : Made) (runs : CanRu
       sets_principal : (told : PrincipalSetting) → Fits (sets.set_principal log told)
       sets_principal told =
           let set = with_fact empty_object (event.PrincipalSet told) in
-          let taken = λ name. refused 409 (rules.TokenTaken name) in
+          let taken = λ (name : List ℕ). refused 409 (rules.TokenTaken name) in
           if_so (is_text told.name settings.admin) (refused 409 rules.PrincipalReserved)
           (option_map_or taken (sets.other_owner log told) set) tt
           (if_some taken (sets.other_owner log told) set (λ name. tt) tt)

@@ -1,4 +1,4 @@
-use Rattle.std.proofs.Common.{◌<◌, [], ◌∷◌, ◌++◌, length, sym, ap, ◌∙◌, subst}
+use Rattle.std.proofs.Common.{◌<◌, [], ◌∷◌, ◌++◌, sym, ap, ◌∙◌, subst}
 use Rattle.pl_step.proofs.Behind.{one_more, one_within}
 use Rattle.pl_step.proofs.entering.facts_from.Goals.{in-None}
 use Rattle.pl_step.proofs.entering.facts_from.Goals.{in-Some+in_ok-copy-in-Some+in_ok-push-in-Some}
