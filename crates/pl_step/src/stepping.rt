@@ -1,0 +1,180 @@
+//! The step.
+
+ghost use Rattle.std.specs.Prelude.{◌≡◌, ◌≤◌, List as list, IfOk, OnErr, OnOk, drop, length};
+ghost use Rattle.pl_due.specs.Fit.{AreFit, last_moment};
+ghost use Rattle.pl_facts.specs.declared.fact.Fact.{Fact as Told};
+ghost use Rattle.pl_step.specs.Fits.{CanRunMade};
+ghost use Rattle.pl_step.specs.Full.{back, with_facts};
+ghost use Rattle.pl_step.specs.Step.{IsStep, Serves, SettlesFor, forbidden, given, happened};
+ghost use Rattle.pl_step.specs.Step.{stepped_with};
+
+use crate::answering::answer;
+use crate::callers::{may_call, wanted_roles};
+use crate::full::is_full;
+use crate::held::Held;
+use crate::stepped::Stepped;
+use pl_answers::Answer;
+use pl_base::{ExactCopy, List, Memory, Moment, Refusal, Shared, Text};
+use pl_facts::{Event, Fact};
+use pl_journal::Journal;
+use pl_open_runs::IndexedJournal;
+use pl_plan::Compiled;
+use pl_requests::{Call, Reply, Request, Rule};
+use pl_settling::settle;
+use std::alloc::Global;
+
+/// What a queued request was compiled to, if something was compiled.
+pub type Made = Option<Result<Shared<Compiled>, Refusal>>;
+
+/// Puts what is due behind the other facts; for a shutdown nothing.
+fn settle_for(
+    alloc: Global,
+    journal: &mut IndexedJournal,
+    request: &Request,
+    moment: Moment,
+) -> Result<(), Memory>
+    requires moment { moment ≤ last_moment }
+    requires fit { AreFit journal.old.facts }
+    ensures ok { OnOk result ((due : list Told) × SettlesFor request.now moment journal.old.facts due
+        × (journal.new ≡ with_facts journal.old due)) }
+    ensures err { OnErr result ((due : list Told) × (journal.new ≡ with_facts journal.old due)) }
+    ensures fit { AreFit journal.new.facts }
+{
+    match request {
+        Request::Shutdown => Ok(()),
+        _ => settle(alloc, journal, moment),
+    }
+}
+
+/// Puts what happens by a request behind the other facts.
+fn push_event(
+    journal: &mut IndexedJournal,
+    moment: Moment,
+    event: Option<Event>,
+) -> Result<(), Memory>
+    ensures ok { OnOk result (journal.new ≡ with_facts journal.old (happened moment event)) }
+    ensures err { OnErr result (journal.new ≡ journal.old) }
+{
+    match event {
+        Some(event) => journal.push(Fact { moment, event }),
+        None => Ok(()),
+    }
+}
+
+/// The facts of a journal from a place on.
+fn facts_from(alloc: Global, journal: &Journal, from: usize) -> Result<List<Fact>, Memory>
+    ensures { IfOk result (λ facts. facts ≡ drop from journal.now.facts) }
+{
+    let mut facts = List::new(alloc);
+    for at in from..journal.len() {
+        if let Some(fact) = journal.fact(at) {
+            facts.push(fact.copy(alloc)?)?;
+        }
+    }
+    Ok(facts)
+}
+
+/// The reply with the facts from a place on, unless they are too much: then they are taken away,
+/// and the journal is as it was.
+fn enter(
+    alloc: Global,
+    journal: &mut IndexedJournal,
+    held: &Held,
+    request: &Request,
+    reply: Reply,
+    from: usize,
+) -> Result<Stepped, Memory>
+    requires installed { from ≡ journal.old.installed }
+    requires within { from ≤ length journal.old.facts }
+    ensures ok { IfOk result (λ stepped. (stepped ≡ given held.now (back journal.old) request.now
+        (stepped_with reply (drop from journal.old.facts)) (drop from journal.old.facts))
+        × (journal.new ≡ with_facts (back journal.old) stepped.added)) }
+    ensures err { OnErr result ((more : list Told)
+        × (journal.new ≡ with_facts (back journal.old) more)) }
+{
+    let added = facts_from(alloc, journal.journal(), from)?;
+    if added.is_empty() || !is_full(held, journal.journal(), request, added.as_slice()) {
+        return Ok(Stepped { reply, added });
+    }
+    journal.back_to_installed();
+    Stepped::refusing(alloc, 409, &Rule::JournalFull)
+}
+
+/// A call by somebody who may make it. What is left after Memory isn't told, but that it is what
+/// there was with facts behind it.
+fn serve(
+    alloc: Global,
+    journal: &mut IndexedJournal,
+    held: &Held,
+    call: &Call,
+    who: &Text,
+    made: Made,
+) -> Result<Stepped, Memory>
+    requires moment { call.now.moment ≤ last_moment }
+    requires fit { AreFit journal.old.facts }
+    requires can_run { CanRunMade made }
+    requires installed { journal.old.installed ≡ length journal.old.facts }
+    ensures ok { IfOk result (λ stepped. Serves held.now journal.old call.now made who.now stepped
+        × (journal.new ≡ with_facts journal.old stepped.added)) }
+    ensures err { OnErr result ((more : list Told) × (journal.new ≡ with_facts journal.old more)) }
+    ensures fit { AreFit journal.new.facts }
+{
+    let from = journal.journal().len();
+    settle_for(alloc, journal, &call.request, call.moment)?;
+    let Answer { reply, event } = answer(alloc, journal, call.moment, who, made, &call.request)?;
+    push_event(journal, call.moment, event)?;
+    enter(alloc, journal, held, &call.request, reply, from)
+}
+
+/// 403 `role.missing`, with the roles of which the caller needs one.
+fn forbidden(alloc: Global, request: &Request) -> Result<Stepped, Memory>
+    ensures { IfOk result (λ stepped. stepped ≡ forbidden request.now) }
+{
+    let need = List::from_slice(alloc, wanted_roles(request))?;
+    Stepped::refusing(alloc, 403, &Rule::RoleMissing { need })
+}
+
+/// What a call is answered, and the facts that it adds, which stand behind the others then; where
+/// it adds none the journal is as it was, and after Memory too.
+///
+/// In this order: 401 `token.unknown` where no principal has the caller's token; 403 `role.missing`
+/// where the caller has none of the route's roles; what is due is settled, but for a shutdown; the
+/// request is answered on the settled facts. Where facts come of it they are one entry: 409
+/// `journal.full` where it would be one too many since the opening, the texts of all entries too
+/// long, or a number has more than 18 digits, and then nothing is added, nor what was due. `made` is
+/// what the request's pipeline was compiled to, if the request queues a run and the pipeline is
+/// there.
+///
+/// All facts are installed before. Their moments are those that a clock tells and their runs' plans
+/// can run, as `pl_due::due` asks, and so is the call's moment and the plan that was made; the same
+/// holds of all facts afterwards. The number of the next change of rows isn't judged here: who keeps
+/// rows does that.
+pub fn step(
+    alloc: Global,
+    journal: &mut IndexedJournal,
+    held: &Held,
+    call: &Call,
+    made: Made,
+) -> Result<Stepped, Memory>
+    requires moment { call.now.moment ≤ last_moment }
+    requires fit { AreFit journal.old.facts }
+    requires can_run { CanRunMade made }
+    requires installed { journal.old.installed ≡ length journal.old.facts }
+    ensures ok { IfOk result (λ stepped. IsStep held.now journal.old call.now made stepped
+        × (journal.new ≡ with_facts journal.old stepped.added)) }
+    ensures err { OnErr result (journal.new ≡ journal.old) }
+    ensures fit { AreFit journal.new.facts }
+{
+    let name = match journal.journal().principal_with(&call.caller) {
+        Some(who) if may_call(who, &call.request) => who.name.copy(alloc)?,
+        Some(_) => return forbidden(alloc, &call.request),
+        None => return Stepped::refusing(alloc, 401, &Rule::TokenUnknown),
+    };
+    match serve(alloc, journal, held, call, &name, made) {
+        Ok(stepped) => Ok(stepped),
+        Err(Memory) => {
+            journal.back_to_installed();
+            Err(Memory)
+        }
+    }
+}
