@@ -3,7 +3,7 @@ use Rattle.pl_base.specs.declared.digest.Digest.{Digest}
 use Rattle.pl_core.specs.State.{opened}
 use Rattle.pl_commands.specs.declared.served.Served.{Served}
 use Rattle.pl_commands.specs.declared.status.Status.{Status}
-use Rattle.pl_commands.specs.Acts.{Parts}
+use Rattle.pl_alone.specs.Desk.{Parts}
 use Rattle.pl_commands.specs.Run.{Outside, Replays}
 use Rattle.pl_commands.specs.Session.{Point, Session}
 use Rattle.pl_commands.specs.Statuses.{status_of}
