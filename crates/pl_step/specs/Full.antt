@@ -1,5 +1,5 @@
 -- What the service holds at most: entries, their texts, and numbers of 18 digits.
-use Rattle.std.specs.Prelude.{ℕ, nat_le, nat_lt, ◌+◌, ◌++◌, Bool, ◌||◌, List, take}
+use Rattle.std.specs.Prelude.{ℕ, nat_le, nat_lt, ◌+◌, ◌++◌, Bool, false, ◌||◌, List, [], ◌∷◌, take}
 use Rattle.pl_facts.specs.Sizes.{size_with}
 use Rattle.pl_facts.specs.declared.fact.Fact.{Fact}
 use Rattle.pl_journal.specs.Log.{Log, last_run, version}
@@ -26,8 +26,14 @@ back log = record log { facts = take log.installed log.facts }
 abbrev pub has_long_number : Log → Bool
 has_long_number log = nat_lt last_number (last_run log) || nat_lt last_number (version log)
 
--- one entry more would be too many, the texts of all too long, or a number too great
+-- behind these facts, which are one entry more: it would be one too many, the texts of all too long,
+-- or a number too great
 abbrev pub is_full : Held → Log → Request → List Fact → Bool
 is_full held log asked added =
     nat_le most_entries held.entries
     || (nat_lt most_bytes (held.size + size_with asked added) || has_long_number log)
+
+-- a call that adds nothing is no entry, and is never too much
+abbrev pub is_too_much : Held → Log → Request → List Fact → Bool
+is_too_much held log asked [] = false
+is_too_much held log asked (fact ∷ added) = is_full held log asked (fact ∷ added)

@@ -19,7 +19,7 @@ use Rattle.pl_rules.specs.declared.rule.Rule.TheVariants as rules
 use Rattle.pl_settling.specs.Settles.{Settles}
 use Rattle.pl_step.specs.Answering.{Answers}
 use Rattle.pl_step.specs.Callers.{may_call, wanted_roles}
-use Rattle.pl_step.specs.Full.{is_full, with_facts}
+use Rattle.pl_step.specs.Full.{is_too_much, with_facts}
 use Rattle.pl_step.specs.declared.held.Held.{Held}
 use Rattle.pl_step.specs.declared.stepped.Stepped.{Stepped}
 
@@ -42,16 +42,11 @@ refusing status rule = stepped_with (refused status rule).reply []
 abbrev pub forbidden : Request → Stepped
 forbidden asked = refusing 403 (rules.RoleMissing (wanted_roles asked))
 
--- an entry, unless it is too much: then nothing is added, nor what was due
-abbrev pub entered : Held → Log → Request → Stepped → Stepped
-entered held log asked stepped =
-    if is_full held (with_facts log stepped.added) asked stepped.added then
-    refusing 409 rules.JournalFull else stepped
-
--- a call that adds nothing is no entry, and is never too much
-abbrev pub given : Held → Log → Request → Stepped → List Fact → Stepped
-given held log asked stepped [] = stepped
-given held log asked stepped (fact ∷ more) = entered held log asked stepped
+-- the facts are one entry, unless it is too much: then nothing is added, nor what was due
+abbrev pub given : Held → Log → Request → Stepped → Stepped
+given held log asked stepped =
+    if is_too_much held (with_facts log stepped.added) asked stepped.added
+    then refusing 409 rules.JournalFull else stepped
 
 -- a call by somebody who may call it
 pub record Serves (held : Held) (log : Log) (call : Call) (made : Made) (who : List ℕ)
@@ -60,9 +55,8 @@ pub record Serves (held : Held) (log : Log) (call : Call) (made : Made) (who : L
   pub settles : SettlesFor call.request call.moment log.facts due
   pub answer : Answer
   pub answers : Answers (with_facts log due) call.moment who made call.request answer
-  pub all : List Fact
-  pub are : all ≡ due ++ happened call.moment answer.event
-  pub gives : stepped ≡ given held log call.request (stepped_with answer.reply all) all
+  pub gives : stepped ≡ given held log call.request
+      (stepped_with answer.reply (due ++ happened call.moment answer.event))
 
 -- by whoever has the token
 abbrev pub StepsAs : Held → Log → Call → Made → Stepped → Option PrincipalSetting → Type 0

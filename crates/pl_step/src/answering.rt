@@ -52,7 +52,7 @@ pub(crate) fn answer(
         Request::Draw => draw(alloc, indexed, who),
         Request::Claim(job) => claim(alloc, indexed, moment, who, job),
         Request::Why { job, agent } => why(alloc, indexed, moment, agent, job),
-        Request::Report { job, report } => report(alloc, journal, who, job, report),
+        Request::Report { job, report: told } => report(alloc, journal, who, job, told),
         Request::Shutdown => Ok(Answer::without_fact(empty_object(alloc))),
     }
 }

@@ -22,12 +22,25 @@ fn has_long_number(journal: &Journal) -> bool
     journal.last_run() > LAST_NUMBER || journal.version() > LAST_NUMBER
 }
 
-/// Whether these facts, which stand in the journal, are too much for the service: the entry would
-/// be one too many, its texts with those of all entries too long, or a number has more than 18
-/// digits.
-pub(crate) fn is_full(held: &Held, journal: &Journal, request: &Request, added: &[Fact]) -> bool
+/// Whether an entry of these facts, which stand in the journal, is too much for the service: it
+/// would be one too many, its texts with those of all entries too long, or a number has more than
+/// 18 digits.
+fn is_full(held: &Held, journal: &Journal, request: &Request, added: &[Fact]) -> bool
     ensures { result ≡ spec.is_full held.now journal.now request.now added.now }
 {
     let size = held.size.saturating_add(size_with(request, added));
     held.entries >= MOST_ENTRIES || size > MOST_BYTES || has_long_number(journal)
+}
+
+/// Whether these facts, which stand in the journal, are too much for the service. None are no
+/// entry, and never too much.
+pub(crate) fn is_too_much(
+    held: &Held,
+    journal: &Journal,
+    request: &Request,
+    added: &[Fact],
+) -> bool
+    ensures { result ≡ spec.is_too_much held.now journal.now request.now added.now }
+{
+    !added.is_empty() && is_full(held, journal, request, added)
 }

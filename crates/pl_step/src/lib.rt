@@ -3,12 +3,13 @@
 
 mod answering;
 mod callers;
+mod entering;
 mod full;
 mod held;
-mod stepping;
 mod stepped;
+mod stepping;
 
 pub use callers::may_call;
 pub use held::Held;
-pub use stepping::step;
 pub use stepped::Stepped;
+pub use stepping::step;

@@ -1,25 +1,22 @@
 //! The step.
 
-ghost use Rattle.std.specs.Prelude.{◌≡◌, ◌≤◌, List as list, IfOk, OnErr, OnOk, drop, length};
+ghost use Rattle.std.specs.Prelude.{◌≡◌, ◌≤◌, List as list, IfOk, OnErr, OnOk, length};
 ghost use Rattle.pl_due.specs.Fit.{AreFit, last_moment};
 ghost use Rattle.pl_facts.specs.declared.fact.Fact.{Fact as Told};
 ghost use Rattle.pl_step.specs.Fits.{CanRunMade};
-ghost use Rattle.pl_step.specs.Full.{back, with_facts};
-ghost use Rattle.pl_step.specs.Step.{IsStep, Serves, SettlesFor, forbidden, given, happened};
-ghost use Rattle.pl_step.specs.Step.{stepped_with};
+ghost use Rattle.pl_step.specs.Full.{with_facts};
+ghost use Rattle.pl_step.specs.Step.{IsStep, Serves, SettlesFor, forbidden};
 
 use crate::answering::answer;
 use crate::callers::{may_call, wanted_roles};
-use crate::full::is_full;
+use crate::entering::{enter, push_event};
 use crate::held::Held;
 use crate::stepped::Stepped;
 use pl_answers::Answer;
 use pl_base::{ExactCopy, List, Memory, Moment, Refusal, Shared, Text};
-use pl_facts::{Event, Fact};
-use pl_journal::Journal;
 use pl_open_runs::IndexedJournal;
 use pl_plan::Compiled;
-use pl_requests::{Call, Reply, Request, Rule};
+use pl_requests::{Call, Request, Rule};
 use pl_settling::settle;
 use std::alloc::Global;
 
@@ -44,60 +41,6 @@ fn settle_for(
         Request::Shutdown => Ok(()),
         _ => settle(alloc, journal, moment),
     }
-}
-
-/// Puts what happens by a request behind the other facts.
-fn push_event(
-    journal: &mut IndexedJournal,
-    moment: Moment,
-    event: Option<Event>,
-) -> Result<(), Memory>
-    ensures ok { OnOk result (journal.new ≡ with_facts journal.old (happened moment event)) }
-    ensures err { OnErr result (journal.new ≡ journal.old) }
-{
-    match event {
-        Some(event) => journal.push(Fact { moment, event }),
-        None => Ok(()),
-    }
-}
-
-/// The facts of a journal from a place on.
-fn facts_from(alloc: Global, journal: &Journal, from: usize) -> Result<List<Fact>, Memory>
-    ensures { IfOk result (λ facts. facts ≡ drop from journal.now.facts) }
-{
-    let mut facts = List::new(alloc);
-    for at in from..journal.len() {
-        if let Some(fact) = journal.fact(at) {
-            facts.push(fact.copy(alloc)?)?;
-        }
-    }
-    Ok(facts)
-}
-
-/// The reply with the facts from a place on, unless they are too much: then they are taken away,
-/// and the journal is as it was.
-fn enter(
-    alloc: Global,
-    journal: &mut IndexedJournal,
-    held: &Held,
-    request: &Request,
-    reply: Reply,
-    from: usize,
-) -> Result<Stepped, Memory>
-    requires installed { from ≡ journal.old.installed }
-    requires within { from ≤ length journal.old.facts }
-    ensures ok { IfOk result (λ stepped. (stepped ≡ given held.now (back journal.old) request.now
-        (stepped_with reply (drop from journal.old.facts)) (drop from journal.old.facts))
-        × (journal.new ≡ with_facts (back journal.old) stepped.added)) }
-    ensures err { OnErr result ((more : list Told)
-        × (journal.new ≡ with_facts (back journal.old) more)) }
-{
-    let added = facts_from(alloc, journal.journal(), from)?;
-    if added.is_empty() || !is_full(held, journal.journal(), request, added.as_slice()) {
-        return Ok(Stepped { reply, added });
-    }
-    journal.back_to_installed();
-    Stepped::refusing(alloc, 409, &Rule::JournalFull)
 }
 
 /// A call by somebody who may make it. What is left after Memory isn't told, but that it is what
