@@ -83,11 +83,7 @@ pub fn draw(alloc: Global, indexed: &IndexedJournal, caller: &Text) -> Result<An
     }
 }
 
-fn draw_as(
-    alloc: Global,
-    indexed: &IndexedJournal,
-    who: &AgentSetting,
-) -> Result<Answer, Memory>
+fn draw_as(alloc: Global, indexed: &IndexedJournal, who: &AgentSetting) -> Result<Answer, Memory>
     requires fit { AreFit indexed.now.facts }
     ensures { IfOk result (spec.DrawsAs indexed.now.facts who.now) }
 {

@@ -78,10 +78,7 @@ fn has_outputs(journal: &Journal, at: &JobAt<'_>, outputs: &List<(Text, Text)>) 
 }
 
 /// Outputs once more.
-fn pairs_copied(
-    alloc: Global,
-    outputs: &List<(Text, Text)>,
-) -> Result<List<(Text, Text)>, Memory>
+fn pairs_copied(alloc: Global, outputs: &List<(Text, Text)>) -> Result<List<(Text, Text)>, Memory>
     ensures { IfOk result (λ copies. copies ≡ outputs.now) }
 {
     let mut copies = List::new(alloc);
@@ -159,11 +156,7 @@ fn stranger(alloc: Global, journal: &Journal, at: &JobAt<'_>) -> Result<Rule, Me
 }
 
 /// The rule that ended a job, where no report did.
-fn ended_otherwise(
-    alloc: Global,
-    journal: &Journal,
-    at: &JobAt<'_>,
-) -> Result<Option<Rule>, Memory>
+fn ended_otherwise(alloc: Global, journal: &Journal, at: &JobAt<'_>) -> Result<Option<Rule>, Memory>
     ensures { IfOk result (λ rule. rule ≡ spec.ended_otherwise journal.now.facts (of at.now)) }
 {
     if was_ended(journal, at) {

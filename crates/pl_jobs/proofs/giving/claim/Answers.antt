@@ -11,7 +11,7 @@ returns-in-Some c =
     IfOk-weaker c.claim_as.result
     (ClaimsAs facts c.args.moment c.args.name.now c.in-Some.who.now)
     (Claims facts c.args.moment c.args.caller.now c.args.name.now)
-    (λ answer asks. inr (c.in-Some.who.now, (sym c.in-Some.ensures, asks))) c.claim_as.ensures
+    (λ answer asks. inr (c.in-Some.who.now, sym c.in-Some.ensures, asks)) c.claim_as.ensures
 
 pub returns-in-None : goal.returns-in-None
 returns-in-None c =

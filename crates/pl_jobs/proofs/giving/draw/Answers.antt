@@ -9,7 +9,7 @@ pub returns-in-Some : goal.returns-in-Some
 returns-in-Some c =
     let facts = c.args.indexed.now.facts in
     IfOk-weaker c.draw_as.result (DrawsAs facts c.in-Some.who.now) (Draws facts c.args.caller.now)
-    (λ answer asks. inr (c.in-Some.who.now, (sym c.in-Some.ensures, asks))) c.draw_as.ensures
+    (λ answer asks. inr (c.in-Some.who.now, sym c.in-Some.ensures, asks)) c.draw_as.ensures
 
 pub returns-in-None : goal.returns-in-None
 returns-in-None c =

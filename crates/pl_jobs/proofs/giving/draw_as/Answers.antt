@@ -1,4 +1,4 @@
-use Rattle.std.proofs.Common.{◌≡◌, Some, None, sym, subst}
+use Rattle.std.proofs.Common.{◌≡◌, Some, sym, subst}
 use Rattle.std.specs.Result.{IfOk}
 use Rattle.std.proofs.lemmas.Result.{IfOk-weaker}
 use Rattle.pl_due.specs.Fit.{AreFit}
@@ -24,4 +24,4 @@ returns-in-Some c =
     subst (λ (log : Log). IfOk c.give.result (λ answer. answer ≡ give log.facts who at))
     c.journal.ensures c.give.ensures in
     IfOk-weaker c.give.result (λ answer. answer ≡ give facts who at) (DrawsAs facts who)
-    (λ answer told. (Some at, (c.in-Some.ensures, told))) given
+    (λ answer told. (Some at, c.in-Some.ensures, told)) given

@@ -11,7 +11,7 @@ returns-in-Some c =
     IfOk-weaker c.why_as.result
     (AsksAs facts c.args.moment c.args.name.now c.in-Some.who.now)
     (Asks facts c.args.moment c.args.named.now c.args.name.now)
-    (λ answer asks. inr (c.in-Some.who.now, (sym c.in-Some.ensures, asks))) c.why_as.ensures
+    (λ answer asks. inr (c.in-Some.who.now, sym c.in-Some.ensures, asks)) c.why_as.ensures
 
 pub returns-in-None : goal.returns-in-None
 returns-in-None c =
