@@ -4,10 +4,11 @@ use Rattle.std.proofs.Common.{ap, subst, ◌∙◌, arith}
 use Rattle.std.proofs.Math.Seq.{take-append_seam, drop-append_seam}
 use Rattle.std.proofs.lemmas.List.{append_assoc, flat_map_more, length-append, take-append-le}
 use Rattle.std.proofs.lemmas.List.{append-nil}
-use Rattle.pl_core.specs.Kept.{IsKept, opening_of, pending_of}
+use Rattle.std.proofs.lemmas.List.Elements.{All-take}
+use Rattle.pl_core.specs.Kept.{AreNumbers, IsKept, opening_of, pending_of}
 use Rattle.pl_core.specs.Legal.{Follows, Legal, LegalFrom}
-use Rattle.pl_core.specs.State.{Opening, facts_of, log_of}
-use Rattle.pl_due.specs.Fit.{AreFit, last_moment}
+use Rattle.pl_core.specs.State.{Opening, State, facts_of, log_of}
+use Rattle.pl_due.specs.Fit.{AreFit, IsFit, last_moment}
 use Rattle.pl_facts.specs.declared.entry.Entry.{Entry}
 use Rattle.pl_facts.specs.declared.fact.Fact.{Fact}
 use Rattle.pl_journal.specs.Log.{Log}
@@ -75,20 +76,75 @@ legal_more opening before (one ∷ entries) entry legal follows = (
 
 -- ---- a journal that is one of entries, and of facts behind theirs
 
-pub kept : (log : Log) (opening : Opening) (entries : List Entry) (more : List Fact) →
-    log ≡ with_facts (log_of opening entries) more → Legal opening entries → AreFit log.facts →
-    log.opening.moment ≤ last_moment → IsKept log entries
-kept log opening entries more is legal fit within =
-    let opening_is : opening_of log ≡ opening =
-    ap opening_of is ∙ opening_told opening entries more in
-    let pending_is : pending_of log ≡ more = ap pending_of is ∙ pending_told opening entries more in
-    record {
-      journal =
-          is
-          ∙ ap (λ (o : Opening). with_facts (log_of o entries) more) (sym opening_is)
-          ∙ ap (λ (facts : List Fact). with_facts (log_of (opening_of log) entries) facts)
-          (sym pending_is);
-      legal = subst (λ (o : Opening). Legal o entries) (sym opening_is) legal;
-      fit = fit;
-      within = within;
-    }
+moment_told : (opening : Opening) (entries : List Entry) →
+    (log_of opening entries).opening.moment ≡ opening.moment
+unfolding log_of
+moment_told opening entries = refl
+
+pub all_installed : (opening : Opening) (entries : List Entry) →
+    (log_of opening entries).installed ≡ length (log_of opening entries).facts
+unfolding log_of
+all_installed opening entries = refl
+
+module _ (new : Log) (entries : List Entry) (more : List Fact) (opening : Opening)
+    (is : new ≡ with_facts (log_of opening entries) more) where
+  pub opening_behind : opening_of new ≡ opening
+  opening_behind = ap opening_of is ∙ opening_told opening entries more
+
+  pub pending_behind : pending_of new ≡ more
+  pending_behind = ap pending_of is ∙ pending_told opening entries more
+
+  pub kept_behind : Legal opening entries → AreFit new.facts → opening.moment ≤ last_moment →
+      IsKept new entries
+  kept_behind legal fit within =
+      record {
+        journal =
+            is
+            ∙ ap (λ (o : Opening). with_facts (log_of o entries) more) (sym opening_behind)
+            ∙ ap (λ (facts : List Fact). with_facts (log_of (opening_of new) entries) facts)
+            (sym pending_behind);
+        legal = subst (λ (o : Opening). Legal o entries) (sym opening_behind) legal;
+        fit = fit;
+        within =
+            subst (λ moment. moment ≤ last_moment)
+            (sym (ap (λ (l : Log). l.opening.moment) is ∙ moment_told opening entries)) within;
+      }
+
+  pub numbers_behind : (size moment files : ℕ) → AreNumbers opening entries size moment files →
+      AreNumbers (opening_of new) entries size moment files
+  numbers_behind size moment files numbers =
+      subst (λ (o : Opening). AreNumbers o entries size moment files) (sym opening_behind) numbers
+
+-- ---- what isn't installed is taken back
+
+pub went_back : (log : Log) (entries : List Entry) → IsKept log entries →
+    back log ≡ log_of (opening_of log) entries
+went_back log entries kept =
+    ap back kept.journal ∙ taken_back (opening_of log) entries (pending_of log)
+
+module _ (log new : Log) (entries : List Entry) (kept : IsKept log entries)
+    (is : new ≡ back log) where
+  pub back_behind : new ≡ with_facts (log_of (opening_of log) entries) []
+  back_behind =
+      is ∙ went_back log entries kept ∙ sym (nothing_behind (log_of (opening_of log) entries))
+
+  pub back_fit : AreFit new.facts
+  back_fit = subst (λ (facts : List Fact). AreFit facts) (ap (λ (l : Log). l.facts) (sym is))
+      (All-take IsFit log.installed log.facts kept.fit)
+
+  pub back_kept : IsKept new entries
+  back_kept = kept_behind new entries [] (opening_of log) back_behind kept.legal back_fit
+      kept.within
+
+-- ---- the state by its parts
+
+pub state_is : (a b : Opening) (xs ys : List Entry) (p q : List Fact) → a ≡ b → xs ≡ ys → p ≡ q →
+    let left : State = record { opening = a; entries = xs; pending = p } in
+    let right : State = record { opening = b; entries = ys; pending = q } in left ≡ right
+state_is a b xs ys p q opening entries pending =
+    ap (λ (o : Opening). let made : State =
+    record { opening = o; entries = xs; pending = p } in made) opening
+    ∙ ap (λ (es : List Entry). let made : State =
+    record { opening = b; entries = es; pending = p } in made) entries
+    ∙ ap (λ (fs : List Fact). let made : State =
+    record { opening = b; entries = ys; pending = fs } in made) pending
