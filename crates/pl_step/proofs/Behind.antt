@@ -1,9 +1,10 @@
 -- Facts that come behind those that were installed.
-use Rattle.std.proofs.Common.{◌≡◌, ◌≤◌, ◌+◌, ℕ, suc, List, [], ◌∷◌, ◌++◌, Some, length, take, drop}
+use Rattle.std.proofs.Common.{◌≡◌, ◌≤◌, ◌<◌, ◌⊎◌, ◌+◌, ℕ, suc, List, [], ◌∷◌, ◌++◌, Some, None, length}
+use Rattle.std.proofs.Common.{take, drop, get_or, inl, inr}
 use Rattle.std.proofs.Common.{slice_get, sym, ap, ◌∙◌, subst, arith}
-use Rattle.std.proofs.lemmas.List.{append_assoc, append-nil, drop-append-le, length-take-le}
-use Rattle.std.proofs.lemmas.List.{take-append-drop}
-use Rattle.std.proofs.lemmas.Option.{get_or_from_slice_get, slice_get_within}
+use Rattle.std.proofs.lemmas.List.{append_assoc, append-nil, drop-append-le}
+use Rattle.std.proofs.lemmas.List.{length-take-le, take-append-drop}
+use Rattle.std.proofs.lemmas.Option.{get_or_from_slice_get, slice_get_cases, slice_get_within}
 use Rattle.std.proofs.Math.Seq.{drop-append_seam, take-append_seam, take-suc}
 use Rattle.pl_facts.specs.declared.fact.Fact.{Fact}
 use Rattle.pl_journal.specs.Log.{Log}
@@ -28,6 +29,15 @@ module _ {X : Type 0} (xs : List X) (from at : ℕ) (x : X) (is : slice_get xs a
       let within : from ≤ length (take at xs) = subst (λ n. from ≤ n) (sym all) first in
       grown ∙ ap (λ ys. ys ++ x ∷ []) so_far
       ∙ sym (drop-append-le from (take at xs) (x ∷ []) within) ∙ ap (drop from) (sym taken_one)
+
+-- within the list there is one
+pub one_within : {X : Type 0} (xs : List X) (at : ℕ) → at < length xs → slice_get xs at ≡ None → ⊥
+one_within {X = X} xs at within none = go (slice_get_cases xs at).1
+  where
+    go : ((x : X) × (at < length xs) × (slice_get xs at ≡ Some x) × (get_or xs at x ≡ x))
+        ⊎ ((length xs ≤ at) × (slice_get xs at ≡ None)) → ⊥
+    go (inl (x, below, is, gets)) = absurd (cc)
+    go (inr (all, gets)) = omega (arith, all, within)
 
 -- ---- a journal, and what is behind its installed facts
 

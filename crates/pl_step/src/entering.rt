@@ -1,10 +1,11 @@
-//! The facts of a call: what happens by it, and that all it adds is one entry.
+//! The facts of a call: what is due first, what happens by it, and that all of them are one entry.
 
-ghost use Rattle.std.specs.Prelude.{◌≡◌, ◌≤◌, IfOk, OnErr, OnOk, drop};
+ghost use Rattle.std.specs.Prelude.{◌≡◌, ◌≤◌, List as list, IfOk, OnErr, OnOk, drop};
 ghost use Rattle.pl_due.specs.Fit.{AreFit, last_moment};
+ghost use Rattle.pl_facts.specs.declared.fact.Fact.{Fact as Told};
 ghost use Rattle.pl_step.specs.Fits.{CanHappen};
 ghost use Rattle.pl_step.specs.Full.{back, with_facts};
-ghost use Rattle.pl_step.specs.Step.{given, happened, stepped_with};
+ghost use Rattle.pl_step.specs.Step.{SettlesFor, given, happened, stepped_with};
 
 use crate::full::is_too_much;
 use crate::held::Held;
@@ -14,7 +15,28 @@ use pl_facts::{Event, Fact};
 use pl_journal::Journal;
 use pl_open_runs::IndexedJournal;
 use pl_requests::{Reply, Request, Rule};
+use pl_settling::settle;
 use std::alloc::Global;
+
+/// Puts what is due behind the other facts; for a shutdown nothing.
+pub(crate) fn settle_for(
+    alloc: Global,
+    journal: &mut IndexedJournal,
+    request: &Request,
+    moment: Moment,
+) -> Result<(), Memory>
+    requires moment { moment ≤ last_moment }
+    requires fit { AreFit journal.old.facts }
+    ensures ok { OnOk result ((due : list Told) × SettlesFor request.now moment journal.old.facts due
+        × (journal.new ≡ with_facts journal.old due)) }
+    ensures err { OnErr result ((due : list Told) × (journal.new ≡ with_facts journal.old due)) }
+    ensures fit { AreFit journal.new.facts }
+{
+    match request {
+        Request::Shutdown => Ok(()),
+        _ => settle(alloc, journal, moment),
+    }
+}
 
 /// Puts what happens by a request behind the other facts.
 pub(crate) fn push_event(

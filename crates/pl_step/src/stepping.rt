@@ -5,43 +5,22 @@ ghost use Rattle.pl_due.specs.Fit.{AreFit, last_moment};
 ghost use Rattle.pl_facts.specs.declared.fact.Fact.{Fact as Told};
 ghost use Rattle.pl_step.specs.Fits.{CanRunMade};
 ghost use Rattle.pl_step.specs.Full.{with_facts};
-ghost use Rattle.pl_step.specs.Step.{IsStep, Serves, SettlesFor, forbidden};
+ghost use Rattle.pl_step.specs.Step.{IsStep, Serves, forbidden};
 
 use crate::answering::answer;
 use crate::callers::{may_call, wanted_roles};
-use crate::entering::{enter, push_event};
+use crate::entering::{enter, push_event, settle_for};
 use crate::held::Held;
 use crate::stepped::Stepped;
 use pl_answers::Answer;
-use pl_base::{ExactCopy, List, Memory, Moment, Refusal, Shared, Text};
+use pl_base::{ExactCopy, List, Memory, Refusal, Shared, Text};
 use pl_open_runs::IndexedJournal;
 use pl_plan::Compiled;
 use pl_requests::{Call, Request, Rule};
-use pl_settling::settle;
 use std::alloc::Global;
 
 /// What a queued request was compiled to, if something was compiled.
 pub type Made = Option<Result<Shared<Compiled>, Refusal>>;
-
-/// Puts what is due behind the other facts; for a shutdown nothing.
-fn settle_for(
-    alloc: Global,
-    journal: &mut IndexedJournal,
-    request: &Request,
-    moment: Moment,
-) -> Result<(), Memory>
-    requires moment { moment ≤ last_moment }
-    requires fit { AreFit journal.old.facts }
-    ensures ok { OnOk result ((due : list Told) × SettlesFor request.now moment journal.old.facts due
-        × (journal.new ≡ with_facts journal.old due)) }
-    ensures err { OnErr result ((due : list Told) × (journal.new ≡ with_facts journal.old due)) }
-    ensures fit { AreFit journal.new.facts }
-{
-    match request {
-        Request::Shutdown => Ok(()),
-        _ => settle(alloc, journal, moment),
-    }
-}
 
 /// A call by somebody who may make it. What is left after Memory isn't told, but that it is what
 /// there was with facts behind it.
