@@ -84,7 +84,10 @@ impl Alone {
         self.core.back();
         let made = made_for(alloc, &self.core, call)?;
         let prepared = self.core.prepare(alloc, 0, call, made)?;
-        Ok(self.core.install(prepared))
+        let reply = self.core.install(prepared);
+        // They are a legal history.
+        let _entries = self.core.entries();
+        Ok(reply)
     }
 }
 

@@ -57,14 +57,13 @@ fn replay<O: Outfit>(alloc: Global, admin: Digest, outfit: &mut O) -> Status
     ensures { Replays admin (outside O.In.Source O.Out.Sink (O.view outfit.old))
         (outside O.In.Source O.Out.Sink (O.view outfit.new)).link result }
 {
+    let mut desk = match Alone::open(alloc, admin) {
+        Ok(desk) => desk,
+        Err(Memory) => return Status::Memory,
+    };
     let mut clock = outfit.clock();
-    match Alone::open(alloc, admin) {
-        Ok(mut desk) => {
-            let served = replay_link(alloc, &mut desk, outfit.ends(), &mut clock);
-            status(served)
-        }
-        Err(Memory) => Status::Memory,
-    }
+    let served = replay_link(alloc, &mut desk, outfit.ends(), &mut clock);
+    status(served)
 }
 
 // Compiles the bundle of the source onto the sink.

@@ -1,6 +1,7 @@
 -- What an entry's facts are: those that were due, and one that happens by the request.
-use Rattle.std.proofs.Common.{◌≡◌, ◌⊎◌, ℕ, true, false, List, [], ◌∷◌, ◌++◌, Option, Some, None}
-use Rattle.std.proofs.Common.{refl, sym, ap, subst, ◌∙◌, inl, inr, cond}
+use Rattle.std.proofs.Common.{◌≡◌, ◌⊎◌, ℕ, Bool, true, false, List, [], ◌∷◌, ◌++◌, Option, Some}
+use Rattle.std.proofs.Common.{None}
+use Rattle.std.proofs.Common.{refl, sym, ap, subst, inl, inr}
 use Rattle.pl_answers.specs.declared.answer.Answer.{Answer}
 use Rattle.pl_facts.specs.declared.fact.Event.{Event}
 use Rattle.pl_facts.specs.declared.fact.Fact.{Fact}
@@ -13,7 +14,7 @@ use Rattle.pl_requests.specs.declared.settings.PrincipalSetting.{PrincipalSettin
 use Rattle.pl_journal.specs.Settings.{principal_with}
 use Rattle.pl_step.specs.Answering.{Answers}
 use Rattle.pl_step.specs.Full.{is_full, with_facts}
-use Rattle.pl_step.specs.Step.{IsStep, Serves, SettlesFor, StepsAs, entered, given, happened}
+use Rattle.pl_step.specs.Step.{IsStep, Serves, SettlesFor, StepsAs, given, happened}
 use Rattle.pl_step.specs.Step.{stepped_with}
 use Rattle.pl_step.specs.declared.held.Held.{Held}
 use Rattle.pl_step.specs.declared.stepped.Stepped.{Stepped}
@@ -32,14 +33,15 @@ pub record IsEntered (held : Held) (log : Log) (call : Call) (made : Made) (adde
 -- what is given with facts was given whole
 given_whole : (held : Held) (log : Log) (asked : Request) (reply : Reply) (stepped : Stepped)
     (all : List Fact) → ¬ (stepped.added ≡ []) →
-    stepped ≡ given held log asked (stepped_with reply all) all →
+    stepped ≡ given held log asked (stepped_with reply all) →
     (stepped.added ≡ all) × (is_full held (with_facts log all) asked all ≡ false)
 given_whole held log asked reply stepped [] some is =
     absurd (some (ap (λ (s : Stepped). s.added) is))
 given_whole held log asked reply stepped (fact ∷ more) some is =
     by_full (is_full held (with_facts log (fact ∷ more)) asked (fact ∷ more)) refl
   where
-    by_full : (full : _) → is_full held (with_facts log (fact ∷ more)) asked (fact ∷ more) ≡ full →
+    by_full : (full : Bool) →
+        is_full held (with_facts log (fact ∷ more)) asked (fact ∷ more) ≡ full →
         (stepped.added ≡ fact ∷ more)
         × (is_full held (with_facts log (fact ∷ more)) asked (fact ∷ more) ≡ false)
     by_full true full = absurd (some (ap (λ (s : Stepped). s.added) (rw full at is)))
@@ -52,14 +54,14 @@ module _ (held : Held) (log : Log) (call : Call) (made : Made) (reply : Reply) (
       IsEntered held log call made added
   served who serves =
       let whole = given_whole held log call.request serves.answer.reply (stepped_with reply added)
-      serves.all some serves.gives in
+      (serves.due ++ happened call.moment serves.answer.event) some serves.gives in
       record {
         who = who.name;
         due = serves.due;
         settles = serves.settles;
         answer = serves.answer;
         answers = serves.answers;
-        are = whole.0 ∙ serves.are;
+        are = whole.0;
         room =
             subst (λ (all : List Fact). is_full held (with_facts log all) call.request all ≡ false)
             (sym whole.0) whole.1;

@@ -19,7 +19,8 @@ around link coming = record { link = link; coming = coming }
 -- a session with this clock and this desk is a replay
 replays_by : (admin : Digest) (coming clocked later : Option (ℕ → ℕ)) (first desk : Parts)
     (old new : Told) (served : Served) (ending : Status)
-    → clocked ≡ coming → first ≡ record { seen = opened admin } → ending ≡ status_of served
+    → clocked ≡ coming → first ≡ record { opening = opened admin; seen = [] }
+    → ending ≡ status_of served
     → Session (at old clocked first) (at new later desk) served
     → Replays admin (around old coming) new ending
 replays_by admin coming clocked later first desk old new served ending clock first_is is session =
