@@ -1,13 +1,15 @@
 //! What a request is answered on settled facts.
 
-ghost use Rattle.std.specs.Prelude.{◌≤◌, IfOk};
+ghost use Rattle.std.specs.Prelude.{◌≡◌, ◌≤◌, IfOk, codes};
 ghost use Rattle.pl_due.specs.Fit.{AreFit, last_moment};
+ghost use Rattle.pl_queueing.specs.Queueing as spec;
 ghost use Rattle.pl_step.specs.Answering.{Answers};
 
 use pl_answers::{Answer, empty_object};
 use pl_base::{Memory, Moment, Refusal, Shared, Text};
 use pl_decisions::decide;
 use pl_jobs::{claim, draw, report, why};
+use pl_journal::Journal;
 use pl_open_runs::IndexedJournal;
 use pl_plan::Compiled;
 use pl_queueing::queue;
@@ -17,6 +19,19 @@ use pl_settings::{
     get_file, put_file, remove_file, set_agent, set_pipeline, set_principal, set_resource,
 };
 use std::alloc::Global;
+
+/// The answer where a text is queued: its pipeline is `text`.
+fn queue_text(
+    alloc: Global,
+    journal: &Journal,
+    who: &Text,
+    made: Option<Result<Shared<Compiled>, Refusal>>,
+) -> Result<Answer, Memory>
+    ensures { IfOk result (λ answer. answer ≡ spec.queue journal.now (codes "text") who.now made) }
+{
+    let pipeline = Text::from_str(alloc, "text")?;
+    queue(alloc, journal, &pipeline, who, made)
+}
 
 /// What a request of a principal of this name is answered at a moment, where nothing is due.
 pub(crate) fn answer(
@@ -40,7 +55,7 @@ pub(crate) fn answer(
         Request::SetResource(told) => set_resource(alloc, indexed, told),
         Request::SetPrincipal(told) => set_principal(alloc, journal, told),
         Request::SetAgent(told) => set_agent(alloc, told),
-        Request::QueueText(_) => queue(alloc, journal, &Text::from_str(alloc, "text")?, who, made),
+        Request::QueueText(_) => queue_text(alloc, journal, who, made),
         Request::Queue(order) => queue(alloc, journal, &order.pipeline, who, made),
         Request::ReadRun { run } => read_run(alloc, journal, *run),
         Request::Cancel { run } => cancel(alloc, indexed, *run),
