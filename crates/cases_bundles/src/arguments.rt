@@ -1,5 +1,5 @@
-use crate::asking::first_line;
 use pl_base::{Argument, List, Memory, Text};
+use pl_cases::first_line;
 use std::alloc::Global;
 
 /// The mark of a run argument.

@@ -1,30 +1,34 @@
 use crate::spelling::{bytes_of, put_bytes};
 use pl_base::{FileKey, Memory, Text};
 use pl_bundle::{Bundle, bundle_of};
+use pl_cases::Answers;
 use std::alloc::Global;
 
 const NO_BUNDLE: &str = "no bundle\n";
 
-fn put_key(out: &mut Text, key: &FileKey) -> Result<(), Memory> {
-    out.push_str(key.repo.as_str())?;
-    out.push_str(" ")?;
-    out.push_str(key.git_ref.as_str())?;
-    out.push_str(" ")?;
-    out.push_str(key.path.as_str())?;
-    out.push_str("\n")
+fn put_key(out: &mut Answers, key: &FileKey) {
+    out.push(key.repo.as_str());
+    out.push(" ");
+    out.push(key.git_ref.as_str());
+    out.push(" ");
+    out.push(key.path.as_str());
+    out.push("\n")
 }
 
-fn put_root_of(alloc: Global, out: &mut Text, bytes: &[u8]) -> Result<(), Memory> {
-    match bundle_of(alloc, bytes)? {
-        Some(bundle) => put_key(out, &bundle.root),
-        None => out.push_str(NO_BUNDLE),
+fn put_root_of(alloc: Global, out: &mut Answers, bytes: &[u8]) {
+    match bundle_of(alloc, bytes) {
+        Ok(Some(bundle)) => put_key(out, &bundle.root),
+        Ok(None) => out.push(NO_BUNDLE),
+        Err(_) => out.fail(),
     }
 }
 
 /// Puts the key of a bundle's root file.
-pub fn put_root(alloc: Global, out: &mut Text, case: &str) -> Result<(), Memory> {
-    let bytes = bytes_of(alloc, case)?;
-    put_root_of(alloc, out, bytes.as_slice())
+pub fn put_root(alloc: Global, out: &mut Answers, case: &str) {
+    match bytes_of(alloc, case) {
+        Ok(bytes) => put_root_of(alloc, out, bytes.as_slice()),
+        Err(_) => out.fail(),
+    }
 }
 
 /// The path that a question spells.
@@ -44,23 +48,32 @@ fn key_at(alloc: Global, spelled: &str) -> Result<FileKey, Memory> {
     })
 }
 
-fn put_text_of(alloc: Global, out: &mut Text, path: &str, bundle: &Bundle) -> Result<(), Memory> {
-    let key = key_at(alloc, path)?;
-    match bundle.files.get(&key) {
-        Some(text) => put_bytes(alloc, out, text.as_slice()),
-        None => out.push_str("no file\n"),
+fn put_text_of(alloc: Global, out: &mut Answers, path: &str, bundle: &Bundle) {
+    match key_at(alloc, path) {
+        Ok(key) => put_file_of(alloc, out, &key, bundle),
+        Err(_) => out.fail(),
     }
 }
 
-fn put_text_in(alloc: Global, out: &mut Text, path: &str, bytes: &[u8]) -> Result<(), Memory> {
-    match bundle_of(alloc, bytes)? {
-        Some(bundle) => put_text_of(alloc, out, path, &bundle),
-        None => out.push_str(NO_BUNDLE),
+fn put_file_of(alloc: Global, out: &mut Answers, key: &FileKey, bundle: &Bundle) {
+    match bundle.files.get(key) {
+        Some(text) => put_bytes(alloc, out, text.as_slice()),
+        None => out.push("no file\n"),
+    }
+}
+
+fn put_text_in(alloc: Global, out: &mut Answers, path: &str, bytes: &[u8]) {
+    match bundle_of(alloc, bytes) {
+        Ok(Some(bundle)) => put_text_of(alloc, out, path, &bundle),
+        Ok(None) => out.push(NO_BUNDLE),
+        Err(_) => out.fail(),
     }
 }
 
 /// Puts the text at a path of a bundle.
-pub fn put_text_at(alloc: Global, out: &mut Text, path: &str, case: &str) -> Result<(), Memory> {
-    let bytes = bytes_of(alloc, case)?;
-    put_text_in(alloc, out, path, bytes.as_slice())
+pub fn put_text_at(alloc: Global, out: &mut Answers, path: &str, case: &str) {
+    match bytes_of(alloc, case) {
+        Ok(bytes) => put_text_in(alloc, out, path, bytes.as_slice()),
+        Err(_) => out.fail(),
+    }
 }

@@ -1,5 +1,5 @@
 use crate::origins::put_place;
-use pl_base::{Memory, Text};
+use pl_cases::Answers;
 use pl_directives::{Complaint, ExpandFault, ExpandProblem};
 use pl_eval::EvalCode;
 use pl_expr::ExprCode;
@@ -58,23 +58,23 @@ fn inner_code(problem: &ExpandProblem) -> &'static str {
     }
 }
 
-fn put_complaint(alloc: Global, out: &mut Text, complaint: &Complaint) -> Result<(), Memory> {
-    out.push_str("fault ")?;
-    out.push_str(complaint.problem.code())?;
-    out.push_str(" ")?;
+fn put_complaint(alloc: Global, out: &mut Answers, complaint: &Complaint) {
+    out.push("fault ");
+    out.push(complaint.problem.code());
+    out.push(" ");
     let inner = inner_code(&complaint.problem);
     if !inner.is_empty() {
-        out.push_str(inner)?;
-        out.push_str(" ")?;
+        out.push(inner);
+        out.push(" ");
     }
-    put_place(alloc, out, &complaint.place)?;
-    out.push_str("\n")
+    put_place(alloc, out, &complaint.place);
+    out.push("\n")
 }
 
 /// A fault's line. Want of memory is none.
-pub fn put_fault(alloc: Global, out: &mut Text, fault: &ExpandFault) -> Result<(), Memory> {
+pub fn put_fault(alloc: Global, out: &mut Answers, fault: &ExpandFault) {
     match fault {
         ExpandFault::Refused(complaint) => put_complaint(alloc, out, complaint),
-        ExpandFault::Memory => Err(Memory),
+        ExpandFault::Memory => out.fail(),
     }
 }

@@ -1,5 +1,5 @@
-use crate::asking::first_line;
 use pl_base::{FileKey, Memory, Text};
+use pl_cases::first_line;
 use pl_expand::MemFiles;
 use std::alloc::Global;
 

@@ -1,5 +1,5 @@
-use crate::asking::first_line;
 use pl_base::{Memory, Text};
+use pl_cases::first_line;
 use std::alloc::Global;
 
 /// Puts a line so many times, and then what stands below it.

@@ -1,6 +1,7 @@
 //! Bytes as a case spells them: `\xHH` is the byte of that number, `\` at a line's end joins it to
 //! the next, and everything else is itself.
-use pl_base::{Bytes, Memory, Text};
+use pl_base::{Bytes, Memory};
+use pl_cases::Answers;
 use std::alloc::Global;
 
 fn push_all(bytes: &mut Bytes, more: &str) -> Result<(), Memory> {
@@ -47,25 +48,27 @@ pub fn bytes_of(alloc: Global, text: &str) -> Result<Bytes, Memory> {
 }
 
 /// Puts a byte by its number.
-fn put_number(alloc: Global, out: &mut Text, byte: u8) -> Result<(), Memory> {
-    let spelled = format!(in alloc; "\\x{byte:02X}")?;
-    out.push_str(spelled.as_str())
+fn put_number(alloc: Global, out: &mut Answers, byte: u8) {
+    match format!(in alloc; "\\x{byte:02X}") {
+        Ok(spelled) => out.push(spelled.as_str()),
+        Err(_) => out.fail(),
+    }
 }
 
-fn put_byte(alloc: Global, out: &mut Text, byte: u8) -> Result<(), Memory> {
+fn put_byte(alloc: Global, out: &mut Answers, byte: u8) {
     match byte {
-        b'\n' | b' '..=b'~' => out.push_str(str::from_utf8([byte].as_slice()).unwrap_or("?")),
+        b'\n' | b' '..=b'~' => out.push(str::from_utf8([byte].as_slice()).unwrap_or("?")),
         _ => put_number(alloc, out, byte),
     }
 }
 
 /// Puts bytes as a case spells them, with an ended last line.
-pub fn put_bytes(alloc: Global, out: &mut Text, bytes: &[u8]) -> Result<(), Memory> {
+pub fn put_bytes(alloc: Global, out: &mut Answers, bytes: &[u8]) {
     for byte in bytes {
-        put_byte(alloc, out, *byte)?;
+        put_byte(alloc, out, *byte);
     }
     match bytes.last() {
-        None | Some(b'\n') => Ok(()),
-        Some(_) => out.push_str("\\\n"),
+        None | Some(b'\n') => {},
+        Some(_) => out.push("\\\n"),
     }
 }

@@ -5,139 +5,85 @@ use crate::scripts::play;
 use crate::shown::push_verdict;
 use crate::views::{moment_of, view_of};
 use pl_base::{Memory, Text};
+use pl_cases::{Answers, Questions};
 use pl_checks::{Check, matches};
 use std::alloc::Global;
 
-/// Writes a line of these two texts.
-pub fn write_line(out: &mut Text, front: &str, rest: &str) -> Result<(), Memory> {
-    out.push_str(front)?;
-    out.push_str(rest)?;
-    out.push_str("\n")
-}
+/// Questions on checks, zones and locks.
+#[derive(Drop)]
+pub struct Rules;
 
-/// Answers all cases.
-pub fn answer_all(alloc: Global, out: &mut Text, text: &str) -> Result<(), Memory> {
-    for ask in text.trim_end_matches('\n').split("\n%%% ask ").skip(1) {
-        answer_ask(alloc, out, ask)?;
-    }
-    Ok(())
-}
-
-/// Answers the cases of a question.
-fn answer_ask(alloc: Global, out: &mut Text, ask: &str) -> Result<(), Memory> {
-    let (question, rest) = ask.split_once('\n').unwrap_or((ask, ""));
-    let (world, cases) = rest.split_once("%%% case ").unwrap_or((rest, ""));
-    match question {
-        "patterns" => answer_patterns(alloc, out, cases),
-        "clocks" => answer_clocks(alloc, out, cases),
-        "check" => answer_check(alloc, out, world, cases),
-        "locks" => answer_locks(alloc, out, cases),
-        _ => write_line(out, "%%% not read: ", question),
+impl Questions for Rules {
+    fn answer(
+        &mut self,
+        alloc: Global,
+        out: &mut Answers,
+        question: &str,
+        notes: &str,
+        case: &str,
+    ) {
+        match question {
+            "patterns" => answer_pairs(alloc, out, case),
+            "clocks" => answer_moments(alloc, out, case),
+            "check" => answer_check(alloc, out, notes, case),
+            "locks" => play(alloc, out, case),
+            _ => out.line("%%% not read: ", question),
+        }
     }
 }
 
-fn answer_patterns(alloc: Global, out: &mut Text, cases: &str) -> Result<(), Memory> {
-    for case in cases.split("\n%%% case ") {
-        let (name, lines) = case.split_once('\n').unwrap_or((case, ""));
-        write_line(out, "%%% case ", name)?;
-        answer_pairs(alloc, out, lines)?;
-    }
-    Ok(())
-}
-
-fn answer_pairs(alloc: Global, out: &mut Text, lines: &str) -> Result<(), Memory> {
+fn answer_pairs(alloc: Global, out: &mut Answers, lines: &str) {
     for line in lines.split('\n') {
-        out.push_str(line)?;
-        write_line(out, "|", told_match(alloc, line)?)?;
+        out.push(line);
+        answer_match(alloc, out, line);
     }
-    Ok(())
 }
 
-/// Whether the pattern of a line matches its ref.
-fn told_match(alloc: Global, line: &str) -> Result<&'static str, Memory> {
+/// Writes whether the pattern of a line matches its ref.
+fn answer_match(alloc: Global, out: &mut Answers, line: &str) {
+    match is_match(alloc, line) {
+        Ok(true) => out.push("|yes\n"),
+        Ok(false) => out.push("|no\n"),
+        Err(_) => out.fail(),
+    }
+}
+
+fn is_match(alloc: Global, line: &str) -> Result<bool, Memory> {
     let (pattern, git_ref) = line.split_once('|').unwrap_or((line, ""));
     let pattern = Text::from_str(alloc, pattern)?;
     let git_ref = Text::from_str(alloc, git_ref)?;
-    Ok(if matches(&pattern, &git_ref) {
-        "yes"
-    } else {
-        "no"
-    })
+    Ok(matches(&pattern, &git_ref))
 }
 
-fn answer_clocks(alloc: Global, out: &mut Text, cases: &str) -> Result<(), Memory> {
-    for case in cases.split("\n%%% case ") {
-        let (name, lines) = case.split_once('\n').unwrap_or((case, ""));
-        write_line(out, "%%% case ", name)?;
-        answer_moments(alloc, out, lines)?;
-    }
-    Ok(())
-}
-
-fn answer_moments(alloc: Global, out: &mut Text, lines: &str) -> Result<(), Memory> {
+fn answer_moments(alloc: Global, out: &mut Answers, lines: &str) {
     for line in lines.split('\n') {
-        out.push_str(line)?;
-        out.push_str("|")?;
-        push_clock(alloc, out, line)?;
-        out.push_str("\n")?;
+        out.push(line);
+        out.push("|");
+        push_clock(alloc, out, line);
+        out.push("\n");
     }
-    Ok(())
 }
 
 /// Answers what a check says, which is told once for all cases of a question.
-fn answer_check(alloc: Global, out: &mut Text, world: &str, cases: &str) -> Result<(), Memory> {
-    match check_of(alloc, world)? {
-        Some(check) => answer_verdicts(alloc, out, world, &check, cases),
-        None => write_line(out, "%%% not read: ", field(world, "kind")),
+fn answer_check(alloc: Global, out: &mut Answers, world: &str, lines: &str) {
+    match check_of(alloc, world) {
+        Ok(Some(check)) => answer_views(alloc, out, world, &check, lines),
+        Ok(None) => out.line("%%% not read: ", field(world, "kind")),
+        Err(_) => out.fail(),
     }
 }
 
-fn answer_verdicts(
-    alloc: Global,
-    out: &mut Text,
-    world: &str,
-    check: &Check,
-    cases: &str,
-) -> Result<(), Memory> {
-    for case in cases.split("\n%%% case ") {
-        let (name, lines) = case.split_once('\n').unwrap_or((case, ""));
-        write_line(out, "%%% case ", name)?;
-        answer_views(alloc, out, world, check, lines)?;
-    }
-    Ok(())
-}
-
-fn answer_views(
-    alloc: Global,
-    out: &mut Text,
-    world: &str,
-    check: &Check,
-    lines: &str,
-) -> Result<(), Memory> {
+fn answer_views(alloc: Global, out: &mut Answers, world: &str, check: &Check, lines: &str) {
     for line in lines.split('\n') {
-        out.push_str(line)?;
-        out.push_str("|")?;
-        answer_view(alloc, out, world, check, line)?;
+        out.push(line);
+        out.push("|");
+        answer_view(alloc, out, world, check, line);
     }
-    Ok(())
 }
 
-fn answer_view(
-    alloc: Global,
-    out: &mut Text,
-    world: &str,
-    check: &Check,
-    line: &str,
-) -> Result<(), Memory> {
-    let view = view_of(alloc, world, check, line)?;
-    push_verdict(alloc, out, check, &view, moment_of(check, &view, line))
-}
-
-fn answer_locks(alloc: Global, out: &mut Text, cases: &str) -> Result<(), Memory> {
-    for case in cases.split("\n%%% case ") {
-        let (name, script) = case.split_once('\n').unwrap_or((case, ""));
-        write_line(out, "%%% case ", name)?;
-        play(alloc, out, script)?;
+fn answer_view(alloc: Global, out: &mut Answers, world: &str, check: &Check, line: &str) {
+    match view_of(alloc, world, check, line) {
+        Ok(view) => push_verdict(alloc, out, check, &view, moment_of(check, &view, line)),
+        Err(_) => out.fail(),
     }
-    Ok(())
 }

@@ -12,15 +12,17 @@ mod shown;
 mod steps;
 mod views;
 
-use crate::asks::answer_all;
-use pl_base::Text;
+use crate::asks::Rules;
+use pl_cases::{Answers, answer_all};
 use std::io;
 
 fn main(rt: HostRuntime) -> io::Result<()> {
     let cases = io::read_to_string(rt.alloc(), rt.reader())?;
-    let mut out = Text::new(rt.alloc());
-    if answer_all(rt.alloc(), &mut out, cases.as_str()).is_err() {
-        return Err(io::Error::from(io::ErrorKind::OutOfMemory));
+    let mut out = Answers::new(rt.alloc());
+    let mut rules = Rules;
+    answer_all(rt.alloc(), &mut out, &mut rules, cases.as_str());
+    match out.text() {
+        Ok(text) => print!(rt; "{text}"),
+        Err(_) => Err(io::Error::from(io::ErrorKind::OutOfMemory)),
     }
-    print!(rt; "{}", out.as_str())
 }

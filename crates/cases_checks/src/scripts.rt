@@ -1,85 +1,87 @@
-use crate::asks::write_line;
 use crate::contenders::{contender_of, number};
-use pl_base::{Memory, Text};
+use pl_cases::Answers;
 use pl_locks::{Contender, Contenders};
 use std::alloc::Global;
 
 /// Carries out a script, and writes each line with what it told.
-pub fn play(alloc: Global, out: &mut Text, script: &str) -> Result<(), Memory> {
+pub fn play(alloc: Global, out: &mut Answers, script: &str) {
     let mut lists = Contenders::new(alloc);
     for line in script.split('\n') {
-        out.push_str(line)?;
-        carry_out(alloc, out, &mut lists, line)?;
+        out.push(line);
+        carry_out(alloc, out, &mut lists, line);
     }
-    Ok(())
 }
 
-fn carry_out(
-    alloc: Global,
-    out: &mut Text,
-    lists: &mut Contenders,
-    line: &str,
-) -> Result<(), Memory> {
+fn carry_out(alloc: Global, out: &mut Answers, lists: &mut Contenders, line: &str) {
     let mut words = line.split_whitespace();
     let call = words.next().unwrap_or("");
     let run = number(words.next()) as u64;
     let position = number(words.next());
     match call {
-        "enter" => enter(out, lists, contender_of(alloc, line)?),
+        "enter" => enter_line(alloc, out, lists, line),
         "hold" => hold(out, lists, run, position),
-        "leave" => {
-            lists.leave(run, position);
-            out.push_str("\n")
-        }
-        "release" => {
-            lists.release(run, position);
-            out.push_str("\n")
-        }
+        "leave" => lists.leave(run, position),
+        "release" => lists.release(run, position),
         "next" => push_next(alloc, out, lists),
         "superseded" => push_superseded(alloc, out, lists),
-        "copy" => {
-            *lists = lists.copy()?;
-            out.push_str("\n")
-        }
-        _ => write_line(out, "", " is not read"),
+        "copy" => copy(out, lists),
+        _ => out.push(" is not read"),
+    }
+    out.push("\n")
+}
+
+/// Goes on with a copy.
+fn copy(out: &mut Answers, lists: &mut Contenders) {
+    match lists.copy() {
+        Ok(copy) => *lists = copy,
+        Err(_) => out.fail(),
     }
 }
 
-fn enter(out: &mut Text, lists: &mut Contenders, stage: Contender) -> Result<(), Memory> {
+fn enter_line(alloc: Global, out: &mut Answers, lists: &mut Contenders, line: &str) {
+    match contender_of(alloc, line) {
+        Ok(stage) => enter(out, lists, stage),
+        Err(_) => out.fail(),
+    }
+}
+
+fn enter(out: &mut Answers, lists: &mut Contenders, stage: Contender) {
     if lists.is_new(stage.run, stage.position) {
-        lists.enter(stage)?;
-        return out.push_str("\n");
+        if lists.enter(stage).is_err() {
+            out.fail();
+        }
+        return;
     }
-    write_line(out, "", " is there")
+    out.push(" is there")
 }
 
-fn hold(out: &mut Text, lists: &mut Contenders, run: u64, position: u32) -> Result<(), Memory> {
+fn hold(out: &mut Answers, lists: &mut Contenders, run: u64, position: u32) {
     if let Some((next_run, next_position)) = lists.next()
         && next_run == run
         && next_position == position
     {
-        lists.hold(next_run, next_position);
-        return out.push_str("\n");
+        return lists.hold(next_run, next_position);
     }
-    write_line(out, "", " is not next")
+    out.push(" is not next")
 }
 
-fn push_next(alloc: Global, out: &mut Text, lists: &Contenders) -> Result<(), Memory> {
-    match lists.next() {
-        Some((run, position)) => {
-            let told = format!(in alloc; " {run} {position}")?;
-            write_line(out, told.as_str(), "")
-        }
-        None => out.push_str("\n"),
+/// Writes a number behind a space.
+fn push_number(alloc: Global, out: &mut Answers, number: u64) {
+    out.push(" ");
+    out.number(alloc, number)
+}
+
+fn push_next(alloc: Global, out: &mut Answers, lists: &Contenders) {
+    if let Some((run, position)) = lists.next() {
+        push_number(alloc, out, run);
+        push_number(alloc, out, u64::from(position))
     }
 }
 
-fn push_superseded(alloc: Global, out: &mut Text, lists: &Contenders) -> Result<(), Memory> {
-    match lists.superseded() {
-        Some((run, position, later)) => {
-            let told = format!(in alloc; " {run} {position} {later}")?;
-            write_line(out, told.as_str(), "")
-        }
-        None => out.push_str("\n"),
+fn push_superseded(alloc: Global, out: &mut Answers, lists: &Contenders) {
+    if let Some((run, position, later)) = lists.superseded() {
+        push_number(alloc, out, run);
+        push_number(alloc, out, u64::from(position));
+        push_number(alloc, out, later)
     }
 }

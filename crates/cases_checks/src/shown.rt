@@ -1,53 +1,70 @@
-use crate::asks::write_line;
-use pl_base::{LAST_MOMENT, Memory, Moment, Text};
+use pl_base::{LAST_MOMENT, Moment};
+use pl_cases::Answers;
 use pl_checks::{Check, CheckView, Verdict, verdict};
 use pl_rules::Rule;
 use std::alloc::Global;
 
+/// Writes a word and two numbers behind it.
+fn push_numbers(alloc: Global, out: &mut Answers, word: &str, first: u64, second: u64) {
+    out.push(word);
+    out.number(alloc, first);
+    out.push(" ");
+    out.number(alloc, second)
+}
+
 /// Writes a rule that lets a stage wait.
-fn push_waiting(alloc: Global, out: &mut Text, rule: &Rule) -> Result<(), Memory> {
+fn push_waiting(alloc: Global, out: &mut Answers, rule: &Rule) {
     match rule {
         Rule::ApprovalOpen { have, need } => {
-            let shown = format!(in alloc; "open {have} {need}")?;
-            write_line(out, shown.as_str(), "")
+            push_numbers(alloc, out, "open ", *have, u64::from(*need))
         }
-        Rule::HoursClosed { day, minute } => {
-            let shown = format!(in alloc; "closed {day:?} {minute}")?;
-            write_line(out, shown.as_str(), "")
-        }
-        _ => write_line(out, "another rule", ""),
+        Rule::HoursClosed { day, minute } => match format!(in alloc; "closed {day:?} {minute}") {
+            Ok(shown) => out.push(shown.as_str()),
+            Err(_) => out.fail(),
+        },
+        _ => out.push("another rule"),
     }
 }
 
 /// Writes a rule that ends a stage.
-fn push_ending(alloc: Global, out: &mut Text, rule: &Rule) -> Result<(), Memory> {
+fn push_ending(alloc: Global, out: &mut Answers, rule: &Rule) {
     match rule {
-        Rule::TemplateRequired => write_line(out, "required", ""),
+        Rule::TemplateRequired => out.push("required"),
         Rule::TemplateArgument { job, step } => {
-            let shown = format!(in alloc; "argument {} {step}", job.as_str())?;
-            write_line(out, shown.as_str(), "")
+            out.push("argument ");
+            out.push(job.as_str());
+            out.push(" ");
+            out.number(alloc, u64::from(*step))
         }
-        Rule::BranchRefused { git_ref } => write_line(out, "refused ", git_ref.as_str()),
-        Rule::ApprovalRejected { approver } => write_line(out, "rejected ", approver.as_str()),
-        Rule::ApprovalTimeout | Rule::HoursTimeout => write_line(out, "timeout", ""),
-        _ => write_line(out, "another rule", ""),
+        Rule::BranchRefused { git_ref } => {
+            out.push("refused ");
+            out.push(git_ref.as_str())
+        }
+        Rule::ApprovalRejected { approver } => {
+            out.push("rejected ");
+            out.push(approver.as_str())
+        }
+        Rule::ApprovalTimeout | Rule::HoursTimeout => out.push("timeout"),
+        _ => out.push("another rule"),
     }
 }
 
 /// Writes what a check says, in a few words and a line.
 pub fn push_verdict(
     alloc: Global,
-    out: &mut Text,
+    out: &mut Answers,
     check: &Check,
     view: &CheckView,
     moment: Moment,
-) -> Result<(), Memory> {
+) {
     if view.ready > LAST_MOMENT {
-        return write_line(out, "no moment", "");
+        return out.line("no moment", "");
     }
-    match verdict(alloc, check, view, moment.min(LAST_MOMENT))? {
-        Verdict::Pass => write_line(out, "pass", ""),
-        Verdict::Wait(rule) => push_waiting(alloc, out, &rule),
-        Verdict::Fail(rule) => push_ending(alloc, out, &rule),
+    match verdict(alloc, check, view, moment.min(LAST_MOMENT)) {
+        Ok(Verdict::Pass) => out.push("pass"),
+        Ok(Verdict::Wait(rule)) => push_waiting(alloc, out, &rule),
+        Ok(Verdict::Fail(rule)) => push_ending(alloc, out, &rule),
+        Err(_) => out.fail(),
     }
+    out.push("\n")
 }

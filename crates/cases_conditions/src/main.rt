@@ -9,14 +9,15 @@ mod variables;
 mod views;
 
 use crate::asks::answer_pipelines;
-use pl_base::Text;
+use pl_cases::Answers;
 use std::io;
 
 fn main(rt: HostRuntime) -> io::Result<()> {
     let cases = io::read_to_string(rt.alloc(), rt.reader())?;
-    let mut out = Text::new(rt.alloc());
-    if answer_pipelines(rt.alloc(), &mut out, cases.as_str()).is_err() {
-        return Err(io::Error::from(io::ErrorKind::OutOfMemory));
+    let mut out = Answers::new(rt.alloc());
+    answer_pipelines(rt.alloc(), &mut out, cases.as_str());
+    match out.text() {
+        Ok(text) => print!(rt; "{text}"),
+        Err(_) => Err(io::Error::from(io::ErrorKind::OutOfMemory)),
     }
-    print!(rt; "{}", out.as_str())
 }

@@ -5,18 +5,13 @@ use crate::texts::{push_changed, push_filled, push_found, push_joined, push_repl
 use crate::trees::{push_fault, push_printed, push_tree};
 use crate::values::{push_comparison, push_conversions, push_literal_printed};
 use crate::world::World;
-use pl_base::{Memory, Text};
+use pl_base::Text;
+use pl_cases::Answers;
 use pl_expr::Mode;
 use std::alloc::Global;
 
 /// Adds the answer to a question on a text.
-pub fn push_answer(
-    alloc: Global,
-    out: &mut Text,
-    world: &World,
-    question: &str,
-    text: &Text,
-) -> Result<(), Memory> {
+pub fn push_answer(alloc: Global, out: &mut Answers, world: &World, question: &str, text: &Text) {
     match question {
         "fault in a template" => push_fault(alloc, out, Mode::Compile, text),
         "fault in a variable" => push_fault(alloc, out, Mode::Variable, text),
@@ -35,7 +30,7 @@ pub fn push_answer(
 }
 
 /// Of texts and templates.
-fn push_other(alloc: Global, out: &mut Text, question: &str, text: &Text) -> Result<(), Memory> {
+fn push_other(alloc: Global, out: &mut Answers, question: &str, text: &Text) {
     match question {
         "contains, begins, ends, characters" => push_found(alloc, out, text.as_str()),
         "lower, upper, trimmed" => push_changed(alloc, out, text),
@@ -49,6 +44,6 @@ fn push_other(alloc: Global, out: &mut Text, question: &str, text: &Text) -> Res
         "Boolean" => push_boolean(out, text),
         "spells" => push_spells(out, text.as_str()),
         "kind of an item" => push_kind(out, text),
-        _ => out.push_str("no such question"),
+        _ => out.push("no such question"),
     }
 }

@@ -1,6 +1,7 @@
 //! Values as cases write them, their conversions, and how they are compared.
 use crate::trees::push_expr_printed;
 use pl_base::{List, Memory, Text, Value};
+use pl_cases::Answers;
 use pl_expr::{Expr, Mode, loosely_equal, order, parse, to_bool, to_number, to_text, to_version};
 use std::alloc::Global;
 use std::cmp::Ordering;
@@ -40,74 +41,84 @@ fn literal(alloc: Global, text: &str) -> Result<Value, Memory> {
 }
 
 /// A value converted to a text.
-pub fn push_converted(alloc: Global, out: &mut Text, value: &Value) -> Result<(), Memory> {
-    let text = to_text(alloc, value)?;
-    out.push_str(text.as_str())
-}
-
-/// What is printed of a value as a literal.
-pub fn push_literal_printed(alloc: Global, out: &mut Text, text: &str) -> Result<(), Memory> {
-    let expr = Expr::Lit(value_of(alloc, text)?);
-    push_expr_printed(alloc, out, &expr)
-}
-
-/// A value converted: `BOOLEAN|NUMBER|TEXT|VERSION`.
-pub fn push_conversions(alloc: Global, out: &mut Text, text: &str) -> Result<(), Memory> {
-    let value = value_of(alloc, text)?;
-    push_value_converted(alloc, out, &value)
-}
-
-fn push_value_converted(alloc: Global, out: &mut Text, value: &Value) -> Result<(), Memory> {
-    push_bool(out, to_bool(value))?;
-    out.push_str("|")?;
-    push_number(alloc, out, value)?;
-    out.push_str("|")?;
-    push_converted(alloc, out, value)?;
-    out.push_str("|")?;
-    push_version(alloc, out, value)
-}
-
-pub fn push_bool(out: &mut Text, truth: bool) -> Result<(), Memory> {
-    out.push_str(if truth { "true" } else { "false" })
-}
-
-fn push_number(alloc: Global, out: &mut Text, value: &Value) -> Result<(), Memory> {
-    match to_number(value) {
-        Some(number) => push_converted(alloc, out, &Value::Number(number)),
-        None => out.push_str("none"),
+pub fn push_converted(alloc: Global, out: &mut Answers, value: &Value) {
+    match to_text(alloc, value) {
+        Ok(text) => out.push(text.as_str()),
+        Err(_) => out.fail(),
     }
 }
 
-fn push_version(alloc: Global, out: &mut Text, value: &Value) -> Result<(), Memory> {
-    match to_version(alloc, value)? {
-        Some(version) => push_converted(alloc, out, &version),
-        None => Ok(()),
+/// What is printed of a value as a literal.
+pub fn push_literal_printed(alloc: Global, out: &mut Answers, text: &str) {
+    match value_of(alloc, text) {
+        Ok(value) => push_expr_printed(alloc, out, &Expr::Lit(value)),
+        Err(_) => out.fail(),
+    }
+}
+
+/// A value converted: `BOOLEAN|NUMBER|TEXT|VERSION`.
+pub fn push_conversions(alloc: Global, out: &mut Answers, text: &str) {
+    match value_of(alloc, text) {
+        Ok(value) => push_value_converted(alloc, out, &value),
+        Err(_) => out.fail(),
+    }
+}
+
+fn push_value_converted(alloc: Global, out: &mut Answers, value: &Value) {
+    push_bool(out, to_bool(value));
+    out.push("|");
+    push_number(alloc, out, value);
+    out.push("|");
+    push_converted(alloc, out, value);
+    out.push("|");
+    push_version(alloc, out, value)
+}
+
+pub fn push_bool(out: &mut Answers, truth: bool) {
+    out.push(if truth { "true" } else { "false" })
+}
+
+fn push_number(alloc: Global, out: &mut Answers, value: &Value) {
+    match to_number(value) {
+        Some(number) => push_converted(alloc, out, &Value::Number(number)),
+        None => out.push("none"),
+    }
+}
+
+fn push_version(alloc: Global, out: &mut Answers, value: &Value) {
+    match to_version(alloc, value) {
+        Ok(Some(version)) => push_converted(alloc, out, &version),
+        Ok(None) => {}
+        Err(_) => out.fail(),
     }
 }
 
 /// How two values `LEFT|RIGHT` are compared: `EQUAL ORDER`.
-pub fn push_comparison(alloc: Global, out: &mut Text, text: &str) -> Result<(), Memory> {
+pub fn push_comparison(alloc: Global, out: &mut Answers, text: &str) {
     let (left, right) = text.split_once('|').unwrap_or((text, ""));
-    let left = value_of(alloc, left)?;
-    push_compared(alloc, out, &left, right)
+    match value_of(alloc, left) {
+        Ok(left) => push_compared(alloc, out, &left, right),
+        Err(_) => out.fail(),
+    }
 }
 
-fn push_compared(alloc: Global, out: &mut Text, left: &Value, right: &str) -> Result<(), Memory> {
-    let right = value_of(alloc, right)?;
-    push_both_compared(alloc, out, left, &right)
+fn push_compared(alloc: Global, out: &mut Answers, left: &Value, right: &str) {
+    match value_of(alloc, right) {
+        Ok(right) => push_both_compared(alloc, out, left, &right),
+        Err(_) => out.fail(),
+    }
 }
 
-fn push_both_compared(
-    alloc: Global,
-    out: &mut Text,
-    left: &Value,
-    right: &Value,
-) -> Result<(), Memory> {
-    push_bool(out, loosely_equal(alloc, left, right)?)?;
-    match order(alloc, left, right)? {
-        Some(Ordering::Less) => out.push_str(" Less"),
-        Some(Ordering::Equal) => out.push_str(" Equal"),
-        Some(Ordering::Greater) => out.push_str(" Greater"),
-        None => out.push_str(" None"),
+fn push_both_compared(alloc: Global, out: &mut Answers, left: &Value, right: &Value) {
+    match loosely_equal(alloc, left, right) {
+        Ok(equal) => push_bool(out, equal),
+        Err(_) => out.fail(),
+    }
+    match order(alloc, left, right) {
+        Ok(Some(Ordering::Less)) => out.push(" Less"),
+        Ok(Some(Ordering::Equal)) => out.push(" Equal"),
+        Ok(Some(Ordering::Greater)) => out.push(" Greater"),
+        Ok(None) => out.push(" None"),
+        Err(_) => out.fail(),
     }
 }

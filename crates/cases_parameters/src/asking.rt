@@ -1,44 +1,30 @@
 use crate::parameters::put_parameters;
-use pl_base::{Memory, Text};
+use pl_cases::{Answers, first_line};
 use std::alloc::Global;
 
-/// Puts a line: a mark, and what stands behind it.
-fn put_line(out: &mut Text, mark: &str, rest: &str) -> Result<(), Memory> {
-    out.push_str(mark)?;
-    out.push_str(rest)?;
-    out.push_str("\n")
-}
-
-/// A first line, and what stands below it.
-pub fn first_line(text: &str) -> (&str, &str) {
-    text.split_once('\n').unwrap_or((text, ""))
-}
-
 /// Puts the answer to a case.
-fn answer(alloc: Global, out: &mut Text, question: &str, case: &str) -> Result<(), Memory> {
+fn answer(alloc: Global, out: &mut Answers, question: &str, case: &str) {
     match question {
         "parameters" => put_parameters(alloc, out, false, case),
         "message of parameters" => put_parameters(alloc, out, true, case),
-        _ => put_line(out, "%%% not read: ", question),
+        _ => out.line("%%% not read: ", question),
     }
 }
 
 /// Puts the answers to the cases behind a question.
-fn answer_each(alloc: Global, out: &mut Text, question: &str, cases: &str) -> Result<(), Memory> {
+fn answer_each(alloc: Global, out: &mut Answers, question: &str, cases: &str) {
     for case in cases.split("%%% case ").skip(1) {
         let (name, case) = first_line(case);
-        put_line(out, "%%% case ", name)?;
-        answer(alloc, out, question, case)?;
+        out.line("%%% case ", name);
+        answer(alloc, out, question, case);
     }
-    Ok(())
 }
 
 /// Puts the name of a file of cases and the answers to its cases.
-pub fn answer_file(alloc: Global, out: &mut Text, name: &str, file: &str) -> Result<(), Memory> {
-    put_line(out, "%%% file ", name)?;
+pub fn answer_file(alloc: Global, out: &mut Answers, name: &str, file: &str) {
+    out.line("%%% file ", name);
     for part in file.split("%%% ask ").skip(1) {
         let (question, cases) = first_line(part);
-        answer_each(alloc, out, question, cases)?;
+        answer_each(alloc, out, question, cases);
     }
-    Ok(())
 }

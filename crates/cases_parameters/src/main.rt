@@ -24,23 +24,23 @@ mod numbers;
 mod parameters;
 
 use crate::asking::answer_file;
-use pl_base::Text;
-use std::alloc::AllocError;
+use pl_cases::Answers;
 use std::{env, fs, io};
 
 /// Puts the answers to the file of cases of that name.
-fn answer_named(rt: &HostRuntime, out: &mut Text, name: &str) -> io::Result<()> {
+fn answer_named(rt: &HostRuntime, out: &mut Answers, name: &str) -> io::Result<()> {
     let file = fs::read_to_string(rt, name)?;
-    match answer_file(rt.alloc(), out, name, file.as_str()) {
-        Ok(()) => Ok(()),
-        Err(_) => Err(io::Error::from(AllocError)),
-    }
+    answer_file(rt.alloc(), out, name, file.as_str());
+    Ok(())
 }
 
 fn main(rt: HostRuntime) -> io::Result<()> {
-    let mut out = Text::new(rt.alloc());
+    let mut out = Answers::new(rt.alloc());
     for name in env::args(&rt)?.skip(1) {
         answer_named(&rt, &mut out, name.as_str())?;
     }
-    rt.print(out.as_str())
+    match out.text() {
+        Ok(text) => rt.print(text),
+        Err(_) => Err(io::Error::from(io::ErrorKind::OutOfMemory)),
+    }
 }

@@ -1,8 +1,8 @@
-use crate::asking::first_line;
 use crate::bindings::{put_bounds, put_params};
 use crate::given::given_in;
 use crate::numbers::put_place;
 use pl_base::{FileKey, List, Memory, Node, Text};
+use pl_cases::{Answers, first_line};
 use pl_params::{Complaint, Declared, Given, ParamFault, bind, declare};
 use pl_yaml::{YamlFault, read};
 use std::alloc::Global;
@@ -10,24 +10,21 @@ use std::alloc::Global;
 const NO_YAML: &str = "no YAML\n";
 
 /// What a developer is told.
-fn put_message(alloc: Global, out: &mut Text, complaint: &Complaint) -> Result<(), Memory> {
-    let message = format!(in alloc; "{complaint}\n")?;
-    out.push_str(message.as_str())
+fn put_message(alloc: Global, out: &mut Answers, complaint: &Complaint) {
+    match format!(in alloc; "{complaint}\n") {
+        Ok(message) => out.push(message.as_str()),
+        Err(_) => out.fail(),
+    }
 }
 
-fn put_code(alloc: Global, out: &mut Text, complaint: &Complaint) -> Result<(), Memory> {
-    out.push_str(complaint.problem.code())?;
-    out.push_str(" ")?;
-    put_place(alloc, out, &complaint.place)?;
-    out.push_str("\n")
+fn put_code(alloc: Global, out: &mut Answers, complaint: &Complaint) {
+    out.push(complaint.problem.code());
+    out.push(" ");
+    put_place(alloc, out, &complaint.place);
+    out.push("\n")
 }
 
-fn put_complaint(
-    alloc: Global,
-    out: &mut Text,
-    is_message: bool,
-    complaint: &Complaint,
-) -> Result<(), Memory> {
+fn put_complaint(alloc: Global, out: &mut Answers, is_message: bool, complaint: &Complaint) {
     if is_message {
         put_message(alloc, out, complaint)
     } else {
@@ -36,40 +33,31 @@ fn put_complaint(
 }
 
 /// Puts a refusal: its message, or its code and place.
-fn put_refusal(
-    alloc: Global,
-    out: &mut Text,
-    is_message: bool,
-    fault: &ParamFault,
-) -> Result<(), Memory> {
+fn put_refusal(alloc: Global, out: &mut Answers, is_message: bool, fault: &ParamFault) {
     match fault {
         ParamFault::Refused(complaint) => put_complaint(alloc, out, is_message, complaint),
-        ParamFault::Memory => Err(Memory),
+        ParamFault::Memory => out.fail(),
     }
 }
 
 fn put_bound(
     alloc: Global,
-    out: &mut Text,
+    out: &mut Answers,
     is_message: bool,
     declared: &Declared,
     given: &List<Given>,
-) -> Result<(), Memory> {
+) {
     match bind(alloc, declared, given) {
         Ok(bounds) => put_bounds(alloc, out, &bounds),
         Err(fault) => put_refusal(alloc, out, is_message, &fault),
     }
 }
 
-fn put_given(
-    alloc: Global,
-    out: &mut Text,
-    is_message: bool,
-    declared: &Declared,
-    node: &Node,
-) -> Result<(), Memory> {
-    let given = given_in(alloc, node)?;
-    put_bound(alloc, out, is_message, declared, &given)
+fn put_given(alloc: Global, out: &mut Answers, is_message: bool, declared: &Declared, node: &Node) {
+    match given_in(alloc, node) {
+        Ok(given) => put_bound(alloc, out, is_message, declared, &given),
+        Err(_) => out.fail(),
+    }
 }
 
 /// The file of all cases.
@@ -103,25 +91,26 @@ fn node_below(alloc: Global, text: &str) -> Result<Option<Node>, Memory> {
 
 fn put_given_in(
     alloc: Global,
-    out: &mut Text,
+    out: &mut Answers,
     is_message: bool,
     declared: &Declared,
     text: &str,
-) -> Result<(), Memory> {
-    match node_below(alloc, text)? {
-        Some(node) => put_given(alloc, out, is_message, declared, &node),
-        None => out.push_str(NO_YAML),
+) {
+    match node_below(alloc, text) {
+        Ok(Some(node)) => put_given(alloc, out, is_message, declared, &node),
+        Ok(None) => out.push(NO_YAML),
+        Err(_) => out.fail(),
     }
 }
 
 /// Puts what is declared, or what is bound to it where something is given.
 fn put_either(
     alloc: Global,
-    out: &mut Text,
+    out: &mut Answers,
     is_message: bool,
     declared: &Declared,
     given: &str,
-) -> Result<(), Memory> {
+) {
     if given.is_empty() {
         put_params(alloc, out, declared)
     } else {
@@ -129,13 +118,7 @@ fn put_either(
     }
 }
 
-fn put_declared(
-    alloc: Global,
-    out: &mut Text,
-    is_message: bool,
-    node: &Node,
-    given: &str,
-) -> Result<(), Memory> {
+fn put_declared(alloc: Global, out: &mut Answers, is_message: bool, node: &Node, given: &str) {
     match declare(alloc, node) {
         Ok(declared) => put_either(alloc, out, is_message, &declared, given),
         Err(fault) => put_refusal(alloc, out, is_message, &fault),
@@ -143,15 +126,11 @@ fn put_declared(
 }
 
 /// Puts what a case declares or binds.
-pub fn put_parameters(
-    alloc: Global,
-    out: &mut Text,
-    is_message: bool,
-    case: &str,
-) -> Result<(), Memory> {
+pub fn put_parameters(alloc: Global, out: &mut Answers, is_message: bool, case: &str) {
     let (declarations, given) = first_line(case);
-    match node_in(alloc, declarations)? {
-        Some(node) => put_declared(alloc, out, is_message, &node, given),
-        None => out.push_str(NO_YAML),
+    match node_in(alloc, declarations) {
+        Ok(Some(node)) => put_declared(alloc, out, is_message, &node, given),
+        Ok(None) => out.push(NO_YAML),
+        Err(_) => out.fail(),
     }
 }

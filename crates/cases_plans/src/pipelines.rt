@@ -2,7 +2,8 @@ use crate::numbers::put_place;
 use crate::plans::{Aspect, put_plan_of};
 use crate::stages::put_pipeline;
 use crate::world::{expanded, file};
-use pl_base::{Expanded, FileKey, List, Memory, Node, Place, Repository, Text};
+use pl_base::{Expanded, FileKey, List, Node, Place, Repository};
+use pl_cases::Answers;
 use pl_schema::{Pipeline, SchemaFault, pipeline_of};
 use pl_yaml::read;
 use std::alloc::Global;
@@ -37,51 +38,45 @@ fn no_yaml(asked: Asked) -> &'static str {
 }
 
 /// Puts a file as `REPO REF PATH`.
-pub fn put_key(out: &mut Text, what: &str, key: &FileKey) -> Result<(), Memory> {
-    out.push_str(what)?;
-    out.push_str(key.repo.as_str())?;
-    out.push_str(" ")?;
-    out.push_str(key.git_ref.as_str())?;
-    out.push_str(" ")?;
-    out.push_str(key.path.as_str())?;
-    out.push_str("\n")
+pub fn put_key(out: &mut Answers, what: &str, key: &FileKey) {
+    out.push(what);
+    out.push(key.repo.as_str());
+    out.push(" ");
+    out.push(key.git_ref.as_str());
+    out.push(" ");
+    out.push(key.path.as_str());
+    out.push("\n")
 }
 
-fn put_repositories(out: &mut Text, all: &List<Repository>) -> Result<(), Memory> {
+fn put_repositories(out: &mut Answers, all: &List<Repository>) {
     for one in all.as_slice() {
-        out.push_str("repository ")?;
-        out.push_str(one.alias.as_str())?;
-        out.push_str(" ")?;
-        out.push_str(one.name.as_str())?;
-        out.push_str(" ")?;
-        out.push_str(one.git_ref.as_str())?;
-        out.push_str("\n")?;
+        out.push("repository ");
+        out.push(one.alias.as_str());
+        out.push(" ");
+        out.push(one.name.as_str());
+        out.push(" ");
+        out.push(one.git_ref.as_str());
+        out.push("\n");
     }
-    Ok(())
 }
 
 /// Puts the root file, and the template that it extends.
-pub fn put_roots(out: &mut Text, root: &FileKey, extends: &Option<FileKey>) -> Result<(), Memory> {
-    put_key(out, "root ", root)?;
+pub fn put_roots(out: &mut Answers, root: &FileKey, extends: &Option<FileKey>) {
+    put_key(out, "root ", root);
     match extends {
         Some(file) => put_key(out, "extends ", file),
-        None => Ok(()),
+        None => {},
     }
 }
 
-fn put_files(out: &mut Text, pipeline: &Pipeline) -> Result<(), Memory> {
-    put_roots(out, &pipeline.root, &pipeline.extends)?;
+fn put_files(out: &mut Answers, pipeline: &Pipeline) {
+    put_roots(out, &pipeline.root, &pipeline.extends);
     put_repositories(out, &pipeline.repositories)
 }
 
-fn put_asked(
-    alloc: Global,
-    out: &mut Text,
-    asked: Asked,
-    pipeline: &Pipeline,
-) -> Result<(), Memory> {
+fn put_asked(alloc: Global, out: &mut Answers, asked: Asked, pipeline: &Pipeline) {
     match asked {
-        Asked::Schema => out.push_str("ok\n"),
+        Asked::Schema => out.push("ok\n"),
         Asked::Pipeline => put_pipeline(alloc, out, pipeline),
         Asked::Files => put_files(out, pipeline),
         Asked::Plan(aspect) => put_plan_of(alloc, out, aspect, pipeline),
@@ -89,72 +84,55 @@ fn put_asked(
 }
 
 /// Puts a code and the place of a fault.
-pub fn put_fault(alloc: Global, out: &mut Text, code: &str, place: &Place) -> Result<(), Memory> {
-    out.push_str(code)?;
-    out.push_str(" ")?;
+pub fn put_fault(alloc: Global, out: &mut Answers, code: &str, place: &Place) {
+    out.push(code);
+    out.push(" ");
     put_place(alloc, out, place)
 }
 
-fn put_refusal(alloc: Global, out: &mut Text, fault: &SchemaFault) -> Result<(), Memory> {
+fn put_refusal(alloc: Global, out: &mut Answers, fault: &SchemaFault) {
     match fault {
         SchemaFault::Refused(code, place) => {
-            put_fault(alloc, out, code.code(), place)?;
-            out.push_str("\n")
+            put_fault(alloc, out, code.code(), place);
+            out.push("\n")
         }
-        SchemaFault::Memory => Err(Memory),
+        SchemaFault::Memory => out.fail(),
     }
 }
 
 /// Puts why there is no pipeline.
-fn put_none(
-    alloc: Global,
-    out: &mut Text,
-    asked: Asked,
-    fault: &SchemaFault,
-) -> Result<(), Memory> {
+fn put_none(alloc: Global, out: &mut Answers, asked: Asked, fault: &SchemaFault) {
     match asked {
-        Asked::Plan(_) => out.push_str("no pipeline\n"),
+        Asked::Plan(_) => out.push("no pipeline\n"),
         _ => put_refusal(alloc, out, fault),
     }
 }
 
-fn put_expanded(
-    alloc: Global,
-    out: &mut Text,
-    asked: Asked,
-    whole: &Expanded,
-) -> Result<(), Memory> {
+fn put_expanded(alloc: Global, out: &mut Answers, asked: Asked, whole: &Expanded) {
     match pipeline_of(alloc, whole) {
         Ok(pipeline) => put_asked(alloc, out, asked, &pipeline),
         Err(fault) => put_none(alloc, out, asked, &fault),
     }
 }
 
-fn put_tree(alloc: Global, out: &mut Text, asked: Asked, node: &Node) -> Result<(), Memory> {
-    let whole = expanded(alloc, node, has_both(asked))?;
-    put_expanded(alloc, out, asked, &whole)
+fn put_tree(alloc: Global, out: &mut Answers, asked: Asked, node: &Node) {
+    match expanded(alloc, node, has_both(asked)) {
+        Ok(whole) => put_expanded(alloc, out, asked, &whole),
+        Err(_) => out.fail(),
+    }
 }
 
-fn put_read(
-    alloc: Global,
-    out: &mut Text,
-    asked: Asked,
-    case: &str,
-    file: &FileKey,
-) -> Result<(), Memory> {
+fn put_read(alloc: Global, out: &mut Answers, asked: Asked, case: &str, file: &FileKey) {
     match read(alloc, case.as_bytes(), file) {
         Ok(node) => put_tree(alloc, out, asked, &node),
-        Err(_) => out.push_str(no_yaml(asked)),
+        Err(_) => out.push(no_yaml(asked)),
     }
 }
 
 /// Puts what is asked of a pipeline.
-pub fn put_pipeline_in(
-    alloc: Global,
-    out: &mut Text,
-    asked: Asked,
-    case: &str,
-) -> Result<(), Memory> {
-    let file = file(alloc)?;
-    put_read(alloc, out, asked, case, &file)
+pub fn put_pipeline_in(alloc: Global, out: &mut Answers, asked: Asked, case: &str) {
+    match file(alloc) {
+        Ok(file) => put_read(alloc, out, asked, case, &file),
+        Err(_) => out.fail(),
+    }
 }

@@ -1,100 +1,63 @@
-//! Files of cases, from their sections down to one text.
+//! Cases, down to one text.
 use crate::answers::push_answer;
-use crate::form::{meant, parts, push_head, push_line, repeated};
 use pl_base::{FileKey, Memory, Text};
+use pl_cases::{Answers, Questions, meant, push_shown, repeated};
 use std::alloc::Global;
 
-/// The answers to the cases of a file.
-pub fn answer_all(alloc: Global, out: &mut Text, cases: &str) -> Result<(), Memory> {
-    let file = file(alloc, Text::from_str(alloc, "/a.yml")?);
-    answer_sections(alloc, out, &file, cases.strip_suffix('\n').unwrap_or(cases))
+/// Questions on texts, which all stand in this file.
+#[derive(Drop)]
+pub struct Texts {
+    file: FileKey,
 }
 
-/// The file in which all texts stand.
-fn file(alloc: Global, path: Text) -> FileKey {
-    FileKey {
-        repo: Text::new(alloc),
-        git_ref: Text::new(alloc),
-        path,
+impl Texts {
+    pub fn new(alloc: Global) -> Result<Texts, Memory> {
+        let path = Text::from_str(alloc, "/a.yml")?;
+        let file = FileKey {
+            repo: Text::new(alloc),
+            git_ref: Text::new(alloc),
+            path,
+        };
+        Ok(Texts { file })
     }
 }
 
-fn answer_sections(
-    alloc: Global,
-    out: &mut Text,
-    file: &FileKey,
-    cases: &str,
-) -> Result<(), Memory> {
-    for section in cases.split("\n%%% ask ").skip(1) {
-        answer_section(alloc, out, file, section)?;
-    }
-    Ok(())
-}
-
-fn answer_section(
-    alloc: Global,
-    out: &mut Text,
-    file: &FileKey,
-    section: &str,
-) -> Result<(), Memory> {
-    let (head, cases) = section.split_once("\n%%% case ").unwrap_or((section, ""));
-    let (question, _note) = parts(head);
-    match question.strip_suffix(" of repeated pieces") {
-        Some(question) => answer_cases(alloc, out, file, question, true, cases),
-        None => answer_cases(alloc, out, file, question, false, cases),
-    }
-}
-
-fn answer_cases(
-    alloc: Global,
-    out: &mut Text,
-    file: &FileKey,
-    question: &str,
-    is_repeated: bool,
-    cases: &str,
-) -> Result<(), Memory> {
-    for case in cases.split("\n%%% case ") {
-        let (name, text) = parts(case);
-        push_head(out, "case ", name)?;
-        if is_repeated {
-            answer_repeated(alloc, out, file, question, text)?;
-        } else {
-            answer_text(alloc, out, file, question, text)?;
+impl Questions for Texts {
+    fn answer(
+        &mut self,
+        alloc: Global,
+        out: &mut Answers,
+        question: &str,
+        _notes: &str,
+        case: &str,
+    ) {
+        match question.strip_suffix(" of repeated pieces") {
+            Some(question) => answer_repeated(alloc, out, &self.file, question, case),
+            None => answer_text(alloc, out, &self.file, question, case),
         }
+        out.push("\n")
     }
-    Ok(())
 }
 
-fn answer_repeated(
-    alloc: Global,
-    out: &mut Text,
-    file: &FileKey,
-    question: &str,
-    lines: &str,
-) -> Result<(), Memory> {
-    let text = repeated(alloc, lines)?;
-    answer_text(alloc, out, file, question, text.as_str())
+fn answer_repeated(alloc: Global, out: &mut Answers, file: &FileKey, question: &str, lines: &str) {
+    match repeated(alloc, lines) {
+        Ok(text) => answer_text(alloc, out, file, question, text.as_str()),
+        Err(_) => out.fail(),
+    }
 }
 
-fn answer_text(
-    alloc: Global,
-    out: &mut Text,
-    file: &FileKey,
-    question: &str,
-    text: &str,
-) -> Result<(), Memory> {
-    let text = meant(alloc, text)?;
-    answer_line(alloc, out, file, question, text.as_str())
+fn answer_text(alloc: Global, out: &mut Answers, file: &FileKey, question: &str, text: &str) {
+    match meant(alloc, text) {
+        Ok(text) => answer_line(alloc, out, file, question, text.as_bytes()),
+        Err(_) => out.fail(),
+    }
 }
 
-fn answer_line(
-    alloc: Global,
-    out: &mut Text,
-    file: &FileKey,
-    question: &str,
-    text: &str,
-) -> Result<(), Memory> {
-    let mut answer = Text::new(alloc);
-    push_answer(alloc, &mut answer, file, question, text.as_bytes())?;
-    push_line(out, alloc, answer.as_str())
+fn answer_line(alloc: Global, out: &mut Answers, file: &FileKey, question: &str, text: &[u8]) {
+    let mut answer = Answers::new(alloc);
+    push_answer(alloc, &mut answer, file, question, text);
+    match answer.text() {
+        Ok(text) => push_shown(alloc, out, text),
+        Err(_) => out.fail(),
+    }
 }

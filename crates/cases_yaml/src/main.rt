@@ -4,28 +4,36 @@
 
 mod answers;
 mod asked;
-mod form;
 mod nodes;
 
-use pl_base::{Memory, Text};
+use crate::asked::Texts;
+use pl_cases::{Answers, answer_all};
 use std::{env, fs, io};
 
 fn main(rt: HostRuntime) -> io::Result<()> {
-    for path in env::args(&rt)?.skip(1) {
-        print_file(&rt, path.as_str())?;
+    match Texts::new(rt.alloc()) {
+        Ok(mut texts) => print_all(&rt, &mut texts),
+        Err(_) => Err(io::Error::from(io::ErrorKind::OutOfMemory)),
+    }
+}
+
+fn print_all(rt: &HostRuntime, texts: &mut Texts) -> io::Result<()> {
+    for path in env::args(rt)?.skip(1) {
+        print_file(rt, texts, path.as_str())?;
     }
     Ok(())
 }
 
-fn print_file(rt: &HostRuntime, path: &str) -> io::Result<()> {
+fn print_file(rt: &HostRuntime, texts: &mut Texts, path: &str) -> io::Result<()> {
     let cases = fs::read_to_string(rt, path)?;
-    print_answers(rt, cases.as_str())
+    print_answers(rt, texts, cases.as_str())
 }
 
-fn print_answers(rt: &HostRuntime, cases: &str) -> io::Result<()> {
-    let mut out = Text::new(rt.alloc());
-    match asked::answer_all(rt.alloc(), &mut out, cases) {
-        Ok(()) => rt.print(out.as_str()),
-        Err(Memory) => rt.print("%%% out of memory\n"),
+fn print_answers(rt: &HostRuntime, texts: &mut Texts, cases: &str) -> io::Result<()> {
+    let mut out = Answers::new(rt.alloc());
+    answer_all(rt.alloc(), &mut out, texts, cases);
+    match out.text() {
+        Ok(text) => rt.print(text),
+        Err(_) => rt.print("%%% out of memory\n"),
     }
 }
