@@ -94,12 +94,12 @@ fn answer_all<L: Link, C: Clock>(
         MatchOption fault (IsPartial buffer.new) (λ fault. IsBad buffer.new fault)) }
     ensures writes { OnlyWrites result (told L.Link link.old) (told L.Link link.new) }
 {
-    requests_are_well_formed();
     'messages: loop {
         match next_message(alloc, routes, buffer.as_slice())? {
             Next::Partial => return Ok(None),
             Next::Bad(fault) => return Ok(Some(fault)),
             Next::Whole { taken, message } => {
+                requests_are_well_formed();
                 answer_next(alloc, desk, link, clock, message)?;
                 buffer.take(taken);
             }
