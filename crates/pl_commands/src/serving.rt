@@ -19,8 +19,8 @@ use pl_alone::{Alone, Answer};
 use pl_base::{Clock, Failed, Link};
 use pl_streams::{PIECE, TAKEN_LIMIT};
 use pl_wire::{
-    HttpFault, Message, Next, Routes, Waiting, fault_reply, memory_reply, next_message, reply_bytes,
-    requests_are_well_formed,
+    HttpFault, Message, Next, Routes, Waiting, fault_reply, memory_reply, next_message,
+    reply_bytes, requests_are_well_formed,
 };
 use std::alloc::Global;
 

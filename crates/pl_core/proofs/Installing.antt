@@ -120,8 +120,7 @@ new_kept log admin entries Room is none =
     let opening : opening_of log ≡ opened admin =
     opening_behind log [] [] (opened admin) behind in
     subst (λ (es : List Entry). IsKept log es × AreNumbers (opening_of log) es 0 0 0
-    × ((pending_of log ≡ []) ⊎ Room)) (sym none)
-    (
+    × ((pending_of log ≡ []) ⊎ Room)) (sym none) (
       kept_behind log [] [] (opened admin) behind tt fit (omega arith),
       subst (λ (o : Opening). AreNumbers o [] 0 0 0) (sym opening) (empty_numbers admin),
       inl (pending_behind log [] [] (opened admin) behind),

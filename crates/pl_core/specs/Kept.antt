@@ -34,6 +34,6 @@ pub record IsKept (log : Log) (entries : List Entry) : Type 0 where
 -- the size of the entries, the last moment and the version of the files are kept beside
 pub record AreNumbers (opening : Opening) (entries : List Entry) (size moment files : ℕ) : Type 0
   where
-  pub size_is : size ≡ counted (total size_of entries)
-  pub moment_is : moment ≡ journal.last_moment (log_of opening entries)
-  pub files_is : files ≡ counted (version (log_of opening entries))
+    pub size_is : size ≡ counted (total size_of entries)
+    pub moment_is : moment ≡ journal.last_moment (log_of opening entries)
+    pub files_is : files ≡ counted (version (log_of opening entries))

@@ -160,8 +160,12 @@ module _ (log : Log) (one : Fact) (told : QueuedRun) (is : one.event ≡ event.R
           let e : told.run ≡ run = cc in
           omega (arith, e, last_is)
       go false fails =
-          omega (arith, sound.numbers run (λ none. there (same_run log one run fails ∙ none)),
-          is_new, last_is)
+          omega (
+            arith,
+            sound.numbers run (λ none. there (same_run log one run fails ∙ none)),
+            is_new,
+            last_is,
+          )
 
   queued_keeps : Sound (with_one log one)
   queued_keeps = record {
@@ -187,9 +191,11 @@ filter_map_is {Y = Y} f (x ∷ xs) = go (f x) (filter_map_is f xs)
     go (Some y) rest = ap (λ ys. y ∷ ys) rest
 
 in_range : (stage count : ℕ) → stage < count → Contains (range_with_len 0 count) stage
-in_range stage count within =
-    (stage, omega (arith, within, length-range_with_len 0 count),
-    get_or-range_with_len 0 count stage stage within)
+in_range stage count within = (
+  stage,
+  omega (arith, within, length-range_with_len 0 count),
+  get_or-range_with_len 0 count stage stage within,
+)
 
 -- the stages that are running on it: of two there is one
 module _ (facts : List Fact) (key : ResourceKey)
@@ -275,8 +281,7 @@ module _ (facts : List Fact) (key : ResourceKey)
       let moved : IsStageOf facts run s other also =
       subst (λ x. IsStageOf facts x s other also) (sym run_is) there_too in
       let told_is : Some told ≡ Some other = sym there.queued ∙ moved.queued in
-      let same : told ≡ other = cc in
-      (
+      let same : told ≡ other = cc in (
         run_is,
         one_place run stage s told planned also there
             (subst (λ (q : QueuedRun). IsStageOf facts run s q also) (sym same) moved) runs

@@ -26,8 +26,7 @@ invariant_of-self c =
     let moment = c.last_moment-self-inside.ensures
     ∙ ap (λ (l : Log). last_moment l) c.journal.ensures in
     let files = c.version-self-inside.ensures
-    ∙ ap (λ (l : Log). counted (version l)) c.journal-2.ensures in
-    (
+    ∙ ap (λ (l : Log). counted (version l)) c.journal-2.ensures in (
       subst (λ (es : List Entry). IsKept new es) (sym c.push_reserved.ensures.items)
           (kept_more log new entries c.args.entry kept pending c.install.ensures follows),
       subst (λ (es : List Entry). AreNumbers (opening_of new) es

@@ -4,5 +4,8 @@ use Rattle.pl_core.proofs.service.Core.moment.Goals as goal
 
 pub returns-clause-within : goal.returns-clause-within
 returns-clause-within c =
-    omega (arith, c.self.invariant.1.moment_is,
-    moment_within c.self.inside.journal c.self.inside.entries.items c.self.invariant.0)
+    omega (
+      arith,
+      c.self.invariant.1.moment_is,
+      moment_within c.self.inside.journal c.self.inside.entries.items c.self.invariant.0,
+    )
