@@ -61,3 +61,20 @@ module _ (log : Log) (all : log.installed ≡ length log.facts) (more : List Fac
 
   pub behind : (from : ℕ) → from ≡ length log.facts → drop from (log.facts ++ more) ≡ more
   behind from is = ap (λ n. drop n (log.facts ++ more)) is ∙ drop-append_seam log.facts more
+
+-- ---- what is due, and behind it what happens
+
+module _ (log : Log) (all : log.installed ≡ length log.facts) (due more : List Fact) (mid new : Log)
+    (settled : mid ≡ with_facts log due) (pushed : new ≡ with_facts mid more) where
+  pub both : new ≡ with_facts log (due ++ more)
+  both = pushed ∙ ap (λ before. with_facts before more) settled ∙ twice log due more
+
+  pub still_installed : new.installed ≡ log.installed
+  still_installed = ap (λ after. after.installed) both
+
+  pub back_to : back new ≡ log
+  back_to = ap back both ∙ back_again log all (due ++ more)
+
+  pub added : (from : ℕ) → from ≡ length log.facts → drop from new.facts ≡ due ++ more
+  added from is =
+      ap (λ after. drop from after.facts) both ∙ behind log all (due ++ more) from is

@@ -172,7 +172,7 @@ module _ (log : Log) (moment : ℕ) (who : List ℕ) (made : Made) (runs : CanRu
       sets_principal : (told : PrincipalSetting) → Fits (sets.set_principal log told)
       sets_principal told =
           let set = with_fact empty_object (event.PrincipalSet told) in
-          let taken = λ name. refused 409 (rules.TokenTaken name) in
+          let taken = λ (name : List ℕ). refused 409 (rules.TokenTaken name) in
           if_so (is_text told.name settings.admin) (refused 409 rules.PrincipalReserved)
           (option_map_or taken (sets.other_owner log told) set) tt
           (if_some taken (sets.other_owner log told) set (λ name. tt) tt)
