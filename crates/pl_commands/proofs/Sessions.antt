@@ -8,7 +8,8 @@ use Rattle.pl_heads.specs.declared.fault.HttpFault.{HttpFault}
 use Rattle.pl_wire.specs.declared.message.Message.{Message}
 use Rattle.pl_commands.specs.declared.served.Broken.{Broken}
 use Rattle.pl_commands.specs.declared.served.Broken.TheVariants as broken
-use Rattle.pl_commands.specs.Acts.{Parts, Turn, messages_of, Act, Acts, Tells, sent, refused, replies}
+use Rattle.pl_alone.specs.Desk.{Parts, Act}
+use Rattle.pl_commands.specs.Acts.{Turn, messages_of, Acts, Tells, sent, refused, replies}
 use Rattle.pl_commands.specs.Acts.{joined}
 use Rattle.pl_commands.specs.Messages.{Spelled}
 use Rattle.pl_commands.specs.Replay.{Advances, Breaks, Answers, OnlyWrites, Sends}

@@ -1,27 +1,15 @@
--- What a desk makes of the messages that it is given, and what they are answered.
+-- What a desk makes of the messages that it is given, one after the other, and what is sent.
 use Rattle.std.specs.Prelude.{◌≡◌, ◌≤◌, ℕ, List, [], ◌∷◌, ◌++◌, Option, codes}
 use Rattle.std.specs.Option.{IfSome}
+use Rattle.pl_alone.specs.Desk.{Act, Parts}
+use Rattle.pl_alone.specs.declared.alone.Answer.{Answer}
+use Rattle.pl_alone.specs.declared.alone.Answer.TheVariants.{Reply, Memory}
 use Rattle.pl_base.specs.Streams.{after_next}
-use Rattle.pl_base.specs.declared.digest.Digest.{Digest}
-use Rattle.pl_core.specs.State.{State, reply_of, after}
 use Rattle.pl_heads.specs.declared.fault.HttpFault.{HttpFault}
-use Rattle.pl_requests.specs.declared.call.Call.{Call}
-use Rattle.pl_requests.specs.declared.request.Request.{Request}
 use Rattle.pl_requests.specs.Replies.{refusal}
 use Rattle.pl_wire.specs.declared.message.Message.{Message}
-use Rattle.pl_wire.specs.declared.message.Message.TheVariants.{Ask, Refused}
-use Rattle.pl_wire.specs.Refusals.{reply_to_fault, reply_to_refused}
+use Rattle.pl_wire.specs.Refusals.{reply_to_fault}
 use Rattle.pl_wire.specs.Written.{written}
-use Rattle.pl_commands.specs.declared.alone.Alone.{Alone}
-use Rattle.pl_commands.specs.declared.alone.Answer.{Answer}
-use Rattle.pl_commands.specs.declared.alone.Answer.TheVariants.{Reply, Memory}
-
--- the parts of a desk: what it has seen of the service, which is its state
-pub record Parts : Type 0 where
-  pub seen : State
-
-abbrev pub parts : Alone → Parts
-parts desk = record { seen = desk.core }
 
 -- a message that was acted on: the moment that the clock told, the message, and its answer
 pub record Turn : Type 0 where
@@ -32,20 +20,6 @@ pub record Turn : Type 0 where
 abbrev pub messages_of : List Turn → List Message
 messages_of [] = []
 messages_of (turn ∷ turns) = turn.message ∷ messages_of turns
-
-abbrev pub call_at : ℕ → Digest → Request → Call
-call_at moment caller request = record { moment = moment; caller = caller; request = request }
-
--- The answer is the step's reply, and the state the step's; or memory was wanting, and the desk is
--- as before. A message that is no request gets the reply of its fault, and leaves the desk as it
--- was.
-abbrev pub Act : Parts → ℕ → Message → Answer → Parts → Type 0
-Act old moment (Ask caller request) (Reply reply) new =
-    (reply ≡ reply_of old.seen (call_at moment caller request))
-    × (new.seen ≡ after old.seen (call_at moment caller request))
-Act old moment (Ask caller request) Memory new = new ≡ old
-Act old moment (Refused fault) (Reply reply) new = (reply ≡ reply_to_refused fault) × (new ≡ old)
-Act old moment (Refused fault) Memory new = new ≡ old
 
 -- one act a turn, in order
 abbrev pub Acts : Parts → List Turn → Parts → Type 0

@@ -13,7 +13,7 @@ use Rattle.pl_offline.specs.declared.ending.Ending.{Ending}
 use Rattle.pl_streams.specs.Whole.{Inflow, Outflow, taken_limit}
 use Rattle.pl_words.specs.declared.command.Command.{Command}
 use Rattle.pl_words.specs.declared.command.Command.TheVariants.{Compile, Replay}
-use Rattle.pl_commands.specs.Acts.{Parts}
+use Rattle.pl_alone.specs.Desk.{Parts}
 use Rattle.pl_commands.specs.Messages.{Spelled}
 use Rattle.pl_commands.specs.Session.{Point, Session}
 use Rattle.pl_commands.specs.Statuses.{compile_status, status_of}
@@ -38,7 +38,7 @@ abbrev pub start : Digest → Outside → Point
 start admin outside = record {
   link = outside.link;
   coming = outside.coming;
-  desk = record { seen = opened admin };
+  desk = record { opening = opened admin; seen = [] };
 }
 
 -- one session from the source to the sink

@@ -9,10 +9,11 @@ use Rattle.pl_base.specs.declared.link.Link as the_link
 use Rattle.pl_heads.specs.declared.fault.HttpFault.{HttpFault}
 use Rattle.pl_streams.specs.Whole.{taken_limit}
 use Rattle.pl_wire.specs.Message.{IsPartial, IsBad}
-use Rattle.pl_commands.specs.declared.alone.Alone.{Alone}
+use Rattle.pl_alone.specs.declared.alone.Alone.{Alone}
 use Rattle.pl_commands.specs.declared.served.Served.{Served}
 use Rattle.pl_commands.specs.declared.served.Served.TheVariants as served
-use Rattle.pl_commands.specs.Acts.{Parts, parts, Turn, messages_of, Acts, Tells, refused, replies}
+use Rattle.pl_alone.specs.Desk.{Parts, parts}
+use Rattle.pl_commands.specs.Acts.{Turn, messages_of, Acts, Tells, refused, replies}
 use Rattle.pl_commands.specs.Acts.{joined}
 use Rattle.pl_commands.specs.Messages.{Spelled}
 use Rattle.pl_commands.specs.Told.{Told, told, IsAtEnd}

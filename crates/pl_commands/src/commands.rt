@@ -8,13 +8,13 @@ ghost use Rattle.pl_commands.specs.Statuses.{compile_status, status_of};
 ghost use Rattle.pl_commands.specs.Told.{IsAtEnd};
 ghost use Rattle.pl_words.specs.Words.{command_of};
 
-use crate::alone::Alone;
 use crate::outfit::Outfit;
 use crate::replay::replay_link;
 use crate::served::Served;
 use crate::serving::write_all;
 use crate::status::Status;
-use pl_base::{Argument, Digest, List};
+use pl_alone::Alone;
+use pl_base::{Argument, Digest, List, Memory};
 use pl_offline::{Ending, compile_bundle};
 use pl_words::{Command, parse};
 use std::alloc::Global;
@@ -57,8 +57,11 @@ fn replay<O: Outfit>(alloc: Global, admin: Digest, outfit: &mut O) -> Status
     ensures { Replays admin (outside O.In.Source O.Out.Sink (O.view outfit.old))
         (outside O.In.Source O.Out.Sink (O.view outfit.new)).link result }
 {
+    let mut desk = match Alone::open(alloc, admin) {
+        Ok(desk) => desk,
+        Err(Memory) => return Status::Memory,
+    };
     let mut clock = outfit.clock();
-    let mut desk = Alone::open(admin);
     let served = replay_link(alloc, &mut desk, outfit.ends(), &mut clock);
     status(served)
 }

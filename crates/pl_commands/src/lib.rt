@@ -2,7 +2,6 @@
 //! bundles compiled. The outside of a process is here too.
 #![tactic(auto)]
 
-mod alone;
 mod buffer;
 mod commands;
 mod laws;

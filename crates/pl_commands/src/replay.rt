@@ -2,10 +2,10 @@
 
 ghost use Rattle.pl_commands.specs.Session.{point, Session};
 
-use crate::alone::Alone;
 use crate::buffer::Buffer;
 use crate::served::{Broken, Served, Unread};
 use crate::serving::{answer_on, next_piece, read_on, refuse};
+use pl_alone::Alone;
 use pl_base::{Clock, Link};
 use pl_streams::PIECE;
 use pl_wire::{Routes, Waiting};

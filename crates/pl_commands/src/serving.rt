@@ -5,6 +5,7 @@ ghost use Rattle.std.specs.Prelude.{MatchOption};
 ghost use Rattle.pl_base.specs.Counts.{one_more};
 ghost use Rattle.pl_wire.specs.Message.{IsMessage, IsPartial, IsBad};
 ghost use Rattle.pl_wire.specs.Waiting.{Awaits};
+ghost use Rattle.pl_alone.specs.Desk.{IsWellFormed};
 ghost use Rattle.pl_commands.specs.Acts.{sent, refused};
 ghost use Rattle.pl_commands.specs.Replay.{Answers, CountsUnread, EndsAtNone, OnlyWrites, ReadsPiece};
 ghost use Rattle.pl_commands.specs.Replay.{Sends};
@@ -12,13 +13,14 @@ ghost use Rattle.pl_streams.specs.Whole.{taken_limit};
 ghost use Rattle.pl_commands.specs.Session.{point};
 ghost use Rattle.pl_commands.specs.Told.{told, Begun, SameWriting, Writes};
 
-use crate::alone::{Alone, Answer};
 use crate::buffer::Buffer;
 use crate::served::{Broken, Unread};
+use pl_alone::{Alone, Answer};
 use pl_base::{Clock, Failed, Link};
 use pl_streams::{PIECE, TAKEN_LIMIT};
 use pl_wire::{
-    HttpFault, Message, Next, Routes, Waiting, fault_reply, memory_reply, next_message, reply_bytes,
+    HttpFault, Message, Next, Routes, Waiting, fault_reply, memory_reply, next_message,
+    reply_bytes, requests_are_well_formed,
 };
 use std::alloc::Global;
 
@@ -66,6 +68,7 @@ fn answer_next<L: Link, C: Clock>(
     clock: &mut C,
     message: Message,
 ) -> Result<(), Broken>
+    requires { IsWellFormed message }
     ensures answers { (front rest : List ℕ) → IsMessage front message
         → Answers result (point L.Link C.Clock link.old clock.old desk.old) (front ++ rest)
         (point L.Link C.Clock link.new clock.new desk.new) rest }
@@ -96,6 +99,7 @@ fn answer_all<L: Link, C: Clock>(
             Next::Partial => return Ok(None),
             Next::Bad(fault) => return Ok(Some(fault)),
             Next::Whole { taken, message } => {
+                requests_are_well_formed();
                 answer_next(alloc, desk, link, clock, message)?;
                 buffer.take(taken);
             }

@@ -1,2 +1,3 @@
-pub mod PlanLemmas
-pub mod PushLemmas
+pub mod Installing
+pub mod Keeping
+pub mod Preparing

@@ -1,4 +1,5 @@
-pub mod Plan
+pub mod Kept
+pub mod Legal
+pub mod Made
 pub mod Prepared
-pub mod Replies
 pub mod State

@@ -1,5 +1,6 @@
 use Rattle.std.proofs.Common.{rules, ◌∙◌, sym, ap, subst, take, OnOk}
 use Rattle.pl_wire.specs.Message.{IsMessage}
+use Rattle.pl_commands.proofs.Forms.{well_formed}
 use Rattle.pl_commands.proofs.Sessions.{answers_broken, answers_on, breaks_on, breaks_off, breaks_here}
 use Rattle.pl_commands.proofs.serving.answer_all.Goals as goal
 
@@ -42,3 +43,8 @@ messages-preserved g c =
         read_faults = told.writes.reading.read_faults ∙ before.reading.read_faults;
       };
     }
+
+pub answer_next-requires : goal.answer_next-requires
+answer_next-requires g c =
+    well_formed c.requests_are_well_formed.ensures _ c.in-Whole.taken c.in-Whole.message
+    (rw c.in-Whole.is at c.in_ok-next_message.ensures)
