@@ -1,6 +1,6 @@
 -- The plan of what was compiled can run.
 use Rattle.std.proofs.Common.{◌≡◌, ℕ, zero, suc, ◌<◌, List, [], ◌∷◌, length, Option, Some, None, Ok}
-use Rattle.std.proofs.Common.{Err, refl, sym, subst, arith}
+use Rattle.std.proofs.Common.{refl, sym, subst, arith}
 use Rattle.std.specs.Prelude.{slice_get, slice_index}
 use Rattle.std.specs.List.{All, AllByRecursion}
 use Rattle.std.specs.Option.{option_map, option_or}
@@ -20,14 +20,14 @@ use Rattle.pl_graph.specs.Waits.{edges_by}
 use Rattle.pl_plan.proofs.Sound.{plan_is_sound}
 use Rattle.pl_plan.specs.Laws.{IsSound}
 use Rattle.pl_plan.specs.Plans.{IsPlanOf}
+use Rattle.pl_plan.specs.declared.plan.Compiled.{Compiled}
 use Rattle.pl_plan.specs.declared.plan.Plan.{Plan}
-use Rattle.pl_queueing.specs.Queueing.{Made}
+use Rattle.pl_results.specs.Nodes.{CanRun}
 use Rattle.pl_schema_parts.specs.declared.pipeline.JobSpec.{JobSpec}
 use Rattle.pl_schema_parts.specs.declared.pipeline.Pipeline.{Pipeline}
 use Rattle.pl_schema_parts.specs.declared.pipeline.StageSpec.{StageSpec}
 use Rattle.pl_snapshots.specs.declared.snapshot.Snapshot.{Snapshot}
-use Rattle.pl_step.specs.Fits.{CanRunMade}
-use Rattle.pl_compilation.specs.Made.{IsMade}
+use Rattle.pl_compilation.specs.Made.{IsMadeOf}
 
 -- ---- a graph of which no fault is told has no cycle
 
@@ -112,11 +112,8 @@ plan_sound : (pipeline : Pipeline) (plan : Plan) → IsPlanOf pipeline (Ok plan)
 plan_sound pipeline plan is =
     subst IsSound (sym is.2) (plan_is_sound pipeline (no_cycle pipeline.stages is.1) is.0)
 
-pub made_can_run : (snapshot : Option Snapshot) (made : Made) → IsMade snapshot made →
-    CanRunMade made
-made_can_run snapshot None is = tt
-made_can_run snapshot (Some (Err refusal)) is = tt
-made_can_run None (Some (Ok compiled)) is = absurd is
-made_can_run (Some snapshot) (Some (Ok compiled)) is =
+pub compiled_can_run : (snapshot : Snapshot) (compiled : Compiled) →
+    IsMadeOf snapshot (Ok compiled) → CanRun compiled.plan
+compiled_can_run snapshot compiled is =
     can_run is.pipeline compiled.plan is.plans.0 is.plans.2
     (plan_sound is.pipeline compiled.plan is.plans)
