@@ -1,14 +1,14 @@
 -- The plan of what was compiled can run.
 use Rattle.std.proofs.Common.{◌≡◌, ℕ, zero, suc, ◌<◌, List, [], ◌∷◌, length, Option, Some, None, Ok}
 use Rattle.std.proofs.Common.{refl, sym, subst, arith}
-use Rattle.std.specs.Prelude.{slice_get, slice_index}
-use Rattle.std.specs.List.{All, AllByRecursion}
+use Rattle.std.specs.Prelude.{slice_get}
+use Rattle.std.specs.List.{AllByRecursion}
 use Rattle.std.specs.Option.{option_map, option_or}
 use Rattle.std.proofs.lemmas.List.Elements.{All-from_recursion, recursion_from_All}
 use Rattle.std.proofs.lemmas.Option.{none-some}
 use Rattle.pl_cond.proofs.Small.{can_run}
 use Rattle.pl_depends.proofs.Within.{jobs_are_graph, on_cycle, stages_are_graph}
-use Rattle.pl_depends.specs.Cycles.{AreOn, FirstCycle, Goes, HasNoCycle, HaveNoCycle, IsAcyclic}
+use Rattle.pl_depends.specs.Cycles.{AreOn, FirstCycle, Goes, HasNoCycle, IsAcyclic}
 use Rattle.pl_depends.specs.Cycles.{IsCycleOf, JobCycle, JobCycles, cycle_fault, fault_of, names_on}
 use Rattle.pl_depends.specs.Cycles.{stages_before}
 use Rattle.pl_depends.specs.Gives.{Fault}

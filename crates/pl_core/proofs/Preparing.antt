@@ -1,6 +1,6 @@
 -- What is prepared is the next entry.
-use Rattle.std.proofs.Common.{◌≡◌, ◌≤◌, ◌⊎◌, ◌+◌, ℕ, true, List, [], ◌∷◌, ◌++◌, Option, Some, None}
-use Rattle.std.proofs.Common.{Result, Ok, Err, IfOk, OnErr, length, refl, sym, ap, subst, ◌∙◌}
+use Rattle.std.proofs.Common.{◌≡◌, ◌≤◌, ℕ, true, List, [], Option, Some, None}
+use Rattle.std.proofs.Common.{Result, Ok, Err, IfOk, OnErr, sym, subst, ◌∙◌}
 use Rattle.pl_base.specs.declared.memory.Memory.{Memory}
 use Rattle.pl_compilation.specs.Made.{IsMade, IsMadeOf}
 use Rattle.pl_core.specs.Legal.{Follows}

@@ -1,7 +1,7 @@
-use Rattle.std.proofs.Common.{◌≡◌, ◌+◌, ℕ, List, Option, length, sym, ap, subst, ◌∙◌, arith, inr}
+use Rattle.std.proofs.Common.{◌≡◌, ◌+◌, List, Option, length, sym, ap, subst, ◌∙◌, arith, inr}
 use Rattle.pl_core.specs.Kept.{AreNumbers, IsKept, opening_of, pending_of}
 use Rattle.pl_core.specs.Prepared.{IsEntryOf, next_number}
-use Rattle.pl_core.specs.State.{Opening, State, held, log, log_of}
+use Rattle.pl_core.specs.State.{State, held, log, log_of}
 use Rattle.pl_facts.specs.Sizes.{counted, size_of, total}
 use Rattle.pl_facts.specs.declared.entry.Entry.{Entry}
 use Rattle.pl_journal.specs.Log.{Log}
