@@ -59,8 +59,9 @@ class Session:
         assert self.process.wait() == 0
 
 
-def counted(program, before, messages, wanted, shown=0):
-    """The instructions of messages behind others, by function with all that it calls; the last one's reply has this status."""
+def counted(program, before, messages, wanted):
+    """The instructions of messages behind others, by function with all that it calls, where the build hasn't put it into its
+    callers; the last one's reply has this status. With SHOWN=N the dearest N are told for each message."""
     with tempfile.TemporaryDirectory() as folder:
         out = os.path.join(folder, "out")
         session = Session(program, out)
@@ -77,18 +78,14 @@ def counted(program, before, messages, wanted, shown=0):
         one = re.match(r" *([\d,]+) \([ \d.]+%\) +\S*:(\S.*?) \[", line)
         if one:
             found.setdefault(one.group(2), int(one.group(1).replace(",", "")))
-    for name in list(found)[:shown]:
+    for name in list(found)[: int(os.environ.get("SHOWN", "0"))]:
         print(f"    {found[name] // len(messages):>12} {name}", file=sys.stderr)
     return found
 
 
-def each(program, before, request, wanted, function=None, times=10):
-    """The instructions of one of so many equal requests behind others: of all, or inside a function (None where the build has put
-    it into its callers)."""
-    found = counted(program, before, [request] * times, wanted, int(os.environ.get("SHOWN", "0")))
-    if function is None:
-        return max(found.values()) // times
-    return next((count // times for name, count in found.items() if function in name), None)
+def each(program, before, request, wanted, times=10):
+    """The instructions of one of so many equal requests behind others."""
+    return max(counted(program, before, [request] * times, wanted).values()) // times
 
 
 def text(stages, jobs):
@@ -142,22 +139,23 @@ def puts(program):
     def put(number):
         return message(f"PUT /files/app/refs%2Fheads%2Fmain/%2F{number}.yml", b"steps:\n- script: make\n")
 
-    few = each(program, [put(0)], put(0), b"200")
-    many = each(program, [put(number) for number in range(1000)], put(0), b"200")
-    print(f"a put of a file: {few} alone, {many} beside 999 files, ratio {many / few:.2f}", flush=True)
+    few = each(program, [put(0)] * 1000, put(0), b"200", times=100)
+    many = each(program, [put(number) for number in range(1000)], put(0), b"200", times=100)
+    print(f"a put of a file: {few} after 1,000 puts of it, {many} after puts of 1,000 files, ratio {many / few:.2f}", flush=True)
 
 
 def queueing(program):
-    compiles = "pl_compile::compiling::compile"
-    whole, inside = each(program, [queue], queue, b"201"), each(program, [queue], queue, b"201", compiles)
-    print(f"queueing a text: {whole}, of which {inside} compile it", flush=True)
+    found = counted(program, [queue], [queue] * 10, b"201")
+    whole, inside = max(found.values()) // 10, found.get("compile")
+    print(f"queueing a text: {whole}, of which {inside and inside // 10} compile it", flush=True)
 
 
 def reading(program):
     large, read = message("POST /texts", text(1, 256)), message("GET /runs/1")
-    whole, spells = each(program, [large, read], read, b"200"), each(program, [large, read], read, b"200", "reply_bytes")
-    ratio = f", ratio {whole / spells:.2f}" if spells else ""
-    print(f"reading a run of 256 jobs: {whole}, of which {spells} spell the reply{ratio}", flush=True)
+    found = counted(program, [large, read], [read] * 10, b"200")
+    whole = max(found.values()) // 10
+    wire = whole - found["prepare"] // 10
+    print(f"reading a run of 256 jobs: {whole}, of which {wire} read the message and spell the reply, ratio {whole / wire:.2f}", flush=True)
 
 
 def main(words):
