@@ -1,10 +1,10 @@
 #!/bin/sh
-# Counts by callgrind what requests cost in `pipectl replay`, and prints the counts and their ratios: a draw with 100 open runs,
-# of which all jobs are taken or all stages wait for an approval, and beside ended runs besides; a put of a file beside many
-# files; how often a queued text is compiled; reading a run of 256 jobs, beside spelling its reply. A request's count is the
-# difference of sessions that make it once and some times more, so reading its message is in it. The first word is how many
-# ended runs stand beside (1,000 where there is none: each more takes callgrind some milliseconds), the second the program;
-# without it the program is proved and built first. Needs valgrind and python3. Not a part of the gate.
+# Counts by callgrind what requests cost in `pipectl replay`, and prints the counts and their ratios: a put of a file after puts of
+# the same or of many; queueing a text, and what of it compiles; reading a run of 256 jobs, beside reading its message and
+# spelling its reply; a draw with 100 open runs, of which all jobs are taken or all stages wait for an approval, and beside ended
+# runs. Only the requests themselves are counted, some equal ones behind messages that aren't. The first word is how many ended
+# runs stand beside (1,000 where there is none; 0 leaves them out; 100,000 take half an hour), the second the program; without it
+# the program is proved and built first. Needs valgrind and python3. Not a part of the gate.
 set -e
 here=$(cd "$(dirname "$0")" && pwd)
 top=$(cd "$here/../.." && pwd)
