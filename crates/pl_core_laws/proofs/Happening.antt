@@ -1,20 +1,20 @@
 -- What may happen by a request.
-use Rattle.std.proofs.Common.{◌≡◌, ◌⊎◌, ◌&&◌, ℕ, Bool, true, false, cond, List, Option, Some, None}
-use Rattle.std.proofs.Common.{Result, Ok, Err, refl, sym, subst, inl, inr}
+use Rattle.std.proofs.Common.{◌≡◌, ◌&&◌, ℕ, Bool, true, false, cond, List, Option, Some, None}
+use Rattle.std.proofs.Common.{Ok, Err, refl, sym, subst, inl, inr}
 use Rattle.std.specs.Prelude.{codes, is_some, slice_get}
 use Rattle.std.specs.Option.{option_map_or}
 use Rattle.pl_answers.specs.Answers.{empty_object, refused, with_fact}
 use Rattle.pl_answers.specs.declared.answer.Answer.{Answer}
 use Rattle.pl_base.specs.Texts.{is}
+use Rattle.pl_base.specs.declared.place.FileKey.{FileKey}
 use Rattle.pl_decisions.specs.Decisions.{closed, decide, is_same, kept, stage_named, unfit}
 use Rattle.pl_facts.specs.declared.fact.Event.{Event}
 use Rattle.pl_facts.specs.declared.fact.Event.TheVariants as event
-use Rattle.pl_facts.specs.declared.fact.Fact.{Fact}
 use Rattle.pl_facts.specs.declared.fact.QueuedRun.{QueuedRun}
 use Rattle.pl_granting.specs.Named.{JobOf, job_named}
 use Rattle.pl_granting.specs.Rules.{is_held_by}
-use Rattle.pl_jobs.specs.Granting.{Asks, AsAgent, Claims, ClaimsAs, Draws, DrawsAs, give, give_drawn}
-use Rattle.pl_jobs.specs.Granting.{give_named}
+use Rattle.pl_jobs.specs.Granting.{Asks, AsksAs, AsAgent, Claims, ClaimsAs, Draws, DrawsAs}
+use Rattle.pl_jobs.specs.Granting.{give, give_drawn, give_named, why_answer}
 use Rattle.pl_jobs.specs.Reports.{ended_otherwise, has_outputs, is_outcome, is_taker, report}
 use Rattle.pl_jobs.specs.Reports.{reported}
 use Rattle.pl_journal.specs.Log.{Log}
@@ -33,7 +33,7 @@ use Rattle.pl_requests.specs.declared.settings.ResourceSetting.{ResourceSetting}
 use Rattle.pl_rules.specs.declared.rule.Rule.{Rule}
 use Rattle.pl_runs.specs.Runs.{cancel, read_run}
 use Rattle.pl_settings.specs.Files.{get_file, remove_file}
-use Rattle.pl_settings.specs.Settings.{busy, other_owner, set_pipeline, set_principal, set_resource}
+use Rattle.pl_settings.specs.Settings.{busy, other_owner, set_pipeline, set_principal}
 use Rattle.pl_step.specs.Answering.{Answers}
 
 -- no stage starts or ends by a request; what becomes exclusive isn't busy; a run that is queued has
@@ -66,10 +66,10 @@ cond_by P false x y left right = right
 -- ---- request by request
 
 module _ (log : Log) where
-  files_removed : (key : _) → Fine log (remove_file log key)
+  files_removed : (key : FileKey) → Fine log (remove_file log key)
   files_removed key = cond_by (Fine log) (is_some (file key log.facts)) _ _ tt tt
 
-  files_got : (key : _) → Fine log (get_file log.facts key)
+  files_got : (key : FileKey) → Fine log (get_file log.facts key)
   files_got key = or_by (Fine log) _ (file key log.facts) _ (λ text. tt) tt
 
   pipeline_set : (told : PipelineSetting) → Fine log (set_pipeline told)
@@ -142,12 +142,14 @@ module _ (log : Log) where
   claimed moment who name answer is = as_agent who (ClaimsAs log.facts moment name) answer
       (λ agent claims. of answer _ claims.2 (given_named agent name claims.0)) is
 
+  why_told : (found : Option Rule) → Fine log (why_answer found)
+  why_told None = tt
+  why_told (Some rule) = tt
+
   asked : (moment : ℕ) (named : List ℕ) (name : JobName) (answer : Answer) →
       Asks log.facts moment named name answer → Fine log answer
-  asked moment named name answer (inl unknown) = of answer _ unknown.1 tt
-  asked moment named name answer (inr (agent, known, None, broken, same)) = of answer _ same tt
-  asked moment named name answer (inr (agent, known, Some rule, broken, same)) =
-      of answer _ same tt
+  asked moment named name answer is = as_agent named (AsksAs log.facts moment name) answer
+      (λ agent asks. of answer _ asks.2 (why_told asks.0)) is
 
   reports : (who : List ℕ) (name : JobName) (told : Report) →
       Fine log (report log.facts who name told)

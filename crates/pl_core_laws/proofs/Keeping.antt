@@ -1,39 +1,35 @@
 -- How a history stays sound behind one fact more.
-use Rattle.std.proofs.Common.{◌≡◌, ◌⊎◌, ◌&&◌, ◌≤◌, ◌+◌, ◌<◌, ℕ, Bool, true, false, cond, List, [], ◌∷◌}
-use Rattle.std.proofs.Common.{◌++◌, Option, Some, None, is_some, is_none, refl, sym, ap, subst, ◌∙◌}
-use Rattle.std.proofs.Common.{inl, inr, max, arith}
-use Rattle.std.specs.List.{Contains, filter}
+use Rattle.std.proofs.Common.{◌≡◌, ◌&&◌, ◌≤◌, ℕ, Bool, true, false, [], ◌∷◌, ◌++◌, Option, None}
+use Rattle.std.proofs.Common.{refl, sym, ap, subst, ◌∙◌, max}
 use Rattle.std.specs.Option.{option_map_or}
 use Rattle.std.proofs.lemmas.Option.{none-some}
-use Rattle.pl_base.specs.declared.resource.ResourceKey.{ResourceKey}
-use Rattle.pl_due.specs.Checked.{exclusive_uses, is_exclusive}
-use Rattle.pl_due.specs.Nodes.{IsStageOf, is_running}
 use Rattle.pl_facts.specs.declared.fact.Event.{Event}
 use Rattle.pl_facts.specs.declared.fact.Event.TheVariants as event
 use Rattle.pl_facts.specs.declared.fact.Fact.{Fact}
-use Rattle.pl_facts.specs.declared.fact.QueuedRun.{QueuedRun}
-use Rattle.pl_journal.specs.About.{is_about, is_also_about, latest_also}
-use Rattle.pl_journal.specs.Kinds.{is_queueing, is_stage_end, is_start}
+use Rattle.pl_journal.specs.About.{is_about, is_also_about}
+use Rattle.pl_journal.specs.Kinds.{is_queueing, is_start}
 use Rattle.pl_journal.specs.Log.{Log, last_run}
-use Rattle.pl_journal.specs.Runs.{number_told, queueing, run_told, stage_end, stage_start}
+use Rattle.pl_journal.specs.Runs.{number_told, queueing, run_told, stage_start}
 use Rattle.pl_journal.specs.Settings.{by}
 use Rattle.pl_log.proofs.Naming.{exact_key}
-use Rattle.pl_log.specs.Keys.{Queue, Resource, Run, Stage, same_key}
-use Rattle.pl_plan.specs.declared.plan.PlanStage.{PlanStage}
+use Rattle.pl_log.specs.Keys.{Queue, Run, Stage, same_key}
 use Rattle.pl_settling.proofs.Behind.{touched, untouched}
 use Rattle.pl_settling.proofs.Occupying.{IsQuiet, keeps_one, quiet_if, still_one}
 use Rattle.pl_settling.specs.Gives.{Gives}
-use Rattle.pl_settling.specs.Laws.{HasOneHolder, Occupies, WasNext}
+use Rattle.pl_settling.specs.Laws.{HasOneHolder}
 use Rattle.pl_step.specs.Full.{with_facts}
 
 -- ---- what stays: an exclusive resource has one holder at most, a stage that was started is of a
 -- queued run, and no run's number is above the last
 
+abbrev pub AreBelow : Log → Type 0
+AreBelow log = (run : ℕ) → ¬ (queueing run log.facts ≡ None) → run ≤ last_run log
+
 pub record Sound (log : Log) : Type 0 where
   pub one : HasOneHolder log.facts
   pub queued : (run stage : ℕ) → ¬ (stage_start run stage log.facts ≡ None) →
       ¬ (queueing run log.facts ≡ None)
-  pub numbers : (run : ℕ) → ¬ (queueing run log.facts ≡ None) → run ≤ last_run log
+  pub numbers : AreBelow log
 
 abbrev pub with_one : Log → Fact → Log
 with_one log fact = with_facts log (fact ∷ [])
@@ -74,11 +70,10 @@ module _ (log : Log) (one : Fact) where
 
   -- behind a fact that queues no run
   pub numbers_stay : ((run : ℕ) → (is_about (Run run) one && is_queueing one.event) ≡ false) →
-      is_also_about Queue one ≡ false → Sound log → (run : ℕ) →
-      ¬ (queueing run (log.facts ++ one ∷ []) ≡ None) → run ≤ last_run (with_one log one)
-  numbers_stay quiet queue sound run there =
+      is_also_about Queue one ≡ false → AreBelow log → AreBelow (with_one log one)
+  numbers_stay quiet queue below = λ run there.
       subst (λ n. run ≤ n) (sym (same_last queue))
-      (sound.numbers run (λ none. there (same_run run (quiet run) ∙ none)))
+      (below run (λ none. there (same_run run (quiet run) ∙ none)))
 
   -- behind a fact that starts no stage
   pub queued_stays : ((run stage : ℕ) →
@@ -93,7 +88,7 @@ module _ (log : Log) (one : Fact) where
   idle_keeps idle sound = record {
     one = still_one log.facts one idle.quiet idle.start sound.one;
     queued = queued_stays idle.start sound;
-    numbers = numbers_stay idle.quiet.run idle.queue sound;
+    numbers = numbers_stay idle.quiet.run idle.queue sound.numbers;
   }
 
 -- ---- a fact that is due
@@ -122,7 +117,7 @@ due_keeps log moment one at is sound = go one.event refl is
           one = keeps_one moment log.facts one at is sound.one;
           queued = λ run stage was. by_name run stage was
               (same_key (Stage started place) (Stage run stage)) refl;
-          numbers = numbers_stay log one quiet.run (rw e refl) sound;
+          numbers = numbers_stay log one quiet.run (rw e refl) sound.numbers;
         }
       where
         of_started : ¬ (queueing started log.facts ≡ None)

@@ -1,6 +1,7 @@
 -- Members of filtered lists, and of lists that give something at most once.
-use Rattle.std.proofs.Common.{◌≡◌, ◌⊎◌, ◌≤◌, ◌+◌, ◌||◌, Bool, true, false, cond, List, [], ◌∷◌, ◌++◌}
-use Rattle.std.proofs.Common.{filter, flat_map, length, refl, sym, ap, subst, ◌∙◌, inl, inr, arith}
+use Rattle.std.proofs.Common.{◌≡◌, ◌⊎◌, ◌≤◌, ◌+◌, ◌||◌, Bool, true, false, cond, List, []}
+use Rattle.std.proofs.Common.{◌∷◌, ◌++◌, filter, flat_map, length, refl, sym, ap, subst, ◌∙◌}
+use Rattle.std.proofs.Common.{inl, inr, arith}
 use Rattle.std.specs.List.{Contains, list_any}
 use Rattle.std.proofs.lemmas.List.{length-append}
 use Rattle.pl_due.proofs.Members.{cons_cases, here, there}
@@ -45,15 +46,13 @@ module _ {X : Type 0} (p : X → Bool) where
 
   pub any_contains : (xs : List X) (x : X) → p x ≡ true → Contains xs x → list_any p xs ≡ true
   any_contains [] x passes in_it = absurd (Contains-none x in_it)
-  any_contains (y ∷ xs) x passes in_it = go (cons_cases x y xs in_it)
+  any_contains (y ∷ xs) x passes in_it =
+      go (cons_cases x y xs in_it) (any_contains xs x passes)
     where
-      go : (y ≡ x) ⊎ Contains xs x → list_any p (y ∷ xs) ≡ true
-      go (inl same) = any_by (p y) (list_any p xs) (inl (ap p same ∙ passes))
-      go (inr more) =
-          any_by (p y) (list_any p xs) (inr (rest more))
-        where
-          rest : Contains xs x → list_any p xs ≡ true
-          rest = any_contains xs x passes
+      go : (y ≡ x) ⊎ Contains xs x → (Contains xs x → list_any p xs ≡ true) →
+          list_any p (y ∷ xs) ≡ true
+      go (inl same) rest = any_by (p y) (list_any p xs) (inl (ap p same ∙ passes))
+      go (inr more) rest = any_by (p y) (list_any p xs) (inr (rest more))
 
 -- ---- of a list of which at most one thing comes, at most one item gives something
 

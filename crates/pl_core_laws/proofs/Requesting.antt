@@ -1,19 +1,18 @@
 -- How a history stays sound behind what happens by a request.
-use Rattle.std.proofs.Common.{◌≡◌, ◌⊎◌, ◌&&◌, ◌≤◌, ◌+◌, ◌<◌, ℕ, Bool, true, false, cond, List, [], ◌∷◌}
+use Rattle.std.proofs.Common.{◌≡◌, ◌&&◌, ◌≤◌, ◌+◌, ◌<◌, ℕ, Bool, true, false, cond, List, [], ◌∷◌}
 use Rattle.std.proofs.Common.{◌++◌, Option, Some, None, is_some, is_none, refl, sym, ap, subst, ◌∙◌}
-use Rattle.std.proofs.Common.{inl, inr, max, min, arith, filter, filter_map, flat_map, length}
+use Rattle.std.proofs.Common.{max, arith, filter_map, flat_map, length}
 use Rattle.std.specs.Prelude.{if◌then◌else◌, nat_le}
 use Rattle.std.specs.List.{Contains, cons_option, range_with_len}
 use Rattle.std.specs.Option.{option_and_then, option_map_or}
 use Rattle.std.specs.Ordering.{is_eq}
-use Rattle.std.proofs.lemmas.Bool.{cases_le}
+use Rattle.std.proofs.lemmas.Bool.{leb-false}
 use Rattle.std.proofs.lemmas.List.FromFn.{get_or-range_with_len, length-range_with_len}
 use Rattle.std.proofs.lemmas.Option.{none-some, slice_get_within}
 use Rattle.pl_base.specs.declared.resource.ResourceKey.{ResourceKey}
 use Rattle.pl_due.proofs.Standing.{both, first_of_two, is_nothing, second_of_two}
-use Rattle.pl_due.specs.Checked.{exclusive_uses, is_exclusive}
+use Rattle.pl_due.specs.Checked.{is_exclusive}
 use Rattle.pl_due.specs.Nodes.{IsStageOf, is_running}
-use Rattle.pl_facts.specs.Sizes.{counted}
 use Rattle.pl_facts.specs.declared.fact.Event.{Event}
 use Rattle.pl_facts.specs.declared.fact.Event.TheVariants as event
 use Rattle.pl_facts.specs.declared.fact.Fact.{Fact}
@@ -34,12 +33,11 @@ use Rattle.pl_settings.specs.Running.{running_on, uses}
 use Rattle.pl_settings.specs.Running as running
 use Rattle.pl_settings.specs.Settings.{busy, busy_with}
 use Rattle.pl_settling.proofs.Behind.{none_before, touched, untouched}
-use Rattle.pl_settling.proofs.Occupying.{IsQuiet}
-use Rattle.pl_settling.specs.Laws.{HasOneHolder, Occupies}
+use Rattle.pl_settling.specs.Laws.{Occupies}
 use Rattle.pl_step.specs.Full.{last_number}
 use Rattle.pl_core_laws.proofs.Happening.{Happens}
-use Rattle.pl_core_laws.proofs.Keeping.{IsIdle, Sound, idle_keeps, no_start, numbers_stay, queued_stays}
-use Rattle.pl_core_laws.proofs.Keeping.{same_run, same_start, still_queued, with_one}
+use Rattle.pl_core_laws.proofs.Keeping.{AreBelow, Sound, idle_keeps, no_start, numbers_stay}
+use Rattle.pl_core_laws.proofs.Keeping.{queued_stays, same_run, same_start, with_one}
 use Rattle.pl_core_laws.proofs.Members.{any_contains, each_within, in_filter, kept_in_filter}
 use Rattle.pl_core_laws.proofs.Members.{one_giver, some_in}
 use Rattle.pl_core_laws.proofs.Queued.{queued_contains}
@@ -102,7 +100,7 @@ named_run a b false is other = refl
 
 module _ (log : Log) (one : Fact) (told : QueuedRun) (is : one.event ≡ event.RunQueued told)
     (number : told.run ≡ next_run log) (few : last_run (with_one log one) ≤ last_number)
-    (sound : Sound log) where
+    (below : AreBelow log) where
   last_is : last_run (with_one log one) ≡ max log.opening.run told.run
   last_is = ap (λ (found : Option Fact). option_map_or (λ run. max log.opening.run run)
       (by number_told found) log.opening.run)
@@ -117,15 +115,48 @@ module _ (log : Log) (one : Fact) (told : QueuedRun) (is : one.event ≡ event.R
       omega (arith, number, bound)
 
   -- no run that was queued before has its number
-  other_run : (run : ℕ) → ¬ (queueing run log.facts ≡ None) → ¬ (told.run ≡ run)
-  other_run run there same = omega (arith, sound.numbers run there, is_new, same)
+  pub other_run : (run : ℕ) → ¬ (queueing run log.facts ≡ None) → ¬ (told.run ≡ run)
+  other_run run there same = omega (arith, below run there, is_new, same)
 
+  pub is_fresh : queueing told.run log.facts ≡ None
+  is_fresh = go (queueing told.run log.facts) refl
+    where
+      go : (found : Option Fact) → queueing told.run log.facts ≡ found →
+          queueing told.run log.facts ≡ None
+      go None was = was
+      go (Some fact) was =
+          absurd (other_run told.run (λ none. none-some fact (sym none ∙ was)) refl)
+
+  pub number_stays : AreBelow (with_one log one)
+  number_stays = λ run there.
+      by_run run there (is_about (Run run) one && is_queueing one.event) refl
+    where
+      by_run : (run : ℕ) → ¬ (queueing run (log.facts ++ one ∷ []) ≡ None) → (b : Bool) →
+          (is_about (Run run) one && is_queueing one.event) ≡ b → run ≤ last_run (with_one log one)
+      by_run run there true passes =
+          let about : same_key (Run told.run) (Run run) ≡ true =
+          first_of_two (same_key (Run told.run) (Run run)) true (rw is at passes) in
+          let named : Run told.run ≡ Run run = exact_key (Run told.run) (Run run) about in
+          let e : told.run ≡ run = cc in
+          omega (arith, e, last_is)
+      by_run run there false fails =
+          omega (
+            arith,
+            below run (λ none. there (same_run log one run fails ∙ none)),
+            is_new,
+            last_is,
+          )
+
+module _ (log : Log) (one : Fact) (told : QueuedRun) (is : one.event ≡ event.RunQueued told)
+    (number : told.run ≡ next_run log) (few : last_run (with_one log one) ≤ last_number)
+    (sound : Sound log) where
   unqueued : (run : ℕ) → ¬ (queueing run log.facts ≡ None) →
       (is_about (Run run) one && is_queueing one.event) ≡ false
   unqueued run there =
-      ap (λ b. b && is_queueing one.event)
-      (rw is (named_run told.run run (same_key (Run told.run) (Run run)) refl
-      (other_run run there)))
+      let about : is_about (Run run) one ≡ false =
+      rw is (named_run told.run run (same_key (Run told.run) (Run run)) refl
+      (other_run log one told is number few sound.numbers run there)) in
+      ap (λ (b : Bool). b && is_queueing one.event) about
 
   unstarted : (run stage : ℕ) → (is_about (Stage run stage) one && is_start one.event) ≡ false
   unstarted run stage = rw is refl
@@ -147,37 +178,17 @@ module _ (log : Log) (one : Fact) (told : QueuedRun) (is : one.event ≡ event.R
       (unqueued run (was_queued run stage held.3))
       key (same_exclusive log.facts one key (rw is refl)) held
 
-  number_stays : (run : ℕ) → ¬ (queueing run (log.facts ++ one ∷ []) ≡ None) →
-      run ≤ last_run (with_one log one)
-  number_stays run there = go (is_about (Run run) one && is_queueing one.event) refl
-    where
-      go : (b : Bool) → (is_about (Run run) one && is_queueing one.event) ≡ b →
-          run ≤ last_run (with_one log one)
-      go true passes =
-          let about : same_key (Run told.run) (Run run) ≡ true =
-          first_of_two (same_key (Run told.run) (Run run)) true (rw is at passes) in
-          let named : Run told.run ≡ Run run = exact_key (Run told.run) (Run run) about in
-          let e : told.run ≡ run = cc in
-          omega (arith, e, last_is)
-      go false fails =
-          omega (
-            arith,
-            sound.numbers run (λ none. there (same_run log one run fails ∙ none)),
-            is_new,
-            last_is,
-          )
-
   queued_keeps : Sound (with_one log one)
   queued_keeps = record {
     one = λ key run stage r s left right.
         sound.one key run stage r s (held_before key run stage left) (held_before key r s right);
     queued = queued_stays log one unstarted sound;
-    numbers = number_stays;
+    numbers = number_stays log one told is number few sound.numbers;
   }
 
 -- ---- a resource is set
 
-as_list : {X : Type 0} → Option X → List X
+abbrev as_list : {X : Type 0} → Option X → List X
 as_list o = cons_option o []
 
 filter_map_is : {X Y : Type 0} (f : X → Option Y) (xs : List X) →
@@ -194,7 +205,7 @@ in_range : (stage count : ℕ) → stage < count → Contains (range_with_len 0 
 in_range stage count within = (
   stage,
   omega (arith, within, length-range_with_len 0 count),
-  get_or-range_with_len 0 count stage stage within,
+  omega (arith, get_or-range_with_len 0 count stage stage within),
 )
 
 -- the stages that are running on it: of two there is one
@@ -325,7 +336,8 @@ module _ (log : Log) (one : Fact) (told : ResourceSetting)
           busy_with (running_on log.facts told.key) ≡ None →
           length (running_on log.facts told.key) ≤ 1
       go true is_two none = absurd (let e = rw is_two at none in cc)
-      go false is_two none = omega (arith, is_two)
+      go false is_two none =
+          let low = leb-false 2 (length (running_on log.facts told.key)) is_two in omega arith
 
   this_key : (key : ResourceKey) → is_about (Resource key) one ≡ true →
       (run stage r s : ℕ) → Occupies (log.facts ++ one ∷ []) key run stage →
@@ -358,7 +370,7 @@ module _ (log : Log) (one : Fact) (told : ResourceSetting)
     one = λ key run stage r s left right.
         by_key key run stage r s left right (is_about (Resource key) one) refl;
     queued = queued_stays log one starts_none sound;
-    numbers = numbers_stay log one queues_none (rw is refl) sound;
+    numbers = numbers_stay log one queues_none (rw is refl) sound.numbers;
   }
     where
       by_key : (key : ResourceKey) (run stage r s : ℕ) →

@@ -1,9 +1,9 @@
 -- What a legal history makes sure of, entry after entry.
-use Rattle.std.proofs.Common.{◌≡◌, ◌≤◌, ◌||◌, ℕ, Bool, true, false, List, [], ◌∷◌, ◌++◌, Option, Some, None}
+use Rattle.std.proofs.Common.{◌≡◌, ◌+◌, ◌≤◌, ◌||◌, ℕ, List, [], ◌∷◌, ◌++◌, Option, Some, None}
 use Rattle.std.proofs.Common.{length, max, refl, sym, ap, subst, ◌∙◌, arith}
 use Rattle.std.specs.Prelude.{nat_le, nat_lt}
 use Rattle.std.specs.Option.{option_map_or}
-use Rattle.std.proofs.lemmas.Bool.{or_parts}
+use Rattle.std.proofs.lemmas.Bool.{ltb-false, or_parts}
 use Rattle.std.proofs.lemmas.List.{append-nil, append_assoc, flat_map_more}
 use Rattle.std.proofs.lemmas.Option.{none-some}
 use Rattle.pl_base.specs.declared.digest.Digest.{Digest}
@@ -20,12 +20,14 @@ use Rattle.pl_journal.specs.Log.{Log, last_run, version}
 use Rattle.pl_journal.specs.Runs.{number_told, queueing, stage_start}
 use Rattle.pl_journal.specs.Settings.{by}
 use Rattle.pl_log.specs.Keys.{Queue}
+use Rattle.pl_queueing.specs.Queueing.{Made}
+use Rattle.pl_requests.specs.declared.call.Call.{Call}
 use Rattle.pl_requests.specs.declared.request.Request.{Request}
 use Rattle.pl_requests.specs.declared.request.Request.TheVariants as request
 use Rattle.pl_settling.proofs.Adding.{added_so, kept_along}
 use Rattle.pl_settling.specs.Laws.{Along, HasOneHolder, NextIfStart, StartsAsNext, StillOneHolder}
 use Rattle.pl_settling.specs.Settles.{Adds}
-use Rattle.pl_step.specs.Full.{is_full, last_number, most_bytes, most_entries, with_facts}
+use Rattle.pl_step.specs.Full.{last_number, most_bytes, most_entries, with_facts}
 use Rattle.pl_step.specs.Step.{SettlesFor, happened}
 use Rattle.pl_step.specs.declared.held.Held.{Held}
 use Rattle.pl_core_laws.specs.Access.{HoldAlone, IsSound, StartAsNext}
@@ -53,7 +55,7 @@ along_weaker R S weaker facts [] along = tt
 along_weaker R S weaker facts (x ∷ xs) along =
     (weaker facts x along.0, along_weaker R S weaker (facts ++ x ∷ []) xs along.1)
 
-along_last : (K : List Fact → Type 0) (facts xs : List Fact) → K facts →
+pub along_last : (K : List Fact → Type 0) (facts xs : List Fact) → K facts →
     Along (λ before one. K (before ++ one ∷ [])) facts xs → K (facts ++ xs)
 along_last K facts [] holds along = subst K (sym (append-nil facts)) holds
 along_last K facts (x ∷ xs) holds along =
@@ -78,12 +80,12 @@ happened_starts log facts moment None may = tt
 happened_starts log facts moment (Some told) may =
     (starts_none log facts moment told may, tt)
 
-module _ (held : Held) (log : Log) (call : _) (made : _) (added : List Fact)
+module _ (held : Held) (log : Log) (call : Call) (made : Made) (added : List Fact)
     (is : IsEntered held log call made added) where
-  may : MayHappen (with_facts log is.due) is.answer.event
+  pub may : MayHappen (with_facts log is.due) is.answer.event
   may = happens (with_facts log is.due) call.moment is.who made call.request is.answer is.answers
 
-  adds : Adds call.moment log.facts is.due
+  pub adds : Adds call.moment log.facts is.due
   adds = adds_for call.request call.moment log.facts is.due is.settles
 
   entry_starts : ((moment : ℕ) (facts xs : List Fact) → Adds moment facts xs →
@@ -106,9 +108,25 @@ module _ (held : Held) (log : Log) (call : _) (made : _) (added : List Fact)
       || nat_lt last_number (version (with_facts log added))) parts.1 in
       let last = or_parts (nat_lt last_number (last_run (with_facts log added)))
       (nat_lt last_number (version (with_facts log added))) more.1 in
-      omega (arith, last.0)
+      ltb-false last_number (last_run (with_facts log added)) last.0
 
-  SoundAt : List Fact → Type 0
+  -- where something happens by the request, it is one fact behind those that were due
+
+  abbrev pub one_for : Event → Fact
+  one_for told = record { moment = call.moment; event = told }
+
+  pub all_with : (told : Event) → added ≡ is.due ++ happened call.moment (Some told) →
+      log.facts ++ added ≡ (log.facts ++ is.due) ++ one_for told ∷ []
+  all_with told are = ap (λ (more : List Fact). log.facts ++ more) are
+      ∙ sym (append_assoc log.facts is.due (one_for told ∷ []))
+
+  pub few_with : (told : Event) → added ≡ is.due ++ happened call.moment (Some told) →
+      last_run (with_one (with_facts log is.due) (one_for told)) ≤ last_number
+  few_with told are =
+      subst (λ (facts : List Fact). last_run (record log { facts = facts }) ≤ last_number)
+      (all_with told are) not_long
+
+  abbrev SoundAt : List Fact → Type 0
   SoundAt facts = Sound (record log { facts = facts })
 
   each_due : Sound log →
@@ -129,16 +147,11 @@ module _ (held : Held) (log : Log) (call : _) (made : _) (added : List Fact)
           added ≡ is.due ++ happened call.moment told → SoundAt (log.facts ++ is.due) →
           Along (λ before one. SoundAt (before ++ one ∷ [])) (log.facts ++ is.due)
           (happened call.moment told)
-      go None may are holds = tt
-      go (Some told) may are holds =
-          let one : Fact = record { moment = call.moment; event = told } in
-          let all : log.facts ++ added ≡ (log.facts ++ is.due) ++ one ∷ [] =
-          ap (λ (more : List Fact). log.facts ++ more) are
-          ∙ sym (append_assoc log.facts is.due (one ∷ [])) in
-          let few : last_run (with_one (with_facts log is.due) one) ≤ last_number =
-          subst (λ (facts : List Fact). last_run (record log { facts = facts }) ≤ last_number)
-          all not_long in
-          (request_keeps (with_facts log is.due) one may few holds, tt)
+      go None fits are holds = tt
+      go (Some told) fits are holds = (
+        request_keeps (with_facts log is.due) (one_for told) fits (few_with told are) holds,
+        tt,
+      )
 
   each_added : Sound log → Along (λ before one. SoundAt (before ++ one ∷ [])) log.facts added
   each_added sound =
@@ -155,8 +168,9 @@ module _ (held : Held) (log : Log) (call : _) (made : _) (added : List Fact)
 
 -- ---- the whole history
 
-entered : (opening : Opening) (before : List Entry) (entry : Entry) → Follows opening before entry →
-    (made : _) × IsEntered (held_of before) (log_of opening before) entry.call made entry.facts
+pub entered : (opening : Opening) (before : List Entry) (entry : Entry) →
+    Follows opening before entry → (made : Made)
+    × IsEntered (held_of before) (log_of opening before) entry.call made entry.facts
 entered opening before entry follows = (
   follows.made,
   entered_by (held_of before) (log_of opening before) entry.call follows.made follows.reply
@@ -168,7 +182,7 @@ facts_are : (opening : Opening) (before : List Entry) →
 unfolding log_of
 facts_are opening before = refl
 
-facts_more : (opening : Opening) (before : List Entry) (entry : Entry) →
+pub facts_more : (opening : Opening) (before : List Entry) (entry : Entry) →
     (log_of opening before).facts ++ entry.facts ≡ (log_of opening (before ++ entry ∷ [])).facts
 facts_more opening before entry =
     ap (λ (fs : List Fact). fs ++ entry.facts) (facts_are opening before)
@@ -222,10 +236,10 @@ last_above run None = omega arith
 last_above run (Some one) = omega arith
 
 module _ (opening : Opening) where
-  first_facts : (log_of opening []).facts ≡ opening.facts
+  pub first_facts : (log_of opening []).facts ≡ opening.facts
   first_facts = facts_are opening [] ∙ append-nil opening.facts
 
-  first_last : opening.run ≤ last_run (log_of opening [])
+  pub first_last : opening.run ≤ last_run (log_of opening [])
   unfolding log_of
   first_last = last_above opening.run (by number_told (latest_also Queue (log_of opening []).facts))
 
