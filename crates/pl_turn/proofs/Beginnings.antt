@@ -19,6 +19,10 @@ module _ {E : Type 0} where
   pub prefix-more : (xs ys zs : List E) → IsPrefix xs ys → IsPrefix xs (ys ++ zs)
   prefix-more xs ys zs p = (p.0 ++ zs, sym (append_assoc xs p.0 zs) ∙ ap (λ l. l ++ zs) p.1)
 
+  pub prefix-trans : (xs ys zs : List E) → IsPrefix xs ys → IsPrefix ys zs → IsPrefix xs zs
+  prefix-trans xs ys zs p q =
+      (p.0 ++ q.0, sym (append_assoc xs p.0 q.0) ∙ (ap (λ l. l ++ q.0) p.1 ∙ q.1))
+
   -- of two beginnings of one list the shorter begins the longer
   pub prefix-between : (xs ys zs : List E) → IsPrefix xs zs → IsPrefix ys zs
       → length xs ≤ length ys → IsPrefix xs ys
@@ -54,6 +58,14 @@ module _ {E : Type 0} where
   pub prefix-longer : (xs ys zs : List E) → IsPrefix xs zs → IsPrefix ys zs
       → IsPrefix xs (longer xs ys) × IsPrefix ys (longer xs ys) × IsPrefix (longer xs ys) zs
   prefix-longer xs ys zs p q = by_length xs ys zs p q (ltb (length xs) (length ys)) refl
+
+  -- the longer of two lists is one of them, so it has what both have
+  pub longer-has : (P : List E → Type 0) (xs ys : List E) → P xs → P ys → P (longer xs ys)
+  longer-has P xs ys p q = by_test (ltb (length xs) (length ys))
+    where
+      by_test : (b : Bool) → P (cond b ys xs)
+      by_test true = q
+      by_test false = p
 
   -- an entry that is the only one of a list
   pub only : (x y : E) → Contains (x ∷ []) y → x ≡ y

@@ -1,4 +1,4 @@
-mod Beginnings
+pub mod Beginnings
 mod TwoSeats
 mod Views
 mod Waits
