@@ -1,13 +1,13 @@
-use crate::runs::{answer_jobs, answer_run};
-use crate::sizes::answer_entry;
-use pl_cases::{Answers, Questions, first_line};
+use crate::runs::{Jobs, Runs};
+use pl_cases::{Answers, Questions};
+use pl_samples::answer_run;
 use std::alloc::Global;
 
-/// Questions on runs and their files.
+/// Questions on runs and their jobs.
 #[derive(Drop)]
-pub struct Runs;
+pub struct Objects;
 
-impl Questions for Runs {
+impl Questions for Objects {
     fn answer(
         &mut self,
         alloc: Global,
@@ -17,12 +17,8 @@ impl Questions for Runs {
         case: &str,
     ) {
         match question {
-            "jobs" => answer_jobs(alloc, out, case),
-            "runs" => {
-                let (status, files) = first_line(case);
-                answer_run(alloc, out, status, files)
-            }
-            "entries" => answer_entry(alloc, out, case),
+            "jobs" => answer_run(alloc, out, &Jobs, case),
+            "runs" => answer_run(alloc, out, &Runs, case),
             _ => out.line("%%% not read: ", question),
         }
     }

@@ -1,13 +1,15 @@
 use crate::messages::answer_request;
 use crate::rules::answer_rule;
+use crate::sizes::Entries;
 use pl_cases::{Answers, Questions};
+use pl_samples::answer_run;
 use std::alloc::Global;
 
-/// Questions on lines, each of a rule or of a request.
+/// Questions on lines, each of a rule or of a request, and on entries.
 #[derive(Drop)]
-pub struct Lines;
+pub struct Sizes;
 
-impl Questions for Lines {
+impl Questions for Sizes {
     fn answer(
         &mut self,
         alloc: Global,
@@ -16,12 +18,19 @@ impl Questions for Lines {
         _notes: &str,
         case: &str,
     ) {
-        for line in case.split('\n') {
-            out.push(line);
-            out.push(" = ");
-            answer_line(alloc, out, question, line);
-            out.push("\n");
+        match question {
+            "entries" => answer_run(alloc, out, &Entries, case),
+            _ => answer_lines(alloc, out, question, case),
         }
+    }
+}
+
+fn answer_lines(alloc: Global, out: &mut Answers, question: &str, case: &str) {
+    for line in case.split('\n') {
+        out.push(line);
+        out.push(" = ");
+        answer_line(alloc, out, question, line);
+        out.push("\n");
     }
 }
 

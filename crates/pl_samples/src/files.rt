@@ -1,4 +1,4 @@
-//! The files of a run.
+//! The files of a case, and what they compile to.
 
 use pl_base::{Argument, FileKey, FileSet, List, Memory, Text};
 use pl_compile::{CompileFault, compile};
