@@ -1,5 +1,6 @@
 -- What is prepared and installed is what a desk makes of a call.
-use Rattle.std.proofs.Common.{◌≡◌, ◌+◌, ◌++◌, ℕ, List, [], ◌∷◌, Option, Some, None, length, refl, sym}
+use Rattle.std.proofs.Common.{◌≡◌, ◌+◌, ◌++◌, ℕ, List, [], ◌∷◌, Option, Some, None, length, refl}
+use Rattle.std.proofs.Common.{sym}
 use Rattle.std.proofs.Common.{ap, subst, ◌∙◌}
 use Rattle.pl_alone.specs.Desk.{Parts, Serves, seen_with}
 use Rattle.pl_core.specs.Legal.{Legal}
@@ -41,7 +42,8 @@ seen_is seen call (Some entry) is = by_facts entry.facts refl
     by_facts [] none = absurd (is.adds none)
     by_facts (fact ∷ more) same =
         ap (λ (one : Entry). seen ++ one ∷ [])
-        (entry_is (length seen + 1) call (fact ∷ more) entry is.number_is is.seat_is is.call_is same)
+        (entry_is (length seen + 1) call (fact ∷ more) entry is.number_is is.seat_is is.call_is
+        same)
 
 -- ---- by the states on the way
 

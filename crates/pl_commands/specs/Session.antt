@@ -1,6 +1,5 @@
 -- A session: the bytes that were read as messages and a rest, the turns in which these were acted
--- on,
--- and the bytes that were written.
+-- on, and the bytes that were written.
 use Rattle.std.specs.Prelude.{◌≡◌, ◌<◌, ◌≤◌, ◌⊎◌, ℕ, List, [], ◌∷◌, ◌++◌, length, Option}
 use Rattle.pl_base.specs.Counts.{one_more}
 use Rattle.pl_base.specs.Streams.{with_front, with_end}

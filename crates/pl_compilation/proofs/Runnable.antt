@@ -1,14 +1,14 @@
 -- The plan of what was compiled can run.
-use Rattle.std.proofs.Common.{◌≡◌, ℕ, ◌<◌, List, [], ◌∷◌, length, Option, Some, None, Ok, Err}
-use Rattle.std.proofs.Common.{refl, sym, ap, subst, ◌∙◌, inl, inr, arith}
-use Rattle.std.specs.Prelude.{slice_get, slice_index}
-use Rattle.std.specs.List.{All, AllByRecursion}
+use Rattle.std.proofs.Common.{◌≡◌, ℕ, zero, suc, ◌<◌, List, [], ◌∷◌, length, Option, Some, None, Ok}
+use Rattle.std.proofs.Common.{refl, sym, subst, arith}
+use Rattle.std.specs.Prelude.{slice_get}
+use Rattle.std.specs.List.{AllByRecursion}
 use Rattle.std.specs.Option.{option_map, option_or}
 use Rattle.std.proofs.lemmas.List.Elements.{All-from_recursion, recursion_from_All}
-use Rattle.std.proofs.lemmas.Option.{none-some, slice_get_cases}
+use Rattle.std.proofs.lemmas.Option.{none-some}
 use Rattle.pl_cond.proofs.Small.{can_run}
 use Rattle.pl_depends.proofs.Within.{jobs_are_graph, on_cycle, stages_are_graph}
-use Rattle.pl_depends.specs.Cycles.{AreOn, FirstCycle, Goes, HasNoCycle, HaveNoCycle, IsAcyclic}
+use Rattle.pl_depends.specs.Cycles.{AreOn, FirstCycle, Goes, HasNoCycle, IsAcyclic}
 use Rattle.pl_depends.specs.Cycles.{IsCycleOf, JobCycle, JobCycles, cycle_fault, fault_of, names_on}
 use Rattle.pl_depends.specs.Cycles.{stages_before}
 use Rattle.pl_depends.specs.Gives.{Fault}
@@ -20,33 +20,37 @@ use Rattle.pl_graph.specs.Waits.{edges_by}
 use Rattle.pl_plan.proofs.Sound.{plan_is_sound}
 use Rattle.pl_plan.specs.Laws.{IsSound}
 use Rattle.pl_plan.specs.Plans.{IsPlanOf}
+use Rattle.pl_plan.specs.declared.plan.Compiled.{Compiled}
 use Rattle.pl_plan.specs.declared.plan.Plan.{Plan}
-use Rattle.pl_queueing.specs.Queueing.{Made}
+use Rattle.pl_results.specs.Nodes.{CanRun}
 use Rattle.pl_schema_parts.specs.declared.pipeline.JobSpec.{JobSpec}
 use Rattle.pl_schema_parts.specs.declared.pipeline.Pipeline.{Pipeline}
 use Rattle.pl_schema_parts.specs.declared.pipeline.StageSpec.{StageSpec}
 use Rattle.pl_snapshots.specs.declared.snapshot.Snapshot.{Snapshot}
-use Rattle.pl_step.specs.Fits.{CanRunMade}
-use Rattle.pl_compilation.specs.Made.{IsMade}
+use Rattle.pl_compilation.specs.Made.{IsMadeOf}
 
 -- ---- a graph of which no fault is told has no cycle
+
+is_there : (graph : List Waiting) (node : ℕ) → node < length graph →
+    slice_get graph node ≡ None → ⊥
+is_there [] node within none = absurd (omega arith)
+is_there (waiting ∷ graph) zero within none = none-some waiting (sym none)
+is_there (waiting ∷ graph) (suc node) within none = is_there graph node (omega arith) none
+
+none_found : {X Y : Type 0} (f : X → Y) (found : Option X) → option_map f found ≡ None →
+    found ≡ None
+none_found f None none = refl
+none_found f (Some x) none = absurd (none-some (f x) (sym none))
 
 first_on : (graph : List Waiting) (nodes : List ℕ) → AreOn graph nodes →
     cycle_fault graph nodes ≡ None → ⊥
 first_on graph [] on none = absurd (omega (arith, on.0))
 first_on graph (node ∷ nodes) on none =
-    by_cases ((slice_get_cases graph node).1)
-  where
-    within : node < length graph
-    within = (recursion_from_All (λ (one : ℕ). one < length graph) (node ∷ nodes) on.1).0
-
-    by_cases :
-        ((x : Waiting) × (node < length graph) × (slice_get graph node ≡ Some x) × _)
-        ⊎ ((length graph ≤ node) × (slice_get graph node ≡ None)) → ⊥
-    by_cases (inl there) =
-        none-some _ (sym none ∙ ap (option_map (λ (first : Waiting).
-        (Cycle (names_on graph (node ∷ nodes)), first.place))) there.2)
-    by_cases (inr past) = absurd (omega (arith, within, past.0))
+    let fault : Waiting → Fault =
+    λ first. (Cycle (names_on graph (node ∷ nodes)), first.place) in
+    is_there graph node
+    (recursion_from_All (λ (one : ℕ). one < length graph) (node ∷ nodes) on.1).0
+    (none_found fault (slice_get graph node) none)
 
 no_fault : (graph : List Waiting) (nodes : List ℕ) → IsGraph graph →
     IsCycleOf graph (Some nodes) → cycle_fault graph nodes ≡ None → ⊥
@@ -108,11 +112,8 @@ plan_sound : (pipeline : Pipeline) (plan : Plan) → IsPlanOf pipeline (Ok plan)
 plan_sound pipeline plan is =
     subst IsSound (sym is.2) (plan_is_sound pipeline (no_cycle pipeline.stages is.1) is.0)
 
-pub made_can_run : (snapshot : Option Snapshot) (made : Made) → IsMade snapshot made →
-    CanRunMade made
-made_can_run snapshot None is = tt
-made_can_run snapshot (Some (Err refusal)) is = tt
-made_can_run None (Some (Ok compiled)) is = absurd is
-made_can_run (Some snapshot) (Some (Ok compiled)) is =
+pub compiled_can_run : (snapshot : Snapshot) (compiled : Compiled) →
+    IsMadeOf snapshot (Ok compiled) → CanRun compiled.plan
+compiled_can_run snapshot compiled is =
     can_run is.pipeline compiled.plan is.plans.0 is.plans.2
     (plan_sound is.pipeline compiled.plan is.plans)

@@ -1,7 +1,8 @@
 -- What installing leaves, and a new service.
-use Rattle.std.proofs.Common.{◌≡◌, ◌≤◌, ◌⊎◌, ◌+◌, ℕ, max, min, true, List, [], ◌∷◌, ◌++◌, Option, Some}
+use Rattle.std.proofs.Common.{◌≡◌, ◌≤◌, ◌⊎◌, ◌+◌, ℕ, max, min, true, List, [], ◌∷◌, ◌++◌, Option}
+use Rattle.std.proofs.Common.{Some}
 use Rattle.std.proofs.Common.{None, length, refl, sym, ap, subst, ◌∙◌, inl, arith}
-use Rattle.std.specs.List.{All, AllByRecursion}
+use Rattle.std.specs.List.{AllByRecursion}
 use Rattle.std.specs.Option.{option_map_or, option_or}
 use Rattle.std.proofs.lemmas.List.Elements.{All-from_recursion, All-take, recursion_from_All}
 use Rattle.pl_base.specs.declared.digest.Digest.{Digest}
@@ -16,7 +17,8 @@ use Rattle.pl_journal.specs.Log.{Log, empty, version}
 use Rattle.pl_journal.specs.Log as journal
 use Rattle.pl_log.specs.Latest.{latest}
 use Rattle.pl_step.specs.Full.{back, with_facts}
-use Rattle.pl_core.proofs.Keeping.{kept_behind, legal_more, made_last, nothing_behind, opening_behind}
+use Rattle.pl_core.proofs.Keeping.{kept_behind, legal_more, made_last, nothing_behind}
+use Rattle.pl_core.proofs.Keeping.{opening_behind}
 use Rattle.pl_core.proofs.Keeping.{pending_behind, went_back}
 
 -- ---- the last moment is one that a clock tells
@@ -74,7 +76,9 @@ module _ (log new : Log) (entries : List Entry) (entry : Entry) (kept : IsKept l
   now_behind = now_is ∙ sym (nothing_behind (log_of (opening_of log) (entries ++ entry ∷ [])))
 
   now_fit : AreFit new.facts
-  now_fit = subst (λ (facts : List Fact). AreFit facts) (ap (λ (l : Log). l.facts) (sym is)) kept.fit
+  now_fit =
+      subst (λ (facts : List Fact). AreFit facts) (ap (λ (l : Log). l.facts) (sym is))
+      kept.fit
 
   pub opening_stays : opening_of new ≡ opening_of log
   opening_stays = opening_behind new (entries ++ entry ∷ []) [] (opening_of log) now_behind

@@ -1,7 +1,8 @@
 -- What is prepared is the next entry.
-use Rattle.std.proofs.Common.{◌≡◌, ◌≤◌, ◌⊎◌, ◌+◌, ℕ, true, List, [], ◌∷◌, ◌++◌, Option, Some, None}
-use Rattle.std.proofs.Common.{Result, Ok, Err, IfOk, OnErr, length, refl, sym, ap, subst, ◌∙◌}
+use Rattle.std.proofs.Common.{◌≡◌, ◌≤◌, ℕ, true, List, [], Option, Some, None}
+use Rattle.std.proofs.Common.{Result, Ok, Err, IfOk, OnErr, sym, subst, ◌∙◌}
 use Rattle.pl_base.specs.declared.memory.Memory.{Memory}
+use Rattle.pl_compilation.specs.Made.{IsMade, IsMadeOf}
 use Rattle.pl_core.specs.Legal.{Follows}
 use Rattle.pl_core.specs.Made.{IsMadeFor}
 use Rattle.pl_core.specs.Prepared.{IsEntryOf, IsPrepared, added_by, next_number}
@@ -10,10 +11,14 @@ use Rattle.pl_core.specs.declared.prepared.Prepared.{Prepared}
 use Rattle.pl_facts.specs.declared.entry.Entry.{Entry}
 use Rattle.pl_facts.specs.declared.fact.Fact.{Fact}
 use Rattle.pl_journal.specs.Log.{Log, last_moment}
+use Rattle.pl_plan.specs.declared.plan.Compiled.{Compiled}
 use Rattle.pl_queueing.specs.Queueing.{Made}
 use Rattle.pl_requests.specs.WellFormed.{is_well_formed}
 use Rattle.pl_requests.specs.declared.call.Call.{Call}
 use Rattle.pl_requests.specs.declared.reply.Reply.{Reply}
+use Rattle.pl_results.specs.Nodes.{CanRun}
+use Rattle.pl_snapshots.specs.declared.snapshot.Snapshot.{Snapshot}
+use Rattle.pl_step.specs.Fits.{CanRunMade}
 use Rattle.pl_step.specs.Full.{with_facts}
 use Rattle.pl_step.specs.Step.{IsStep, stepped_with}
 use Rattle.pl_step.specs.declared.held.Held.{Held}
@@ -24,6 +29,16 @@ pub if_ok : {X E : Type 0} (P Q : X → Type 0) (r : Result X E) → ((x : X) �
     IfOk r P → IfOk r Q
 if_ok P Q (Ok x) step holds = step x holds
 if_ok P Q (Err e) step holds = tt
+
+-- ---- what was made can run
+
+pub made_can_run : ((snapshot : Snapshot) (compiled : Compiled) →
+    IsMadeOf snapshot (Ok compiled) → CanRun compiled.plan) → (snapshot : Option Snapshot)
+    (made : Made) → IsMade snapshot made → CanRunMade made
+made_can_run runs snapshot None is = tt
+made_can_run runs snapshot (Some (Err refusal)) is = tt
+made_can_run runs None (Some (Ok compiled)) is = absurd is
+made_can_run runs (Some snapshot) (Some (Ok compiled)) is = runs snapshot compiled is
 
 -- ---- where no fact comes there is no entry
 

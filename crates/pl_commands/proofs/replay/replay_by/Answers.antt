@@ -1,6 +1,7 @@
 use Rattle.std.proofs.Common.{refl, arith}
 use Rattle.pl_commands.proofs.Endings.{serving_starts, serving_answers, serving_reads, ends_at_once}
-use Rattle.pl_commands.proofs.Endings.{ends_bad, bad_unwritten, bad_unkept, write_broke, memory_broke}
+use Rattle.pl_commands.proofs.Endings.{ends_bad, bad_unwritten, bad_unkept, write_broke}
+use Rattle.pl_commands.proofs.Endings.{memory_broke}
 use Rattle.pl_commands.proofs.Endings.{ends_spent, ends_failed, ends_between, ends_inside}
 use Rattle.pl_commands.proofs.Endings.{memory_unread, waits_more, nothing_came, still_partial}
 use Rattle.pl_commands.proofs.replay.replay_by.Goals as goal

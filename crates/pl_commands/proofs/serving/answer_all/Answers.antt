@@ -1,7 +1,8 @@
 use Rattle.std.proofs.Common.{rules, ◌∙◌, sym, ap, subst, take, OnOk}
 use Rattle.pl_wire.specs.Message.{IsMessage}
 use Rattle.pl_commands.proofs.Forms.{well_formed}
-use Rattle.pl_commands.proofs.Sessions.{answers_broken, answers_on, breaks_on, breaks_off, breaks_here}
+use Rattle.pl_commands.proofs.Sessions.{answers_broken, answers_on, breaks_on, breaks_off}
+use Rattle.pl_commands.proofs.Sessions.{breaks_here}
 use Rattle.pl_commands.proofs.serving.answer_all.Goals as goal
 
 pub returns-in_err-next_message-clause-answers : goal.returns-in_err-next_message-clause-answers

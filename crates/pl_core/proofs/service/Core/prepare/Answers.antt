@@ -1,7 +1,7 @@
-use Rattle.std.proofs.Common.{◌≡◌, ◌+◌, ℕ, List, Option, length, sym, ap, subst, ◌∙◌, arith, inr}
+use Rattle.std.proofs.Common.{◌≡◌, ◌+◌, List, Option, length, sym, ap, subst, ◌∙◌, arith, inr}
 use Rattle.pl_core.specs.Kept.{AreNumbers, IsKept, opening_of, pending_of}
 use Rattle.pl_core.specs.Prepared.{IsEntryOf, next_number}
-use Rattle.pl_core.specs.State.{Opening, State, held, log, log_of}
+use Rattle.pl_core.specs.State.{State, held, log, log_of}
 use Rattle.pl_facts.specs.Sizes.{counted, size_of, total}
 use Rattle.pl_facts.specs.declared.entry.Entry.{Entry}
 use Rattle.pl_journal.specs.Log.{Log}
@@ -9,7 +9,8 @@ use Rattle.pl_step.specs.Full.{with_facts}
 use Rattle.pl_step.specs.declared.held.Held.{Held}
 use Rattle.pl_core.proofs.Keeping.{all_installed, kept_behind, numbers_behind, opening_behind}
 use Rattle.pl_core.proofs.Keeping.{pending_behind, went_back}
-use Rattle.pl_core.proofs.Preparing.{behind_by, if_ok, pending_by, prepared_by, steps_at}
+use Rattle.pl_core.proofs.Preparing.{behind_by, if_ok, made_can_run, pending_by, prepared_by}
+use Rattle.pl_core.proofs.Preparing.{steps_at}
 use Rattle.pl_core.proofs.service.Core.prepare.Goals as goal
 
 pub prepare-requires-clause-installed : goal.prepare-requires-clause-installed
@@ -18,6 +19,10 @@ prepare-requires-clause-installed c =
     subst (λ (l : Log). l.installed ≡ length l.facts)
     (sym (c.back_to_installed.ensures ∙ went_back c.self.inside.journal entries c.self.invariant.0))
     (all_installed (opening_of c.self.inside.journal) entries)
+
+pub prepare-requires-clause-can_run : goal.prepare-requires-clause-can_run
+prepare-requires-clause-can_run c =
+    made_can_run c.compilations_can_run.ensures c.requires.made.0 c.args.made c.requires.made.2
 
 -- the journal is that of the entries, with some facts behind theirs
 module _ (c : goal.After-prepare) where
