@@ -17,6 +17,7 @@ from measure import least
 from shapes import ALL, OVER
 
 STATUSES = {0, 8, 9}
+MOST = 4_000_000
 HERE = os.path.dirname(os.path.abspath(__file__))
 TOP = os.path.dirname(os.path.dirname(HERE))
 WORDS = ["${{ parameters.a }}", "${{ each x in parameters.l }}:", "${{ if 1 }}:", "${{ insert }}:", "- template: t.yml", "steps:", "split(", "replace(", "format('{0}{0}',", "join(',',", "parameters.l", ",", "'", '"', "[", "]", "{", "}", "dependsOn: a", "parallel: 100", "type: object", "default:"]
@@ -33,6 +34,11 @@ def seeds():
     return [text for text in found if len(text) < 300_000]
 
 
+def times(chance, counts, size):
+    """How often a part of that size is repeated: one of the counts, as far as the text stays within what it may have."""
+    return min(chance.choice(counts), MOST // max(1, size))
+
+
 def changed(text, others, chance):
     """A text with some of its parts left out, doubled, repeated, exchanged, or put from another one or from the words."""
     lines = text.split("\n")
@@ -43,7 +49,8 @@ def changed(text, others, chance):
         if way == 0:
             del lines[at:to]
         elif way == 1:
-            lines[at:at] = lines[at:to] * chance.choice([1, 2, 10, 100])
+            part = lines[at:to]
+            lines[at:at] = part * times(chance, [1, 2, 10, 100], sum(map(len, part)))
         elif way == 2:
             other = chance.choice(others).split("\n")
             from_there = chance.randrange(len(other))
@@ -57,12 +64,12 @@ def changed(text, others, chance):
         elif way == 5:
             line = lines[at]
             cut, end = sorted((chance.randint(0, len(line)), chance.randint(0, len(line))))
-            lines[at] = line[:cut] + line[cut:end] * chance.choice([0, 2, 50, 5000]) + line[end:]
+            lines[at] = line[:cut] + line[cut:end] * times(chance, [0, 2, 50, 5000], end - cut) + line[end:]
         else:
             lines[at] = "".join(chance.choice("0123456789") if c.isdigit() and chance.random() < 0.5 else c for c in lines[at])
         if not lines:
             lines = [""]
-    return "\n".join(lines)[:4_000_000]
+    return "\n".join(lines)[:MOST]
 
 
 def spent():
