@@ -1,9 +1,10 @@
-"""Changes inputs at random for so many seconds, and tells each that is over the goal.
+"""Changes inputs at random for so many seconds of processor time, and tells each that is over the goal.
 
     python3 bench/hostile/mutate.py PROGRAM SECONDS [SEED]
 
-The seeds are the small shapes that are within the goal and the cases of bundles. What is over is kept in a folder that is named at the end, and the status is 1
-then."""
+The seconds are those of this process and of the programs that it runs, so that a busy machine tries as many inputs as a quiet one.
+The seeds are the small shapes that are within the goal and the cases of bundles. What is over in seconds alone is measured twice
+more, and the least counts. What is over is kept in a folder that is named at the end, and the status is 1 then."""
 
 import glob
 import os
@@ -11,12 +12,12 @@ import random
 import shutil
 import sys
 import tempfile
-import time
 
-from measure import over
-from measured import measure
+from measure import least
 from shapes import ALL, OVER
 
+STATUSES = {0, 8, 9}
+MOST = 4_000_000
 HERE = os.path.dirname(os.path.abspath(__file__))
 TOP = os.path.dirname(os.path.dirname(HERE))
 WORDS = ["${{ parameters.a }}", "${{ each x in parameters.l }}:", "${{ if 1 }}:", "${{ insert }}:", "- template: t.yml", "steps:", "split(", "replace(", "format('{0}{0}',", "join(',',", "parameters.l", ",", "'", '"', "[", "]", "{", "}", "dependsOn: a", "parallel: 100", "type: object", "default:"]
@@ -33,6 +34,11 @@ def seeds():
     return [text for text in found if len(text) < 300_000]
 
 
+def times(chance, counts, size):
+    """How often a part of that size is repeated: one of the counts, as far as the text stays within what it may have."""
+    return min(chance.choice(counts), MOST // max(1, size))
+
+
 def changed(text, others, chance):
     """A text with some of its parts left out, doubled, repeated, exchanged, or put from another one or from the words."""
     lines = text.split("\n")
@@ -43,7 +49,8 @@ def changed(text, others, chance):
         if way == 0:
             del lines[at:to]
         elif way == 1:
-            lines[at:at] = lines[at:to] * chance.choice([1, 2, 10, 100])
+            part = lines[at:to]
+            lines[at:at] = part * times(chance, [1, 2, 10, 100], sum(map(len, part)))
         elif way == 2:
             other = chance.choice(others).split("\n")
             from_there = chance.randrange(len(other))
@@ -57,33 +64,41 @@ def changed(text, others, chance):
         elif way == 5:
             line = lines[at]
             cut, end = sorted((chance.randint(0, len(line)), chance.randint(0, len(line))))
-            lines[at] = line[:cut] + line[cut:end] * chance.choice([0, 2, 50, 5000]) + line[end:]
+            lines[at] = line[:cut] + line[cut:end] * times(chance, [0, 2, 50, 5000], end - cut) + line[end:]
         else:
             lines[at] = "".join(chance.choice("0123456789") if c.isdigit() and chance.random() < 0.5 else c for c in lines[at])
         if not lines:
             lines = [""]
-    return "\n".join(lines)[:4_000_000]
+    return "\n".join(lines)[:MOST]
+
+
+def spent():
+    """Seconds of processor time of this process and of those that it ran."""
+    return sum(os.times()[:4])
 
 
 def main():
     program, seconds = sys.argv[1], float(sys.argv[2])
     chance = random.Random(int(sys.argv[3]) if len(sys.argv) > 3 else 1)
-    texts, end, count, wrong = seeds(), time.time() + seconds, 0, 0
+    texts, end, count, wrong = seeds(), spent() + seconds, 0, 0
+    most = [0.0, 0.0, 0]
     kept = tempfile.mkdtemp(prefix="hostile-")
     with tempfile.TemporaryDirectory() as folder:
         path, output = os.path.join(folder, "text"), os.path.join(folder, "output")
-        while time.time() < end:
+        while spent() < end:
             text = changed(chance.choice(texts), texts, chance)
             with open(path, "w", encoding="utf-8", newline="\n", errors="replace") as file:
                 file.write(text)
-            one = measure([program, "compile"], path, output)
+            one, told = least([program, "compile"], path, output, STATUSES)
             count += 1
-            told = over(one, {0, 8, 9})
+            most = [max(pair) for pair in zip(most, one[:3])]
+            if count % 1000 == 0:
+                print(f"{count} inputs, {spent():.0f} s, at most {most[0]:.2f} s, {most[1]:.0f} MB, {most[2]} KiB", flush=True)
             if told:
                 wrong += 1
                 shutil.copyfile(path, f"{kept}/{wrong}.bundle")
                 print(f"{wrong}.bundle: {told}: {one.seconds:.2f} s, {one.megabytes:.0f} MB, {one.stack} KiB, status {one.ending}", flush=True)
-    print(f"{count} inputs, {wrong} over, in {kept}")
+    print(f"{count} inputs, {wrong} over, in {kept}; at most {most[0]:.2f} s, {most[1]:.0f} MB, {most[2]} KiB")
     return 1 if wrong else 0
 
 
