@@ -1,13 +1,13 @@
-use crate::runs::{Jobs, Runs};
-use pl_cases::{Answers, Questions};
-use pl_samples::answer_run;
+use crate::runs::{answer_jobs, answer_run};
+use crate::sizes::answer_entry;
+use pl_cases::{Answers, Questions, first_line};
 use std::alloc::Global;
 
-/// Questions on runs and their jobs.
+/// Questions on runs and their files.
 #[derive(Drop)]
-pub struct Objects;
+pub struct Runs;
 
-impl Questions for Objects {
+impl Questions for Runs {
     fn answer(
         &mut self,
         alloc: Global,
@@ -17,8 +17,12 @@ impl Questions for Objects {
         case: &str,
     ) {
         match question {
-            "jobs" => answer_run(alloc, out, &Jobs, case),
-            "runs" => answer_run(alloc, out, &Runs, case),
+            "jobs" => answer_jobs(alloc, out, case),
+            "runs" => {
+                let (status, files) = first_line(case);
+                answer_run(alloc, out, status, files)
+            }
+            "entries" => answer_entry(alloc, out, case),
             _ => out.line("%%% not read: ", question),
         }
     }

@@ -1,18 +1,27 @@
 //! Jobs as agents get them, and runs as replies show them.
 
+use crate::files::compiled;
+use crate::jsons::put_made;
 use crate::statuses::status_of;
 use pl_base::{List, Memory, Refusal, Shared, Text};
-use pl_cases::{Answers, first_line};
+use pl_cases::Answers;
+use pl_compile::CompileFault;
 use pl_facts::QueuedRun;
 use pl_json::Json;
 use pl_objects::{job_object, run_object};
-use pl_plan::PlanStage;
+use pl_plan::{Compiled, PlanStage};
 use pl_refusals::rule_object;
 use pl_rules::Rule;
-use pl_samples::{RunQuestions, put_made};
 use std::alloc::Global;
 
 /// Writes the object of the refusal, in place of what wasn't compiled.
+fn put_fault(alloc: Global, out: &mut Answers, fault: CompileFault) {
+    match fault {
+        CompileFault::Refused(refusal) => put_refusal(alloc, out, refusal),
+        CompileFault::Memory => out.fail(),
+    }
+}
+
 fn put_refusal(alloc: Global, out: &mut Answers, refusal: Refusal) {
     let rule = Rule::CompileRefused { refusal };
     put_made(alloc, out, rule_object(alloc, &rule));
@@ -50,35 +59,40 @@ fn put_stages(alloc: Global, out: &mut Answers, stages: &List<PlanStage>) {
     }
 }
 
-/// The jobs of a run, a line each.
-pub struct Jobs;
-
-impl RunQuestions for Jobs {
-    fn answer(&self, alloc: Global, out: &mut Answers, _case: &str, run: &Shared<QueuedRun>) {
-        put_stages(alloc, out, &run.compiled.plan.stages)
-    }
-
-    fn refused(&self, alloc: Global, out: &mut Answers, refusal: Refusal) {
-        put_refusal(alloc, out, refusal)
+/// Writes the jobs of a run, a line each.
+pub fn answer_jobs(alloc: Global, out: &mut Answers, case: &str) {
+    match compiled(alloc, case) {
+        Ok(compiled) => put_stages(alloc, out, &compiled.plan.stages),
+        Err(fault) => put_fault(alloc, out, fault),
     }
 }
 
-fn run_json(alloc: Global, status: &str, run: &QueuedRun) -> Result<Json, Memory> {
+/// Run 7 of the pipeline `ci`, which `ann` queued.
+pub fn queued(alloc: Global, compiled: Compiled) -> Result<QueuedRun, Memory> {
+    let compiled = Shared::new(alloc, compiled)?;
+    let pipeline = Text::from_str(alloc, "ci")?;
+    let requester = Text::from_str(alloc, "ann")?;
+    Ok(QueuedRun {
+        run: 7,
+        pipeline,
+        requester,
+        compiled,
+    })
+}
+
+fn run_json(alloc: Global, status: &str, compiled: Compiled) -> Result<Json, Memory> {
+    let run = queued(alloc, compiled)?;
     let status = status_of(alloc, status)?;
-    run_object(alloc, run, &status)
+    run_object(alloc, &run, &status)
 }
 
-/// A run that stands as the first line says.
-pub struct Runs;
-
-impl RunQuestions for Runs {
-    fn answer(&self, alloc: Global, out: &mut Answers, case: &str, run: &Shared<QueuedRun>) {
-        let (status, _files) = first_line(case);
-        put_made(alloc, out, run_json(alloc, status, run));
-        out.push("\n")
-    }
-
-    fn refused(&self, alloc: Global, out: &mut Answers, refusal: Refusal) {
-        put_refusal(alloc, out, refusal)
+/// Writes a run that stands so.
+pub fn answer_run(alloc: Global, out: &mut Answers, status: &str, files: &str) {
+    match compiled(alloc, files) {
+        Ok(compiled) => {
+            put_made(alloc, out, run_json(alloc, status, compiled));
+            out.push("\n")
+        }
+        Err(fault) => put_fault(alloc, out, fault),
     }
 }

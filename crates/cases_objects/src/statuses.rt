@@ -2,11 +2,22 @@
 //! far it is and behind ` , ` each job, how far that is, `@`, and its agent or `-`. How far is
 //! `waiting`, `running`, or a result, `/`, and a rule or `-`.
 
-use pl_base::{List, Memory, Shared, Text};
+use crate::rules::rule_of;
+use pl_base::{List, Memory, Outcome, Shared, Text};
 use pl_objects::{JobStatus, Progress, RunStatus, StageStatus};
 use pl_rules::Rule;
-use pl_samples::{outcome_of, rule_of};
 use std::alloc::Global;
+
+/// A result; another word stands for `Skipped`.
+fn outcome_of(word: &str) -> Outcome {
+    match word {
+        "Succeeded" => Outcome::Succeeded,
+        "SucceededWithIssues" => Outcome::SucceededWithIssues,
+        "Failed" => Outcome::Failed,
+        "Canceled" => Outcome::Canceled,
+        _ => Outcome::Skipped,
+    }
+}
 
 fn rule_in(alloc: Global, words: &str) -> Result<Option<Shared<Rule>>, Memory> {
     match words {

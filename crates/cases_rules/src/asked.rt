@@ -1,15 +1,13 @@
 use crate::messages::answer_request;
 use crate::rules::answer_rule;
-use crate::sizes::Entries;
 use pl_cases::{Answers, Questions};
-use pl_samples::answer_run;
 use std::alloc::Global;
 
-/// Questions on lines, each of a rule or of a request, and on entries.
+/// Questions on lines, each of a rule or of a request.
 #[derive(Drop)]
-pub struct Sizes;
+pub struct Lines;
 
-impl Questions for Sizes {
+impl Questions for Lines {
     fn answer(
         &mut self,
         alloc: Global,
@@ -18,19 +16,12 @@ impl Questions for Sizes {
         _notes: &str,
         case: &str,
     ) {
-        match question {
-            "entries" => answer_run(alloc, out, &Entries, case),
-            _ => answer_lines(alloc, out, question, case),
+        for line in case.split('\n') {
+            out.push(line);
+            out.push(" = ");
+            answer_line(alloc, out, question, line);
+            out.push("\n");
         }
-    }
-}
-
-fn answer_lines(alloc: Global, out: &mut Answers, question: &str, case: &str) {
-    for line in case.split('\n') {
-        out.push(line);
-        out.push(" = ");
-        answer_line(alloc, out, question, line);
-        out.push("\n");
     }
 }
 

@@ -1,4 +1,4 @@
-//! The files of a case, and what they compile to.
+//! The files of a run.
 
 use pl_base::{Argument, FileKey, FileSet, List, Memory, Text};
 use pl_compile::{CompileFault, compile};

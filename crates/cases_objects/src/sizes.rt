@@ -1,14 +1,16 @@
 //! Sizes of entries.
 
-use pl_base::{Digest, ExactCopy, List, Memory, Refusal, Shared};
+use crate::files::compiled;
+use crate::runs::queued;
+use pl_base::{Digest, ExactCopy, List, Memory, Shared};
 use pl_cases::Answers;
-use pl_facts::{Entry, Event, Fact, QueuedRun, facts_size, fits, size_of};
+use pl_facts::{Entry, Event, Fact, facts_size, fits, size_of};
+use pl_plan::Compiled;
 use pl_requests::{Call, Request, is_well_formed};
-use pl_samples::RunQuestions;
 use std::alloc::Global;
 
-fn run_queued(alloc: Global, run: &Shared<QueuedRun>) -> Result<List<Fact>, Memory> {
-    let run = run.copy(alloc)?;
+fn run_queued(alloc: Global, compiled: Compiled) -> Result<List<Fact>, Memory> {
+    let run = Shared::new(alloc, queued(alloc, compiled)?)?;
     let mut facts = List::new(alloc);
     facts.push(Fact {
         moment: 5,
@@ -18,11 +20,11 @@ fn run_queued(alloc: Global, run: &Shared<QueuedRun>) -> Result<List<Fact>, Memo
 }
 
 /// The entry of a text that was queued, which is what stands below the line of its key.
-fn entry_of(alloc: Global, case: &str, run: &Shared<QueuedRun>) -> Result<Entry, Memory> {
+fn entry_of(alloc: Global, case: &str, compiled: Compiled) -> Result<Entry, Memory> {
     let (_key, text) = case.split_once('\n').unwrap_or(("", case));
     let text = List::from_slice(alloc, text.as_bytes())?;
     let request = Request::QueueText(Shared::new(alloc, text)?);
-    let facts = run_queued(alloc, run)?;
+    let facts = run_queued(alloc, compiled)?;
     let call = Call {
         moment: 5,
         caller: Digest { bytes: [7; 32] },
@@ -82,18 +84,17 @@ fn put_entry(alloc: Global, out: &mut Answers, entry: &Entry) {
     out.push("\n");
 }
 
-/// How large the entry of a text is that was queued with its files.
-pub struct Entries;
-
-impl RunQuestions for Entries {
-    fn answer(&self, alloc: Global, out: &mut Answers, case: &str, run: &Shared<QueuedRun>) {
-        match entry_of(alloc, case, run) {
-            Ok(entry) => put_entry(alloc, out, &entry),
-            Err(_) => out.fail(),
-        }
+fn put_made(alloc: Global, out: &mut Answers, made: Result<Entry, Memory>) {
+    match made {
+        Ok(entry) => put_entry(alloc, out, &entry),
+        Err(_) => out.fail(),
     }
+}
 
-    fn refused(&self, _alloc: Global, out: &mut Answers, _refusal: Refusal) {
-        out.push("refused\n")
+/// Writes how large the entry of a text is that was queued with its files.
+pub fn answer_entry(alloc: Global, out: &mut Answers, case: &str) {
+    match compiled(alloc, case) {
+        Ok(compiled) => put_made(alloc, out, entry_of(alloc, case, compiled)),
+        Err(_fault) => out.push("refused\n"),
     }
 }
