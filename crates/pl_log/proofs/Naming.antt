@@ -1,10 +1,11 @@
 -- Keys are one exactly where they are the same.
-use Rattle.std.proofs.Common.{◌≡◌, ℕ, true, false, List, Option, None, Some}
-use Rattle.std.proofs.Common.{refl, ap}
+use Rattle.std.proofs.Common.{◌≡◌, ℕ, ◌==◌, ◌&&◌, Bool, true, false, List, Option, None, Some}
+use Rattle.std.proofs.Common.{refl, ap, ◌∙◌, arith}
+use Rattle.std.proofs.lemmas.Bool.Decides.{nat_tests}
 use Rattle.std.specs.Cmp.{IsTotalOrder, tied_itself, Equal-is, nat_cmp_total}
-use Rattle.std.specs.Ordering.{is_eq, nat_cmp}
+use Rattle.std.specs.Ordering.{is_eq, nat_cmp, ordering_then}
 use Rattle.std.specs.declared.cmp.Ordering.{Ordering}
-use Rattle.std.specs.declared.cmp.Ordering.TheVariants.{Equal}
+use Rattle.std.specs.declared.cmp.Ordering.TheVariants.{Less, Equal, Greater}
 use Rattle.std.proofs.lemmas.Cmp.{on_total, then_total, nat_list_cmp_total}
 use Rattle.std.proofs.lemmas.Map.Lookups.{CmpEqualImpliesEq, exact_pairs, exact_bytes}
 use Rattle.std.proofs.lemmas.Map.Lookups.{exact_unsigned}
@@ -18,6 +19,7 @@ use Rattle.pl_base.specs.declared.resource.Kind.TheVariants.{Pool, Repository}
 use Rattle.pl_log.specs.Keys.{Named, File, Pipeline, Resource, Principal, Agent, Run, Stage, Job}
 use Rattle.pl_log.specs.Keys.{SecondNamed, Token, Taker, Queue, names, same_key, same_second}
 use Rattle.pl_log.specs.Keys.{job_cmp, resource_cmp, stage_cmp}
+use Rattle.pl_log.specs.Tables.{same_stage, same_job}
 
 equal : (r : Ordering) → is_eq r ≡ true → r ≡ Equal
 equal r h = (Equal-is r).0 h
@@ -102,3 +104,24 @@ pub second_itself : (key : SecondNamed) → same_second key key ≡ true
 second_itself (Token a) = itself nat_list_cmp_total a
 second_itself (Taker a) = itself nat_list_cmp_total a
 second_itself Queue = refl
+
+-- ---- numbers that are equal have neither before the other
+
+pub run_eq : (a b : ℕ) → (a == b) ≡ is_eq (nat_cmp a b)
+run_eq a b = grind (arith, nat_tests)
+
+and_eq : (p q : Ordering) → (is_eq p && is_eq q) ≡ is_eq (ordering_then p q)
+and_eq Less q = refl
+and_eq Equal q = refl
+and_eq Greater q = refl
+
+both_and : {p q r s : Bool} → p ≡ q → r ≡ s → (p && r) ≡ (q && s)
+both_and h k = cc
+
+pub stage_eq : (a b : ℕ × ℕ) → same_stage a b ≡ is_eq (stage_cmp a b)
+stage_eq a b = both_and (run_eq a.0 b.0) (run_eq a.1 b.1)
+    ∙ and_eq (nat_cmp a.0 b.0) (nat_cmp a.1 b.1)
+
+pub job_eq : (a b : ℕ × ℕ × ℕ) → same_job a b ≡ is_eq (job_cmp a b)
+job_eq a b = both_and (stage_eq (a.0, a.1) (b.0, b.1)) (run_eq a.2 b.2)
+    ∙ and_eq (stage_cmp (a.0, a.1) (b.0, b.1)) (nat_cmp a.2 b.2)

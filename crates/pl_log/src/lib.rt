@@ -1,6 +1,7 @@
 //! A log: items in order, each about a key, and the latest item about a key.
 #![tactic(auto)]
 
+mod hashed;
 mod kept;
 mod key;
 mod keyed;

@@ -2,6 +2,7 @@ ghost use Rattle.std.specs.Prelude.{◌≡◌, true, cond, OnOk};
 ghost use Rattle.pl_log.specs.Keys.{Named, same_key, seen};
 ghost use Rattle.pl_log.specs.Rows.{has_row_at, number_at};
 
+use crate::hashed::Hashed;
 use crate::key::Key;
 use crate::table::{Table, make_copied};
 use pl_base::{FileKey, Memory, ResourceKey, Text};
@@ -15,9 +16,9 @@ pub(crate) struct Rows {
     resources: Table<ResourceKey>,
     principals: Table<Text>,
     agents: Table<Text>,
-    runs: Table<u64>,
-    stages: Table<(u64, u32)>,
-    jobs: Table<(u64, u32, u32)>,
+    runs: Hashed<u64>,
+    stages: Hashed<(u64, u32)>,
+    jobs: Hashed<(u64, u32, u32)>,
 }
 
 impl Rows {
@@ -31,9 +32,9 @@ impl Rows {
             resources: Table::new(alloc),
             principals: Table::new(alloc),
             agents: Table::new(alloc),
-            runs: Table::new(alloc),
-            stages: Table::new(alloc),
-            jobs: Table::new(alloc),
+            runs: Hashed::new(alloc),
+            stages: Hashed::new(alloc),
+            jobs: Hashed::new(alloc),
         }
     }
 

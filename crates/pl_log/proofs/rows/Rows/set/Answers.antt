@@ -1,11 +1,23 @@
-use Rattle.std.proofs.Common.{refl}
-use Rattle.pl_log.specs.Keys.{Stage, Job}
+use Rattle.std.proofs.Common.{◌∙◌, refl, ap}
+use Rattle.std.specs.Prelude.{cond}
+use Rattle.pl_log.specs.Keys.{Run, Stage, Job}
+use Rattle.pl_log.specs.Rows.{number_at}
+use Rattle.pl_log.proofs.Naming.{run_eq, stage_eq, job_eq}
 use Rattle.pl_log.proofs.rows.Rows.set.Goals as goal
 
+pub returns-in-Run : goal.returns-in-Run
+returns-in-Run c (Run run) = c.set-in-Run.ensures run
+    ∙ ap (λ same. cond same c.args.number (number_at c.args.self.old (Run run))) (run_eq _ run)
+returns-in-Run c _ = refl
+
 pub returns-in-Stage : goal.returns-in-Stage
-returns-in-Stage c (Stage run stage) = rw c.in-Stage.is (c.set-in-Stage.ensures (run, stage))
+returns-in-Stage c (Stage run stage) = rw c.in-Stage.is (c.set-in-Stage.ensures (run, stage)
+    ∙ ap (λ same. cond same c.args.number (number_at c.args.self.old (Stage run stage)))
+    (stage_eq _ (run, stage)))
 returns-in-Stage c _ = rw c.in-Stage.is refl
 
 pub returns-in-Job : goal.returns-in-Job
-returns-in-Job c (Job run stage job) = rw c.in-Job.is (c.set-in-Job.ensures (run, stage, job))
+returns-in-Job c (Job run stage job) = rw c.in-Job.is (c.set-in-Job.ensures (run, stage, job)
+    ∙ ap (λ same. cond same c.args.number (number_at c.args.self.old (Job run stage job)))
+    (job_eq _ (run, stage, job)))
 returns-in-Job c _ = rw c.in-Job.is refl
