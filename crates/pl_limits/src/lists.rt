@@ -134,18 +134,19 @@ fn rise_by_length(texts: &[Text]) -> bool
 {
     match texts {
         [] => true,
-        [first, rest @ ..] => lengths_rise(first, rest),
+        [first, rest @ ..] => lengths_rise(first.as_str(), rest),
     }
 }
 
 /// Whether each text comes before the next one, by their lengths first, from this one on.
-fn lengths_rise(first: &Text, rest: &[Text]) -> bool
+fn lengths_rise(first: &str, rest: &[Text]) -> bool
     ensures { result ≡ rises by_length first.now rest.now }
 {
     let mut last = first;
     for text in rest {
-        match by_length(last.as_str(), text.as_str()) {
-            Ordering::Less => last = text,
+        let next = text.as_str();
+        match by_length(last, next) {
+            Ordering::Less => last = next,
             _ => return false,
         }
     }
