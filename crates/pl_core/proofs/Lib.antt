@@ -1,3 +1,0 @@
-pub mod Installing
-pub mod Keeping
-pub mod Preparing

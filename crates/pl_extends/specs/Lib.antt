@@ -1,3 +1,0 @@
-pub mod Extending
-pub mod Forms
-pub mod Rooting

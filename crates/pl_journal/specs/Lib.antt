@@ -1,6 +1,0 @@
-pub mod About
-pub mod Counted
-pub mod Kinds
-pub mod Log
-pub mod Runs
-pub mod Settings

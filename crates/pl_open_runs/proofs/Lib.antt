@@ -1,5 +1,0 @@
-pub mod Keeping
-pub mod Looking
-pub mod Numbers
-pub mod OpenRuns
-pub mod Steps

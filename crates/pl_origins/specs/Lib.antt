@@ -1,4 +1,0 @@
-pub mod Behind
-pub mod Places
-pub mod Spots
-pub mod Through

@@ -1,4 +1,0 @@
-pub mod Filled
-pub mod Itself
-pub mod Levels
-pub mod Spread

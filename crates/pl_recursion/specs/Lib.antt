@@ -1,6 +1,0 @@
-pub mod Expanding
-pub mod Following
-pub mod Levels
-pub mod Putting
-pub mod Scalars
-pub mod Settling

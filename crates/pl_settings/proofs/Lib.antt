@@ -1,2 +1,0 @@
-pub mod OpenAlone
-pub mod Turns

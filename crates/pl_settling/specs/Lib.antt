@@ -1,4 +1,0 @@
-pub mod Allowed
-pub mod Gives
-pub mod Laws
-pub mod Settles

@@ -1,3 +1,0 @@
-mod Again
-mod Found
-mod One

@@ -1,6 +1,0 @@
-//! Laws of what a plan was compiled from.
-#![tactic(auto)]
-
-mod laws;
-
-pub use laws::sources_compile_again;

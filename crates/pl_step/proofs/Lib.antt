@@ -1,4 +1,0 @@
-pub mod Asked
-pub mod Behind
-pub mod Fitting
-pub mod Serving

@@ -1,3 +1,0 @@
-pub mod Planned
-pub mod Reading
-pub mod Schema

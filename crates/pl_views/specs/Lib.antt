@@ -1,3 +1,0 @@
-pub mod CheckViews
-pub mod Ready
-pub mod RunViews

@@ -1,3 +1,0 @@
-mod Members
-pub mod Borders
-pub mod Sayings
