@@ -5,9 +5,9 @@ use std::cell::Cell;
 use std::fmt;
 use std::sync::Arc;
 
-/// How many bytes of texts and nodes an expansion makes, with those that the values of the expression
-/// in work hold (Microsoft Learn, Azure Pipelines, "Templates", Imposed limits: 20 megabytes). More
-/// are want of memory.
+/// How many bytes of texts and nodes an expansion makes, with those that the values of the
+/// expression in work hold (Microsoft Learn, Azure Pipelines, "Templates", Imposed limits: 20
+/// megabytes). More are want of memory.
 pub const MOST_MADE: u64 = 20_971_520;
 
 /// How many units of work an expansion does, each of some nanoseconds. More are want of memory.
