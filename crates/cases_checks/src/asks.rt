@@ -1,0 +1,89 @@
+use crate::checks::check_of;
+use crate::clocks::push_clock;
+use crate::fields::field;
+use crate::scripts::play;
+use crate::shown::push_verdict;
+use crate::views::{moment_of, view_of};
+use pl_base::{Memory, Text};
+use pl_cases::{Answers, Questions};
+use pl_checks::{Check, matches};
+use std::alloc::Global;
+
+/// Questions on checks, zones and locks.
+#[derive(Drop)]
+pub struct Rules;
+
+impl Questions for Rules {
+    fn answer(
+        &mut self,
+        alloc: Global,
+        out: &mut Answers,
+        question: &str,
+        notes: &str,
+        case: &str,
+    ) {
+        match question {
+            "patterns" => answer_pairs(alloc, out, case),
+            "clocks" => answer_moments(alloc, out, case),
+            "check" => answer_check(alloc, out, notes, case),
+            "locks" => play(alloc, out, case),
+            _ => out.line("%%% not read: ", question),
+        }
+    }
+}
+
+fn answer_pairs(alloc: Global, out: &mut Answers, lines: &str) {
+    for line in lines.split('\n') {
+        out.push(line);
+        answer_match(alloc, out, line);
+    }
+}
+
+/// Writes whether the pattern of a line matches its ref.
+fn answer_match(alloc: Global, out: &mut Answers, line: &str) {
+    match is_match(alloc, line) {
+        Ok(true) => out.push("|yes\n"),
+        Ok(false) => out.push("|no\n"),
+        Err(_) => out.fail(),
+    }
+}
+
+fn is_match(alloc: Global, line: &str) -> Result<bool, Memory> {
+    let (pattern, git_ref) = line.split_once('|').unwrap_or((line, ""));
+    let pattern = Text::from_str(alloc, pattern)?;
+    let git_ref = Text::from_str(alloc, git_ref)?;
+    Ok(matches(&pattern, &git_ref))
+}
+
+fn answer_moments(alloc: Global, out: &mut Answers, lines: &str) {
+    for line in lines.split('\n') {
+        out.push(line);
+        out.push("|");
+        push_clock(alloc, out, line);
+        out.push("\n");
+    }
+}
+
+/// Answers what a check says, which is told once for all cases of a question.
+fn answer_check(alloc: Global, out: &mut Answers, world: &str, lines: &str) {
+    match check_of(alloc, world) {
+        Ok(Some(check)) => answer_views(alloc, out, world, &check, lines),
+        Ok(None) => out.line("%%% not read: ", field(world, "kind")),
+        Err(_) => out.fail(),
+    }
+}
+
+fn answer_views(alloc: Global, out: &mut Answers, world: &str, check: &Check, lines: &str) {
+    for line in lines.split('\n') {
+        out.push(line);
+        out.push("|");
+        answer_view(alloc, out, world, check, line);
+    }
+}
+
+fn answer_view(alloc: Global, out: &mut Answers, world: &str, check: &Check, line: &str) {
+    match view_of(alloc, world, check, line) {
+        Ok(view) => push_verdict(alloc, out, check, &view, moment_of(check, &view, line)),
+        Err(_) => out.fail(),
+    }
+}

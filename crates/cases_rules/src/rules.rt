@@ -1,0 +1,196 @@
+//! Rules, by their names and what they tell.
+
+use crate::fields::{number, resource, roles, small, some_text, stages, text, word};
+use crate::jsons::put_made;
+use crate::words::{day_of, outcome_of, state_of};
+use pl_base::{List, Memory, Outcome, Shared};
+use pl_cases::Answers;
+use pl_facts::{Event, Fact, facts_size};
+use pl_refusals::rule_object;
+use pl_rules::Rule;
+use std::alloc::Global;
+
+/// A rule without fields; another name stands for `none`.
+fn bare(name: &str) -> Rule {
+    match name {
+        "job.unknown" => Rule::JobUnknown,
+        "condition.false" => Rule::ConditionFalse,
+        "run.canceled" => Rule::RunCanceled,
+        "job.timeout" => Rule::JobTimeout,
+        "template.required" => Rule::TemplateRequired,
+        "approval.timeout" => Rule::ApprovalTimeout,
+        "hours.timeout" => Rule::HoursTimeout,
+        "token.unknown" => Rule::TokenUnknown,
+        "keeper.fault" => Rule::KeeperFault,
+        "memory" => Rule::Memory,
+        "journal.full" => Rule::JournalFull,
+        "file.unknown" => Rule::FileUnknown,
+        "pipeline.unknown" => Rule::PipelineUnknown,
+        "run.unknown" => Rule::RunUnknown,
+        "stage.unknown" => Rule::StageUnknown,
+        "agent.unknown" => Rule::AgentUnknown,
+        "approver.unlisted" => Rule::ApproverUnlisted,
+        "approver.requester" => Rule::ApproverRequester,
+        "principal.reserved" => Rule::PrincipalReserved,
+        "pipeline.reserved" => Rule::PipelineReserved,
+        "run.ended" => Rule::RunEnded,
+        "head.large" => Rule::HeadLarge,
+        "head.bad" => Rule::HeadBad,
+        "length.missing" => Rule::LengthMissing,
+        "body.large" => Rule::BodyLarge,
+        "route.unknown" => Rule::RouteUnknown,
+        "method.unknown" => Rule::MethodUnknown,
+        "body.bad" => Rule::BodyBad,
+        _ => Rule::NoRule,
+    }
+}
+
+/// A rule that tells numbers and words.
+fn counted(words: &str) -> Rule {
+    match word(words, 0) {
+        "approval.open" => Rule::ApprovalOpen {
+            have: number(words, 1),
+            need: small(words, 2),
+        },
+        "hours.closed" => Rule::HoursClosed {
+            day: day_of(word(words, 1)),
+            minute: small(words, 2),
+        },
+        "parallel.full" => Rule::ParallelFull {
+            limit: small(words, 1),
+        },
+        "lock.superseded" => Rule::LockSuperseded {
+            run: number(words, 1),
+        },
+        "decision.closed" => Rule::DecisionClosed {
+            state: state_of(word(words, 1)),
+        },
+        "decision.changed" => Rule::DecisionChanged {
+            approve: word(words, 1) == "approve",
+        },
+        "report.changed" => Rule::ReportChanged {
+            result: outcome_of(word(words, 1)),
+        },
+        name => bare(name),
+    }
+}
+
+/// A rule that tells one text.
+fn told(alloc: Global, words: &str) -> Result<Rule, Memory> {
+    match word(words, 0) {
+        "job.taken" => Ok(Rule::JobTaken {
+            agent: text(alloc, words, 1)?,
+        }),
+        "capability.missing" => Ok(Rule::CapabilityMissing {
+            name: text(alloc, words, 1)?,
+        }),
+        "stage.depends" => Ok(Rule::StageDepends {
+            stage: text(alloc, words, 1)?,
+        }),
+        "job.depends" => Ok(Rule::JobDepends {
+            job: text(alloc, words, 1)?,
+        }),
+        "branch.refused" => Ok(Rule::BranchRefused {
+            git_ref: text(alloc, words, 1)?,
+        }),
+        "approval.rejected" => Ok(Rule::ApprovalRejected {
+            approver: text(alloc, words, 1)?,
+        }),
+        "token.taken" => Ok(Rule::TokenTaken {
+            name: text(alloc, words, 1)?,
+        }),
+        "report.stranger" => Ok(Rule::ReportStranger {
+            agent: some_text(alloc, words)?,
+        }),
+        _ => Ok(counted(words)),
+    }
+}
+
+/// A rule that tells a text beside something else.
+fn told_beside(alloc: Global, words: &str) -> Result<Rule, Memory> {
+    match word(words, 0) {
+        "job.ended" => Ok(Rule::JobEnded {
+            result: outcome_of(word(words, 1)),
+            by: text(alloc, words, 2)?,
+        }),
+        "lock.held" => Ok(Rule::LockHeld {
+            run: number(words, 1),
+            stage: text(alloc, words, 2)?,
+        }),
+        "lock.behind" => Ok(Rule::LockBehind {
+            run: number(words, 1),
+            stage: text(alloc, words, 2)?,
+        }),
+        "template.argument" => Ok(Rule::TemplateArgument {
+            job: text(alloc, words, 1)?,
+            step: small(words, 2),
+        }),
+        _ => told(alloc, words),
+    }
+}
+
+/// A rule, by its name and what it tells, with a blank between them.
+fn rule_of(alloc: Global, words: &str) -> Result<Rule, Memory> {
+    match word(words, 0) {
+        "agent.busy" => {
+            let stage = text(alloc, words, 2)?;
+            let job = text(alloc, words, 3)?;
+            let run = number(words, 1);
+            Ok(Rule::AgentBusy { run, stage, job })
+        }
+        "pool.mismatch" => {
+            let have = text(alloc, words, 1)?;
+            let need = text(alloc, words, 2)?;
+            Ok(Rule::PoolMismatch { have, need })
+        }
+        "permission.missing" => Ok(Rule::PermissionMissing {
+            resource: resource(alloc, words)?,
+        }),
+        "resource.unknown" => Ok(Rule::ResourceUnknown {
+            resource: resource(alloc, words)?,
+        }),
+        "role.missing" => Ok(Rule::RoleMissing {
+            need: roles(alloc, words)?,
+        }),
+        "resource.busy" => Ok(Rule::ResourceBusy {
+            stages: stages(alloc, words)?,
+        }),
+        _ => told_beside(alloc, words),
+    }
+}
+
+/// A stage that was ended by a rule.
+fn ended(alloc: Global, rule: Rule) -> Result<List<Fact>, Memory> {
+    let rule = Shared::new(alloc, rule)?;
+    let mut facts = List::new(alloc);
+    facts.push(Fact {
+        moment: 0,
+        event: Event::StageEnded {
+            run: 1,
+            stage: 0,
+            outcome: Outcome::Failed,
+            rule: Some(rule),
+        },
+    })?;
+    Ok(facts)
+}
+
+/// Writes how large a fact is that tells a rule.
+fn put_size(alloc: Global, out: &mut Answers, rule: Rule) {
+    match ended(alloc, rule) {
+        Ok(facts) => out.number(alloc, facts_size(facts.as_slice())),
+        Err(_) => out.fail(),
+    }
+}
+
+/// Writes the object of a rule, and how large a fact is that tells it.
+pub fn answer_rule(alloc: Global, out: &mut Answers, words: &str) {
+    match rule_of(alloc, words) {
+        Ok(rule) => {
+            put_made(alloc, out, rule_object(alloc, &rule));
+            out.push(" of ");
+            put_size(alloc, out, rule)
+        }
+        Err(_) => out.fail(),
+    }
+}

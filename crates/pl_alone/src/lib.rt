@@ -1,0 +1,6 @@
+//! A desk for one link, without a lock: it answers messages, one after the other.
+#![tactic(auto)]
+
+mod alone;
+
+pub use alone::{Alone, Answer};

@@ -1,0 +1,10 @@
+pub mod Calls
+pub mod Frames
+pub mod Gives
+pub mod Judging
+pub mod Meant
+pub mod Nodes
+pub mod Parameters
+pub mod Parts
+pub mod Reaching
+pub mod Seeing

@@ -1,0 +1,74 @@
+use Rattle.std.proofs.Common.{◌≡◌, ◌∙◌, sym, ap, refl, subst, ℕ, [], Option}
+use Rattle.pl_base.specs.declared.digest.Digest.{Digest}
+use Rattle.pl_core.specs.State.{opened}
+use Rattle.pl_commands.specs.declared.served.Served.{Served}
+use Rattle.pl_commands.specs.declared.served.Served.TheVariants as served
+use Rattle.pl_commands.specs.declared.status.Status.{Status}
+use Rattle.pl_commands.specs.declared.status.Status.TheVariants as status
+use Rattle.pl_alone.specs.Desk.{Parts}
+use Rattle.pl_commands.specs.Run.{Outside, Replays, start}
+use Rattle.pl_commands.specs.Session.{Point, Session}
+use Rattle.pl_commands.specs.Statuses.{status_of}
+use Rattle.pl_commands.specs.Told.{Told, told_by_ends}
+use Rattle.pl_commands.proofs.Endings.{ends_at_once}
+use Rattle.pl_commands.proofs.commands.replay.Goals as goal
+
+abbrev at : Told → Option (ℕ → ℕ) → Parts → Point
+at link coming desk = record { link = link; coming = coming; desk = desk }
+
+abbrev around : Told → Option (ℕ → ℕ) → Outside
+around link coming = record { link = link; coming = coming }
+
+-- a session with this clock and this desk is a replay
+replays_by : (admin : Digest) (coming clocked later : Option (ℕ → ℕ)) (first desk : Parts)
+    (old new : Told) (served : Served) (ending : Status)
+    → clocked ≡ coming → first ≡ record { opening = opened admin; seen = [] }
+    → ending ≡ status_of served
+    → Session (at old clocked first) (at new later desk) served
+    → Replays admin (around old coming) new ending
+replays_by admin coming clocked later first desk old new served ending clock first_is is session =
+    let so_far : Session (at old coming first) (at new later desk) served =
+    subst (λ moments. Session (at old moments first) (at new later desk) served) clock session in
+    record {
+      served = served;
+      later = later;
+      desk = desk;
+      ending_is = is;
+      session =
+          subst (λ parts. Session (at old coming parts) (at new later desk) served) first_is so_far;
+    }
+
+-- where there is no desk nothing is replayed
+nothing_replayed : (admin : Digest) (old : Outside) → Replays admin old old.link status.Memory
+nothing_replayed admin old = record {
+  served = served.Memory;
+  later = old.coming;
+  desk = record { opening = opened admin; seen = [] };
+  ending_is = refl;
+  session = ends_at_once (start admin old);
+}
+
+pub returns-in-Err : goal.returns-in-Err
+returns-in-Err g c = nothing_replayed c.args.admin _
+
+pub returns : goal.returns
+returns g c =
+    let tell = told_by_ends g.O.In.Source g.O.Out.Sink in
+    let coming = (g.O.Outfit.view c.args.outfit.now).coming in
+    let outfit = g.O.Outfit.with_ends c.clock-clock.new.self c.replay_link-served.new.link in
+    let new_ends =
+    ap (λ view. view.ends)
+    (g.met.O.Outfit.ends_alone c.clock-clock.new.self c.replay_link-served.new.link) in
+    let replays =
+    replays_by c.args.admin coming _ _ _ _ (tell c.ends.result.now)
+    (tell c.replay_link-served.new.link) c.replay_link-served.result c.status.result
+    c.clock-clock.ensures.coming c.in-Ok.ensures
+    c.status.ensures c.replay_link-served.ensures in
+    subst
+    (λ ends. Replays c.args.admin (around (tell ends) coming)
+    (tell (g.O.Outfit.view outfit).ends) c.status.result)
+    (c.ends.ensures.there ∙ c.clock-clock.ensures.ends)
+    (subst
+    (λ ends. Replays c.args.admin (around (tell c.ends.result.now) coming) (tell ends)
+    c.status.result)
+    (sym new_ends) replays)

@@ -1,0 +1,17 @@
+use Rattle.std.proofs.Common.{◌≡◌, ◌-◌, vec_len}
+use Rattle.pl_wire.specs.Waiting.{Awaits}
+use Rattle.pl_commands.specs.Session.{point}
+use Rattle.pl_commands.proofs.Endings.{Serving}
+use Rattle.pl_commands.proofs.replay.replay_by.Given as goal
+
+-- what was served so far
+abbrev pub invariant-pieces : goal.invariant-pieces
+invariant-pieces g l = record {
+  serving : Serving (point g.L.Link g.C.Clock l.fn.link l.fn.clock l.fn.desk)
+      (point g.L.Link g.C.Clock l.link l.clock l.desk) l.buffer l.taken;
+  piece_len : vec_len l.piece ≡ 65536;
+  waits : Awaits l.waiting l.buffer;
+}
+
+abbrev pub decreases-pieces : goal.decreases-pieces
+decreases-pieces g l = 67108864 - l.taken

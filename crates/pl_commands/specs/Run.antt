@@ -1,0 +1,97 @@
+-- What a run of the program does, by its words and by what it has of the outside.
+use Rattle.std.specs.Prelude.{◌≡◌, ◌<◌, ℕ, List, [], length, ◌⊎◌, Option, Some, None, codes}
+use Rattle.pl_base.specs.Counts.{one_more}
+use Rattle.pl_base.specs.declared.digest.Digest.{Digest}
+use Rattle.pl_core.specs.State.{opened}
+use Rattle.pl_wire.specs.declared.message.Message.{Message}
+use Rattle.pl_commands.specs.declared.served.Served.{Served}
+use Rattle.pl_commands.specs.declared.status.Status.{Status}
+use Rattle.pl_commands.specs.declared.status.Status.TheVariants as status
+use Rattle.pl_base.specs.declared.expanded.Argument.{Argument}
+use Rattle.pl_offline.specs.Running.{Runs as RunsOffline}
+use Rattle.pl_offline.specs.declared.ending.Ending.{Ending}
+use Rattle.pl_streams.specs.Whole.{Inflow, Outflow, taken_limit}
+use Rattle.pl_words.specs.declared.command.Command.{Command}
+use Rattle.pl_words.specs.declared.command.Command.TheVariants.{Compile, Replay}
+use Rattle.pl_alone.specs.Desk.{Parts}
+use Rattle.pl_commands.specs.Messages.{Spelled}
+use Rattle.pl_commands.specs.Session.{Point, Session}
+use Rattle.pl_commands.specs.Statuses.{compile_status, status_of}
+use Rattle.pl_commands.specs.Told.{Told, Writes, Begun}
+
+-- what the outside of a run tells: its source and sink, and the moments of the next clock
+pub record Outside : Type 0 where
+  pub link : Told
+  pub coming : Option (ℕ → ℕ)
+
+-- the line that is written where the words are no command
+abbrev pub usage_line : List ℕ
+usage_line = codes "usage: pipectl replay, serve, compile or rehearse\n"
+
+-- nothing was read, and the line was written, or its beginning where a write failed
+abbrev pub ShowsUsage : Told → Told → Type 0
+ShowsUsage old new =
+    Writes usage_line old new ⊎ Begun usage_line (one_more old.write_faults) old new
+
+-- where a replay starts: at a service that was just opened
+abbrev pub start : Digest → Outside → Point
+start admin outside = record {
+  link = outside.link;
+  coming = outside.coming;
+  desk = record { opening = opened admin; seen = [] };
+}
+
+-- one session from the source to the sink
+pub record Replays (admin : Digest) (old : Outside) (new : Told) (ending : Status) : Type 0 where
+  pub served : Served
+  pub later : Option (ℕ → ℕ)
+  pub desk : Parts
+  pub ending_is : ending ≡ status_of served
+  pub session :
+      Session (start admin old) (record { link = new; coming = later; desk = desk }) served
+
+-- a link's source and its sink
+abbrev pub inflow_of : Told → Inflow
+inflow_of link =
+    record { left = link.left; ended = link.ended; faults = link.read_faults }
+
+abbrev pub outflow_of : Told → Outflow
+outflow_of link = record { held = link.held; faults = link.write_faults }
+
+-- the bundle of the source, compiled onto the sink
+abbrev pub Compiles : List Argument → Told → Told → Status → Type 0
+Compiles arguments old new status =
+    (ended : Ending)
+    × (status ≡ compile_status ended)
+    × RunsOffline arguments ended (inflow_of old) (inflow_of new) (outflow_of old) (outflow_of new)
+
+-- the run of a command, or of words that are none
+abbrev pub Runs : Option Command → Outside → Told → Status → Type 0
+Runs (Some (Replay admin)) old new ending = Replays admin old new ending
+Runs (Some (Compile arguments)) old new ending = Compiles arguments old.link new ending
+Runs None old new ending = (ending ≡ status.Usage) × ShowsUsage old.link new
+
+-- why a run ended so: a status names a fault exactly where that count rose
+abbrev pub ReadsCounted : Status → ℕ → ℕ → Type 0
+ReadsCounted status.ReadFault old new = new ≡ one_more old
+ReadsCounted other old new = new ≡ old
+
+abbrev pub WritesCounted : Status → ℕ → ℕ → Type 0
+WritesCounted status.WriteFault old new = new ≡ one_more old
+WritesCounted status.Usage old new = (new ≡ old) ⊎ (new ≡ one_more old)
+WritesCounted other old new = new ≡ old
+
+-- how a replay ends that reads whole messages to their end: with 0, unless a fault was counted or
+-- memory was wanting
+abbrev pub FinishesUnlessBroken : Status → Type 0
+FinishesUnlessBroken status.Usage = ⊥
+FinishesUnlessBroken status.NotWhole = ⊥
+FinishesUnlessBroken status.Spent = ⊥
+FinishesUnlessBroken other = Unit {0}
+
+-- over a source that tells whole messages alone, of fewer bytes than may be taken
+abbrev pub WholeInputFinishes : Type 0
+WholeInputFinishes = (admin : Digest) (old : Outside) (new : Told) (ending : Status)
+    (bytes : List ℕ) (messages : List Message)
+    → old.link.left ≡ Some bytes → Spelled bytes messages [] → length bytes < taken_limit
+    → Replays admin old new ending → FinishesUnlessBroken ending

@@ -1,0 +1,19 @@
+//! What the program's commands do over an outside that is given to them: messages are answered and
+//! bundles compiled. The outside of a process is here too.
+#![tactic(auto)]
+
+mod buffer;
+mod commands;
+mod laws;
+mod outfit;
+mod real;
+mod replay;
+mod served;
+mod serving;
+mod status;
+
+pub use commands::run;
+pub use laws::{one_stream, rests_are_open, whole_input_finishes};
+pub use outfit::Outfit;
+pub use real::{Process, Reading, SystemClock, Writing};
+pub use status::Status;

@@ -1,0 +1,57 @@
+ghost use Rattle.std.specs.Prelude.{◌≡◌};
+ghost use Rattle.pl_compile.specs.Reading.{AreOf, read_all};
+
+use pl_base::{ExactCopy, FileKey, FileSet, Memory, Shared};
+use pl_expand::{Files, MemFiles, Parsed};
+use std::alloc::Global;
+use std::marker::Model;
+
+/// Texts of files, each of which is read as YAML when it is asked for, and once.
+#[derive(Drop)]
+pub(crate) struct TextFiles<'a> {
+    texts: &'a FileSet,
+    read: MemFiles,
+}
+
+impl<'a> Model for TextFiles<'a> {
+    ghost use Rattle.std.specs.Prelude.{List as list, ℕ};
+    ghost use Rattle.std.specs.Coded.{coded_list, coded_ℕ};
+    ghost use Rattle.std.specs.FinMap as finite;
+    ghost use Rattle.pl_base.specs.Files.{file_cmp, coded_file};
+    ghost use Rattle.pl_compile.specs.Reading.{AreOf};
+
+    ghost Value = { finite.FinMap file_cmp (list ℕ) };
+
+    ghost coded = { finite.code coded_file (coded_list coded_ℕ) };
+
+    ghost view = { λ files. files.texts.now };
+
+    ghost invariant = { λ files. AreOf files.texts.now files.read };
+}
+
+impl<'a> TextFiles<'a> {
+    /// The files of these texts, of which none is read yet.
+    pub(crate) fn new(alloc: Global, texts: &'a FileSet) -> TextFiles<'a>
+        ensures { result ≡ texts.now }
+    {
+        TextFiles {
+            texts,
+            read: MemFiles::new(alloc),
+        }
+    }
+}
+
+impl<'a> Files for TextFiles<'a> {
+    ghost files = { λ files. read_all files };
+
+    fn node(&mut self, alloc: Global, key: &FileKey) -> Result<Option<Shared<Parsed>>, Memory> {
+        if let Some(file) = self.read.node(alloc, key)? {
+            return Ok(Some(file));
+        }
+        let Some(text) = self.texts.get(key) else {
+            return Ok(None);
+        };
+        self.read.put(alloc, key.copy(alloc)?, text.as_slice())?;
+        self.read.node(alloc, key)
+    }
+}

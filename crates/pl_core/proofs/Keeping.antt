@@ -1,0 +1,150 @@
+-- How the state stays kept while facts are prepared, taken back and installed.
+use Rattle.std.proofs.Common.{◌≡◌, ℕ, ◌+◌, ◌≤◌, List, [], ◌∷◌, ◌++◌, length, refl, sym}
+use Rattle.std.proofs.Common.{ap, subst, ◌∙◌, arith}
+use Rattle.std.proofs.Math.Seq.{take-append_seam, drop-append_seam}
+use Rattle.std.proofs.lemmas.List.{append_assoc, flat_map_more, length-append, take-append-le}
+use Rattle.std.proofs.lemmas.List.{append-nil}
+use Rattle.std.proofs.lemmas.List.Elements.{All-take}
+use Rattle.pl_core.specs.Kept.{AreNumbers, IsKept, opening_of, pending_of}
+use Rattle.pl_core.specs.Legal.{Follows, Legal, LegalFrom}
+use Rattle.pl_core.specs.State.{Opening, State, facts_of, log_of}
+use Rattle.pl_due.specs.Fit.{AreFit, IsFit, last_moment}
+use Rattle.pl_facts.specs.declared.entry.Entry.{Entry}
+use Rattle.pl_facts.specs.declared.fact.Fact.{Fact}
+use Rattle.pl_journal.specs.Log.{Log}
+use Rattle.pl_step.specs.Full.{back, with_facts}
+
+-- ---- what the journal tells of the opening and of what was prepared
+
+pub opening_told : (opening : Opening) (entries : List Entry) (more : List Fact) →
+    opening_of (with_facts (log_of opening entries) more) ≡ opening
+unfolding log_of
+opening_told opening entries more =
+    let facts = facts_of entries in
+    let within : length opening.facts ≤ length (opening.facts ++ facts) =
+    omega (arith, length-append opening.facts facts) in
+    ap (λ (told : List Fact). record {
+      admin = opening.admin;
+      moment = opening.moment;
+      run = opening.run;
+      version = opening.version;
+      facts = told;
+    }) (take-append-le (length opening.facts) (opening.facts ++ facts) more within
+    ∙ take-append_seam opening.facts facts)
+
+pub pending_told : (opening : Opening) (entries : List Entry) (more : List Fact) →
+    pending_of (with_facts (log_of opening entries) more) ≡ more
+unfolding log_of
+pending_told opening entries more = drop-append_seam (opening.facts ++ facts_of entries) more
+
+-- ---- facts are taken back, and installed
+
+pub taken_back : (opening : Opening) (entries : List Entry) (more : List Fact) →
+    back (with_facts (log_of opening entries) more) ≡ log_of opening entries
+unfolding log_of
+taken_back opening entries more =
+    ap (λ (facts : List Fact). record (log_of opening entries) { facts = facts })
+    (take-append_seam (opening.facts ++ facts_of entries) more)
+
+pub made_last : (opening : Opening) (entries : List Entry) (entry : Entry) →
+    record (with_facts (log_of opening entries) entry.facts) {
+      installed = length (with_facts (log_of opening entries) entry.facts).facts;
+    } ≡ log_of opening (entries ++ entry ∷ [])
+unfolding log_of
+made_last opening entries entry =
+    ap (λ (facts : List Fact). record (log_of opening entries) {
+      facts = facts;
+      installed = length facts;
+    }) (flat_map_more (λ (one : Entry). one.facts) opening.facts entries entry)
+
+pub nothing_behind : (log : Log) → with_facts log [] ≡ log
+nothing_behind log = ap (λ (facts : List Fact). record log { facts = facts }) (append-nil log.facts)
+
+-- ---- one entry more is legal
+
+pub legal_more : (opening : Opening) (before entries : List Entry) (entry : Entry) →
+    LegalFrom opening before entries → Follows opening (before ++ entries) entry →
+    LegalFrom opening before (entries ++ entry ∷ [])
+legal_more opening before [] entry legal follows =
+    (subst (λ (es : List Entry). Follows opening es entry) (append-nil before) follows, tt)
+legal_more opening before (one ∷ entries) entry legal follows = (
+  legal.0,
+  legal_more opening (before ++ one ∷ []) entries entry legal.1
+      (subst (λ (es : List Entry). Follows opening es entry)
+      (sym (append_assoc before (one ∷ []) entries)) follows),
+)
+
+-- ---- a journal that is one of entries, and of facts behind theirs
+
+moment_told : (opening : Opening) (entries : List Entry) →
+    (log_of opening entries).opening.moment ≡ opening.moment
+unfolding log_of
+moment_told opening entries = refl
+
+pub all_installed : (opening : Opening) (entries : List Entry) →
+    (log_of opening entries).installed ≡ length (log_of opening entries).facts
+unfolding log_of
+all_installed opening entries = refl
+
+module _ (new : Log) (entries : List Entry) (more : List Fact) (opening : Opening)
+    (is : new ≡ with_facts (log_of opening entries) more) where
+  pub opening_behind : opening_of new ≡ opening
+  opening_behind = ap opening_of is ∙ opening_told opening entries more
+
+  pub pending_behind : pending_of new ≡ more
+  pending_behind = ap pending_of is ∙ pending_told opening entries more
+
+  pub kept_behind : Legal opening entries → AreFit new.facts → opening.moment ≤ last_moment →
+      IsKept new entries
+  kept_behind legal fit within =
+      record {
+        journal =
+            is
+            ∙ ap (λ (o : Opening). with_facts (log_of o entries) more) (sym opening_behind)
+            ∙ ap (λ (facts : List Fact). with_facts (log_of (opening_of new) entries) facts)
+            (sym pending_behind);
+        legal = subst (λ (o : Opening). Legal o entries) (sym opening_behind) legal;
+        fit = fit;
+        within =
+            subst (λ moment. moment ≤ last_moment)
+            (sym (ap (λ (l : Log). l.opening.moment) is ∙ moment_told opening entries)) within;
+      }
+
+  pub numbers_behind : (size moment files : ℕ) → AreNumbers opening entries size moment files →
+      AreNumbers (opening_of new) entries size moment files
+  numbers_behind size moment files numbers =
+      subst (λ (o : Opening). AreNumbers o entries size moment files) (sym opening_behind) numbers
+
+-- ---- what isn't installed is taken back
+
+pub went_back : (log : Log) (entries : List Entry) → IsKept log entries →
+    back log ≡ log_of (opening_of log) entries
+went_back log entries kept =
+    ap back kept.journal ∙ taken_back (opening_of log) entries (pending_of log)
+
+module _ (log new : Log) (entries : List Entry) (kept : IsKept log entries)
+    (is : new ≡ back log) where
+  pub back_behind : new ≡ with_facts (log_of (opening_of log) entries) []
+  back_behind =
+      is ∙ went_back log entries kept ∙ sym (nothing_behind (log_of (opening_of log) entries))
+
+  pub back_fit : AreFit new.facts
+  back_fit = subst (λ (facts : List Fact). AreFit facts) (ap (λ (l : Log). l.facts) (sym is))
+      (All-take IsFit log.installed log.facts kept.fit)
+
+  pub back_kept : IsKept new entries
+  back_kept = kept_behind new entries [] (opening_of log) back_behind kept.legal back_fit
+      kept.within
+
+-- ---- the state by its parts
+
+pub state_is : (a b : Opening) (xs ys : List Entry) (p q : List Fact) → a ≡ b → xs ≡ ys → p ≡ q →
+    let left : State = record { opening = a; entries = xs; pending = p } in
+    let right : State = record { opening = b; entries = ys; pending = q } in left ≡ right
+state_is a b xs ys p q opening entries pending =
+    ap (λ (o : Opening). let made : State =
+    record { opening = o; entries = xs; pending = p } in made) opening
+    ∙ ap (λ (es : List Entry). let made : State =
+    record { opening = b; entries = es; pending = p } in made) entries
+    ∙ ap (λ (fs : List Fact). let made : State =
+    record { opening = b; entries = ys; pending = fs } in made) pending

@@ -1,0 +1,3 @@
+pub mod Installing
+pub mod Keeping
+pub mod Preparing

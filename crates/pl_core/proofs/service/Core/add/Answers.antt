@@ -1,0 +1,38 @@
+use Rattle.std.proofs.Common.{◌≡◌, List, ap, sym, subst, ◌∙◌, inl}
+use Rattle.pl_core.specs.Kept.{AreNumbers, IsKept, opening_of, pending_of}
+use Rattle.pl_core.specs.Legal.{Follows}
+use Rattle.pl_core.specs.State.{Opening, State}
+use Rattle.pl_facts.specs.declared.entry.Entry.{Entry}
+use Rattle.pl_journal.specs.Log.{Log, last_moment, version}
+use Rattle.pl_facts.specs.Sizes.{counted}
+use Rattle.pl_core.proofs.Installing.{kept_more, none_pending, numbers_more, size_more}
+use Rattle.pl_core.proofs.service.Core.add.Goals as goal
+
+pub invariant_of-self : goal.invariant_of-self
+invariant_of-self c =
+    let log = c.self.inside.journal in
+    let new = c.install.new.self in
+    let entries = c.self.inside.entries.items in
+    let kept = c.self.invariant.0 in
+    let pending : pending_of log ≡ c.args.entry.facts =
+    ap (λ (state : State). state.pending) c.self.view_is ∙ c.requires.1 in
+    let follows : Follows (opening_of log) entries c.args.entry =
+    subst (λ (es : List Entry). Follows (opening_of log) es c.args.entry)
+    (sym (ap (λ (state : State). state.entries) c.self.view_is))
+    (subst (λ (o : Opening). Follows o c.args.self.now.entries c.args.entry)
+    (sym (ap (λ (state : State). state.opening) c.self.view_is)) c.requires.0) in
+    let size = size_more entries c.args.entry _ _ _ c.self.invariant.1.size_is c.size_of.ensures
+    c.saturating_add-self-inside.ensures in
+    let moment = c.last_moment-self-inside.ensures
+    ∙ ap (λ (l : Log). last_moment l) c.journal.ensures in
+    let files = c.version-self-inside.ensures
+    ∙ ap (λ (l : Log). counted (version l)) c.journal-2.ensures in (
+      subst (λ (es : List Entry). IsKept new es) (sym c.push_reserved.ensures.items)
+          (kept_more log new entries c.args.entry kept pending c.install.ensures follows),
+      subst (λ (es : List Entry). AreNumbers (opening_of new) es
+          c.saturating_add-self-inside.result c.last_moment-self-inside.result
+          c.version-self-inside.result) (sym c.push_reserved.ensures.items)
+          (numbers_more log new entries c.args.entry kept pending c.install.ensures _ _ _ size
+          moment files),
+      inl (none_pending log new entries c.args.entry kept pending c.install.ensures),
+    )

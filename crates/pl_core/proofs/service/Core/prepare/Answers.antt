@@ -1,0 +1,118 @@
+use Rattle.std.proofs.Common.{◌≡◌, ◌+◌, List, Option, length, sym, ap, subst, ◌∙◌, arith, inr}
+use Rattle.pl_core.specs.Kept.{AreNumbers, IsKept, opening_of, pending_of}
+use Rattle.pl_core.specs.Prepared.{IsEntryOf, next_number}
+use Rattle.pl_core.specs.State.{State, held, log, log_of}
+use Rattle.pl_facts.specs.Sizes.{counted, size_of, total}
+use Rattle.pl_facts.specs.declared.entry.Entry.{Entry}
+use Rattle.pl_journal.specs.Log.{Log}
+use Rattle.pl_step.specs.Full.{with_facts}
+use Rattle.pl_step.specs.declared.held.Held.{Held}
+use Rattle.pl_core.proofs.Keeping.{all_installed, kept_behind, numbers_behind, opening_behind}
+use Rattle.pl_core.proofs.Keeping.{pending_behind, went_back}
+use Rattle.pl_core.proofs.Preparing.{behind_by, if_ok, made_can_run, pending_by, prepared_by}
+use Rattle.pl_core.proofs.Preparing.{steps_at}
+use Rattle.pl_core.proofs.service.Core.prepare.Goals as goal
+
+pub prepare-requires-clause-installed : goal.prepare-requires-clause-installed
+prepare-requires-clause-installed c =
+    let entries = c.self.inside.entries.items in
+    subst (λ (l : Log). l.installed ≡ length l.facts)
+    (sym (c.back_to_installed.ensures ∙ went_back c.self.inside.journal entries c.self.invariant.0))
+    (all_installed (opening_of c.self.inside.journal) entries)
+
+pub prepare-requires-clause-can_run : goal.prepare-requires-clause-can_run
+prepare-requires-clause-can_run c =
+    made_can_run c.compilations_can_run.ensures c.requires.made.0 c.args.made c.requires.made.2
+
+-- the journal is that of the entries, with some facts behind theirs
+module _ (c : goal.After-prepare) where
+  base : c.back_to_installed.new.self
+      ≡ log_of (opening_of c.self.inside.journal) c.self.inside.entries.items
+  base = c.back_to_installed.ensures
+      ∙ went_back c.self.inside.journal c.self.inside.entries.items c.self.invariant.0
+
+  some : (more : _) × (c.prepare.new.journal ≡ with_facts c.back_to_installed.new.self more)
+  some = behind_by c.back_to_installed.new.self c.prepare.new.journal c.prepare.result
+      c.prepare.ensures.journal c.prepare.ensures.err
+
+  at : (more : _) → c.prepare.new.journal ≡ with_facts c.back_to_installed.new.self more →
+      c.prepare.new.journal ≡
+      with_facts (log_of (opening_of c.self.inside.journal) c.self.inside.entries.items) more
+  at more is = is ∙ ap (λ (l : Log). with_facts l more) base
+
+  opening_is : opening_of c.prepare.new.journal ≡ c.args.self.now.opening
+  opening_is =
+      opening_behind c.prepare.new.journal c.self.inside.entries.items some.0
+      (opening_of c.self.inside.journal) (at some.0 some.1)
+      ∙ ap (λ (state : State). state.opening) c.self.view_is
+
+  entries_are : c.reserve.new.self.items ≡ c.args.self.now.entries
+  entries_are = c.reserve.ensures.items ∙ ap (λ (state : State). state.entries) c.self.view_is
+
+  log_is : c.back_to_installed.new.self ≡ log c.args.self.now
+  log_is = base ∙ ap (λ (state : State). log_of state.opening state.entries) c.self.view_is
+
+  count : c.len.result ≡ length c.args.self.now.entries
+  count =
+      let here : c.len.result ≡ length c.reserve.new.self.items =
+      omega (arith, c.len.ensures, c.reserve.new.self.ok.0, c.reserve.new.self.ok.1) in
+      here ∙ ap (λ (es : List Entry). length es) entries_are
+
+  held_is :
+      let here : Held = record { entries = c.len.result; size = c.self.inside.size } in
+      here ≡ held c.args.self.now
+  held_is =
+      let size : c.self.inside.size ≡ counted (total size_of c.args.self.now.entries) =
+      c.self.invariant.1.size_is
+      ∙ ap (λ (state : State). counted (total size_of state.entries)) c.self.view_is in
+      ap (λ n. let made : Held = record { entries = n; size = c.self.inside.size } in made) count
+      ∙ ap (λ n. let made : Held =
+      record { entries = length c.args.self.now.entries; size = n } in made) size
+
+  numbered : (entry : Option Entry) →
+      IsEntryOf (c.len.result + 1) c.args.seat c.args.call.now entry →
+      IsEntryOf (next_number c.args.self.now) c.args.seat c.args.call.now entry
+  numbered entry is =
+      subst (λ n. IsEntryOf (n + 1) c.args.seat c.args.call.now entry) count is
+
+pub invariant_of-self-2 : goal.invariant_of-self-2
+invariant_of-self-2 c =
+    let new = c.prepare.new.journal in
+    let entries = c.self.inside.entries.items in
+    let opening = opening_of c.self.inside.journal in
+    let behind = at c (some c).0 (some c).1 in (
+      subst (λ (es : List Entry). IsKept new es) (sym c.reserve.ensures.items)
+          (kept_behind new entries (some c).0 opening behind
+          c.self.invariant.0.legal c.prepare.ensures.fit c.self.invariant.0.within),
+      subst (λ (es : List Entry). AreNumbers (opening_of new) es c.self.inside.size
+          c.self.inside.moment c.self.inside.version) (sym c.reserve.ensures.items)
+          (numbers_behind new entries (some c).0 opening behind _ _ _ c.self.invariant.1),
+      inr (omega (arith, c.in_ok-reserve.ensures.ok)),
+    )
+
+pub returns-clause-opening : goal.returns-clause-opening
+returns-clause-opening c = opening_is c
+
+pub returns-clause-steps : goal.returns-clause-steps
+returns-clause-steps c = steps_at _ (held c.args.self.now) c.back_to_installed.new.self
+    (log c.args.self.now) c.args.call.now c.args.made c.prepare.result (held_is c) (log_is c)
+    c.prepare.ensures.steps
+
+pub returns-clause-prepared : goal.returns-clause-prepared
+returns-clause-prepared c =
+    let now = c.args.self.now in
+    let new : State = record {
+      opening = opening_of c.prepare.new.journal;
+      entries = c.reserve.new.self.items;
+      pending = pending_of c.prepare.new.journal;
+    } in
+    prepared_by now new c.args.seat c.args.call.now c.args.made (opening_is c) (entries_are c)
+    c.requires.well_formed c.requires.moment c.requires.made c.prepare.result
+    (pending_by c.prepare.result c.back_to_installed.new.self c.prepare.new.journal new.pending
+    (λ more is. pending_behind c.prepare.new.journal c.self.inside.entries.items more
+    (opening_of c.self.inside.journal) (at c more is))
+    c.prepare.ensures.journal)
+    (steps_at _ (held now) c.back_to_installed.new.self (log now) c.args.call.now c.args.made
+    c.prepare.result (held_is c) (log_is c) c.prepare.ensures.steps)
+    (if_ok _ _ c.prepare.result (λ prepared is. numbered c prepared.entry is)
+    c.prepare.ensures.entry)

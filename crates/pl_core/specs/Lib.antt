@@ -1,0 +1,5 @@
+pub mod Kept
+pub mod Legal
+pub mod Made
+pub mod Prepared
+pub mod State

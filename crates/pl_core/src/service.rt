@@ -1,0 +1,179 @@
+ghost use Rattle.std.specs.Prelude.{◌≡◌, ◌≤◌, [], true, Some, IfOk, OnErr};
+ghost use Rattle.pl_core.specs.Legal.{Legal};
+ghost use Rattle.pl_core.specs.Made.{IsMadeFor, WantsFor};
+ghost use Rattle.pl_core.specs.Prepared.{IsEntryOf, IsPrepared, added_by, installed, next_number};
+ghost use Rattle.pl_core.specs.State.{held, log, new_state};
+ghost use Rattle.pl_due.specs.Fit.{last_moment as last_of_all};
+ghost use Rattle.pl_facts.specs.Sizes.{counted};
+ghost use Rattle.pl_journal.specs.Log.{last_moment, version};
+ghost use Rattle.pl_requests.specs.WellFormed.{is_well_formed};
+ghost use Rattle.pl_step.specs.Step.{IsStep, stepped_with};
+
+use crate::prepared::{Prepared, prepare};
+use crate::wanting::wanted_for;
+use pl_base::{Digest, Memory, Moment, Refusal, Shared};
+use pl_compilation::compilations_can_run;
+use pl_facts::{Compiled, Entry, size_of};
+use pl_open_runs::IndexedJournal;
+use pl_requests::{Call, Reply};
+use pl_snapshots::Snapshot;
+use pl_step::Held;
+use std::alloc::Global;
+use std::marker::Model;
+
+/// A service: what has happened since it was opened.
+///
+/// Contracts see it as what it was opened with, the entries since then, in order, and the facts
+/// that were prepared for one entry more and aren't installed. The entries are a legal history:
+/// each is what the step makes of its call where it stands.
+#[derive(Drop)]
+pub struct Core {
+    journal: IndexedJournal,
+    entries: Vec<Entry>,
+    /// The bytes of the entries' texts.
+    size: u64,
+    /// The moment of the last entry.
+    moment: Moment,
+    /// The version of the files.
+    version: u64,
+}
+
+impl Model for Core {
+    ghost use Rattle.std.specs.Prelude.{◌≡◌, ◌<◌, ◌⊎◌, [], vec_len, vec_capacity};
+    ghost use Rattle.std.specs.Coded.{codes};
+    ghost use Rattle.pl_core.specs.Kept.{AreNumbers, IsKept, opening_of, pending_of};
+    ghost use Rattle.pl_core.specs.State.{State};
+    ghost use Rattle.pl_facts.specs.contracts.entry.Entry as an_entry;
+    ghost use Rattle.pl_facts.specs.contracts.fact.Fact as a_fact;
+
+    ghost Value = { State };
+
+    ghost coded = { Prim.hlevel (codes, a_fact.the_row.coded, an_entry.the_row.coded) };
+
+    ghost view = { λ core. record {
+      opening = opening_of core.journal;
+      entries = core.entries.items;
+      pending = pending_of core.journal;
+    } };
+
+    // So that installing takes no memory, there is room for one entry more while one is prepared.
+    ghost invariant = { λ core.
+        IsKept core.journal core.entries.items ×
+        AreNumbers (opening_of core.journal) core.entries.items core.size core.moment core.version ×
+        ((pending_of core.journal ≡ []) ⊎ (vec_len core.entries < vec_capacity core.entries)) };
+}
+
+impl Core {
+    /// A service that was just opened and in which nothing has happened, with the digest of its
+    /// admin's token. Memory where memory is wanting.
+    pub fn new(alloc: Global, admin: Digest) -> Result<Core, Memory>
+        ensures { IfOk result (λ core. core ≡ new_state admin) }
+    {
+        Ok(Core {
+            journal: IndexedJournal::new(alloc, admin)?,
+            entries: Vec::new(alloc),
+            size: 0,
+            moment: 0,
+            version: 0,
+        })
+    }
+
+    /// The moment of the last entry, or of what the service was opened with: no call may be
+    /// earlier.
+    pub fn moment(&self) -> Moment
+        ensures moment { result ≡ last_moment (log self.now) }
+        ensures within { result ≤ last_of_all }
+    {
+        self.moment
+    }
+
+    /// The version of the files: how often one was put or removed. While it stays, so do the files.
+    pub fn version(&self) -> u64
+        ensures { result ≡ counted (version (log self.now)) }
+    {
+        self.version
+    }
+
+    /// The entries since the service was opened, in order: a legal history.
+    pub fn entries(&self) -> &[Entry]
+        ensures entries { result.now ≡ self.now.entries }
+        ensures legal { Legal self.now.opening self.now.entries }
+    {
+        self.entries.as_slice()
+    }
+
+    /// What a call wants to be compiled, or None where it queues no run, where its caller isn't
+    /// known or may not queue, or where the pipeline isn't known. Memory where memory is wanting.
+    pub fn wanted(&self, alloc: Global, call: &Call) -> Result<Option<Snapshot>, Memory>
+        requires { self.now.pending ≡ [] }
+        ensures { IfOk result (WantsFor (log self.now) call.now) }
+    {
+        wanted_for(alloc, self.journal.journal(), call)
+    }
+
+    /// The reply to a call at a seat, and the entry that the call makes: what the step gives. The
+    /// state stays as it is, and all memory is taken that `install` needs. What was prepared before
+    /// and wasn't installed is gone. Memory where memory is wanting; then nothing is prepared.
+    ///
+    /// `made` is what `wanted` was compiled to, and is there exactly where that is.
+    pub fn prepare(
+        &mut self,
+        alloc: Global,
+        seat: u64,
+        call: &Call,
+        made: Option<Result<Shared<Compiled>, Refusal>>,
+    ) -> Result<Prepared, Memory>
+        requires well_formed { is_well_formed call.now ≡ true }
+        requires moment { last_moment (log self.old) ≤ call.now.moment }
+        requires made { IsMadeFor (log self.old) call.now made }
+        ensures opening { self.new.opening ≡ self.old.opening }
+        ensures entries { self.new.entries ≡ self.old.entries }
+        ensures steps { IfOk result (λ prepared. IsStep (held self.old) (log self.old) call.now
+            made (stepped_with prepared.reply (added_by prepared.entry))) }
+        ensures entry { IfOk result (λ prepared.
+            IsEntryOf (next_number self.old) seat call.now prepared.entry) }
+        ensures prepared { IfOk result (λ prepared. IsPrepared self.new prepared.entry) }
+        ensures err { OnErr result (self.new.pending ≡ []) }
+    {
+        compilations_can_run();
+        self.journal.back_to_installed();
+        self.entries.reserve(1)?;
+        let held = Held {
+            entries: self.entries.len() as u64,
+            size: self.size,
+        };
+        prepare(alloc, &mut self.journal, &held, seat, call, made)
+    }
+
+    /// Makes what was prepared last true, and gives its reply. It takes no memory.
+    pub fn install(&mut self, prepared: Prepared) -> Reply
+        requires { IsPrepared self.old prepared.entry }
+        ensures reply { result ≡ prepared.reply }
+        ensures state { self.new ≡ installed prepared.entry self.old }
+    {
+        let Prepared { reply, entry } = prepared;
+        if let Some(entry) = entry {
+            self.add(entry);
+        }
+        reply
+    }
+
+    /// Takes the prepared entry among the others.
+    fn add(&mut self, entry: Entry)
+        requires { IsPrepared self.old (Some entry) }
+        ensures { self.new ≡ installed (Some entry) self.old }
+    {
+        self.size = self.size.saturating_add(size_of(&entry));
+        self.entries.push_reserved(entry);
+        self.journal.install();
+        self.moment = self.journal.journal().last_moment();
+        self.version = self.journal.journal().version();
+    }
+
+    /// Gives up what was prepared and isn't installed. It takes no memory.
+    pub fn back(&mut self)
+        ensures { self.new ≡ record self.old { pending = [] } }
+    {
+        self.journal.back_to_installed();
+    }
+}

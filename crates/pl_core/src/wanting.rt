@@ -1,0 +1,25 @@
+//! What a call wants to be compiled.
+
+ghost use Rattle.std.specs.Prelude.{◌≡◌, IfOk};
+ghost use Rattle.pl_core.specs.Made.{WantsFor};
+
+use pl_base::Memory;
+use pl_journal::Journal;
+use pl_requests::Call;
+use pl_snapshots::{Snapshot, wanted};
+use pl_step::may_call;
+use std::alloc::Global;
+
+/// What a call wants to be compiled: nothing, where its caller isn't known or may not make it.
+pub(crate) fn wanted_for(
+    alloc: Global,
+    journal: &Journal,
+    call: &Call,
+) -> Result<Option<Snapshot>, Memory>
+    ensures { IfOk result (WantsFor journal.now call.now) }
+{
+    match journal.principal_with(&call.caller) {
+        Some(who) if may_call(who, &call.request) => wanted(alloc, journal, &call.request),
+        _ => Ok(None),
+    }
+}

@@ -1,0 +1,14 @@
+pub mod Asking
+pub mod ByLocks
+pub mod Fits
+pub mod InOrder
+pub mod Judged
+pub mod Looping
+pub mod Members
+pub mod OneDue
+pub mod OneStage
+pub mod Opened
+pub mod Picking
+pub mod Ranges
+pub mod Scanned
+pub mod Standing

@@ -1,0 +1,110 @@
+-- Turns of loops over places.
+use Rattle.std.proofs.Common.{◌≡◌, ◌<◌, ◌≤◌, ◌+◌, ◌&&◌, ℕ, Bool, true, false, cond, List, [], ◌∷◌}
+use Rattle.std.proofs.Common.{◌++◌, length, map, Option, Some, None, is_none, refl, sym, ap}
+use Rattle.std.proofs.Common.{◌∙◌, subst, arith, ⊎_elim}
+use Rattle.std.specs.List.{filter, filter_map, list_all, range_with_len, cons_option}
+use Rattle.std.proofs.lemmas.Bool.{cases_lt}
+use Rattle.std.proofs.lemmas.List.{append_assoc, append-nil, map-append}
+use Rattle.std.proofs.lemmas.List.Elements.{filter-append, filter_map-append}
+use Rattle.std.proofs.lemmas.List.Folds.{list_all-append, list_all_at}
+use Rattle.std.proofs.lemmas.List.FromFn.{get_or-range_with_len, length-range_with_len}
+use Rattle.pl_facts.specs.declared.fact.Fact.{Fact}
+use Rattle.pl_journal.specs.Runs.{stage_end}
+use Rattle.pl_results.proofs.Turns.{range_more}
+use Rattle.pl_due.specs.declared.open_stages.Place.{Place}
+use Rattle.pl_due.specs.Open.{at_place, open_among}
+use Rattle.pl_due.specs.Scans.{IsFirstTrue}
+
+more : (n : ℕ) → range_with_len 0 n ++ n ∷ [] ≡ range_with_len 0 (n + 1)
+more n = range_more n (range_with_len 0 n) (range_with_len 0 n ++ n ∷ []) refl refl
+
+-- ---- all places pass a test
+
+pub all_more : (p : ℕ → Bool) (n : ℕ) → list_all p (range_with_len 0 n) ≡ true → p n ≡ true →
+    list_all p (range_with_len 0 (n + 1)) ≡ true
+all_more p n all one = ap (list_all p) (sym (more n))
+    ∙ list_all-append p (range_with_len 0 n) (n ∷ [])
+    ∙ ap (λ b. b && list_all p (n ∷ [])) all ∙ ap (λ b. b && true) one
+
+pub not_all : (p : ℕ → Bool) (n count : ℕ) → n < count → p n ≡ false →
+    list_all p (range_with_len 0 count) ≡ false
+not_all p n count below fails =
+    let len : length (range_with_len 0 count) ≡ count = length-range_with_len 0 count in
+    let same : 0 + n ≡ n = omega arith in
+    list_all_at p (range_with_len 0 count) n 0 (omega (arith, len, below))
+    (ap p (get_or-range_with_len 0 count n 0 below ∙ same) ∙ fails)
+
+-- ---- what is made of places
+
+pub made_some : {X : Type 0} (h : ℕ → Option X) (n : ℕ) (x : X) (old new : List X) →
+    old ≡ filter_map h (range_with_len 0 n) → h n ≡ Some x → new ≡ old ++ x ∷ [] →
+    new ≡ filter_map h (range_with_len 0 (n + 1))
+made_some h n x old new so_far is grown =
+    grown ∙ ap (λ ys. ys ++ x ∷ []) so_far
+    ∙ ap (λ o. filter_map h (range_with_len 0 n) ++ cons_option o []) (sym is)
+    ∙ sym (filter_map-append h (range_with_len 0 n) (n ∷ []))
+    ∙ ap (filter_map h) (more n)
+
+pub made_none : {X : Type 0} (h : ℕ → Option X) (n : ℕ) (old new : List X) →
+    old ≡ filter_map h (range_with_len 0 n) → h n ≡ None → new ≡ old →
+    new ≡ filter_map h (range_with_len 0 (n + 1))
+made_none h n old new so_far is same =
+    same ∙ so_far ∙ sym (append-nil (filter_map h (range_with_len 0 n)))
+    ∙ ap (λ o. filter_map h (range_with_len 0 n) ++ cons_option o []) (sym is)
+    ∙ sym (filter_map-append h (range_with_len 0 n) (n ∷ []))
+    ∙ ap (filter_map h) (more n)
+
+-- ---- stages that haven't ended
+
+module _ (facts : List Fact) (run n : ℕ) (before old new : List Place) where
+  grown : (b : Bool) → is_none (stage_end run n facts) ≡ b →
+      open_among facts run (n + 1) ≡ open_among facts run n ++ cond b (at_place run n ∷ []) []
+  grown b is =
+      ap (λ ns. map (at_place run) (filter (λ s. is_none (stage_end run s facts)) ns))
+      (sym (more n))
+      ∙ ap (map (at_place run)) (filter-append (λ s. is_none (stage_end run s facts))
+      (range_with_len 0 n) (n ∷ []))
+      ∙ map-append (at_place run) (filter (λ s. is_none (stage_end run s facts))
+      (range_with_len 0 n)) (filter (λ s. is_none (stage_end run s facts)) (n ∷ []))
+      ∙ ap (λ ns. open_among facts run n ++ map (at_place run) ns) (one b is)
+      ∙ ap (λ ps. open_among facts run n ++ ps) (made b)
+    where
+      one : (b : Bool) → is_none (stage_end run n facts) ≡ b →
+          filter (λ s. is_none (stage_end run s facts)) (n ∷ []) ≡ cond b (n ∷ []) []
+      one b is = ap (λ t. cond t (n ∷ []) []) is
+
+      made : (b : Bool) → map (at_place run) (cond b (n ∷ []) []) ≡ cond b (at_place run n ∷ []) []
+      made true = refl
+      made false = refl
+
+  pub opened_some : old ≡ before ++ open_among facts run n →
+      is_none (stage_end run n facts) ≡ true → new ≡ old ++ at_place run n ∷ [] →
+      new ≡ before ++ open_among facts run (n + 1)
+  opened_some so_far is pushed =
+      pushed ∙ ap (λ ps. ps ++ at_place run n ∷ []) so_far
+      ∙ append_assoc before (open_among facts run n) (at_place run n ∷ [])
+      ∙ ap (λ ps. before ++ ps) (sym (grown true is))
+
+  pub opened_none : old ≡ before ++ open_among facts run n →
+      is_none (stage_end run n facts) ≡ false → new ≡ old →
+      new ≡ before ++ open_among facts run (n + 1)
+  opened_none so_far is same =
+      same ∙ so_far ∙ ap (λ ps. before ++ ps) (sym (append-nil (open_among facts run n))
+      ∙ sym (grown false is))
+
+-- ---- the first place that passes
+
+pub first_here : (test : ℕ → Bool) (n : ℕ) → test n ≡ true →
+    ((at : ℕ) → at < n → test at ≡ false) → IsFirstTrue test (Some n)
+first_here test n passes none = (passes, none)
+
+pub none_yet : (test : ℕ → Bool) (n : ℕ) → test n ≡ false →
+    ((at : ℕ) → at < n → test at ≡ false) → (at : ℕ) → at < n + 1 → test at ≡ false
+none_yet test n fails none at below =
+    ⊎_elim (none at) (λ rest. let e : n ≡ at = omega arith in
+    subst (λ k. test k ≡ false) e fails) (cases_lt at n)
+
+-- where none of so many passes, and none behind them does
+pub none_at_all : (test : ℕ → Bool) (count : ℕ) → ((at : ℕ) → at < count → test at ≡ false) →
+    ((at : ℕ) → count ≤ at → test at ≡ false) → IsFirstTrue test None
+none_at_all test count before behind at = ⊎_elim (before at) (behind at) (cases_lt at count)

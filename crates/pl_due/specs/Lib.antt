@@ -1,0 +1,11 @@
+pub mod Asked
+pub mod Checked
+pub mod Contention
+pub mod Due
+pub mod Fit
+pub mod Kinds
+pub mod Least
+pub mod Nodes
+pub mod Open
+pub mod Scans
+pub mod Tests

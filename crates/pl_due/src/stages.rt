@@ -1,0 +1,84 @@
+//! What is due for stages by themselves.
+
+ghost use Rattle.std.specs.Prelude.{◌≡◌};
+ghost use Rattle.pl_due.specs.Kinds as spec;
+
+use crate::ends::{fail_end, false_stage_end};
+use crate::judging::judgement;
+use crate::nodes::{has_done_all, is_canceled, is_running, is_waiting, outcomes, stage_says};
+use crate::scanning::Kind;
+use crate::stage_at::StageAt;
+use pl_base::Memory;
+use pl_facts::{Event, Rule};
+use pl_judgement::{Judgement, judgement_laws};
+use pl_results::combined;
+use std::alloc::Global;
+
+/// Running stages whose jobs have all ended.
+#[derive(Clone, Copy)]
+pub(crate) struct Done;
+
+impl Kind for Done {
+    ghost of = { λ itself facts moment. spec.IsDone facts };
+
+    fn in_stage(&self, alloc: Global, at: &StageAt<'_>) -> Result<Option<Event>, Memory> {
+        if !is_running(at.journal, at.run, at.stage) {
+            return Ok(None);
+        }
+        if !has_done_all(at) {
+            return Ok(None);
+        }
+        let outcomes = outcomes(alloc, at)?;
+        Ok(Some(Event::StageEnded {
+            run: at.run,
+            stage: at.stage,
+            outcome: combined(outcomes.as_slice()),
+            rule: None,
+        }))
+    }
+}
+
+/// Waiting stages whose condition is false.
+#[derive(Clone, Copy)]
+pub(crate) struct FalseStages;
+
+impl Kind for FalseStages {
+    ghost of = { λ itself facts moment. spec.IsPassedOver facts };
+
+    fn in_stage(&self, alloc: Global, at: &StageAt<'_>) -> Result<Option<Event>, Memory> {
+        if !is_waiting(at) {
+            return Ok(None);
+        }
+        if stage_says(alloc, at)? {
+            return Ok(None);
+        }
+        let canceled = is_canceled(at.journal, at.run);
+        Ok(Some(false_stage_end(alloc, canceled, at.run, at.stage)?))
+    }
+}
+
+/// Waiting stages of which a check fails.
+#[derive(Clone, Copy)]
+pub(crate) struct Failing;
+
+impl Kind for Failing {
+    ghost of = { λ itself facts moment. spec.Fails facts moment };
+
+    fn in_stage(&self, alloc: Global, at: &StageAt<'_>) -> Result<Option<Event>, Memory> {
+        judgement_laws();
+        if !is_waiting(at) {
+            return Ok(None);
+        }
+        match fail_of(judgement(alloc, at)?) {
+            Some(rule) => Ok(Some(fail_end(alloc, at.run, at.stage, rule)?)),
+            None => Ok(None),
+        }
+    }
+}
+
+/// The rule by which the first check fails that fails.
+fn fail_of(judgement: Judgement) -> Option<Rule>
+    ensures { result ≡ judgement.fail }
+{
+    judgement.fail
+}

@@ -1,0 +1,18 @@
+use Rattle.std.proofs.Common.{◌≡◌, [], drop}
+use Rattle.pl_calls.specs.Reaching.{opens}
+use Rattle.pl_recursion.specs.Levels.{followed}
+use Rattle.pl_extends.specs.Extending.{arguments_behind}
+use Rattle.pl_extends.proofs.extending.arguments_in.Given as goal
+
+abbrev pub invariant-loop-pair : goal.invariant-loop-pair
+invariant-loop-pair g l = record {
+  given :
+      arguments_behind l.pairs
+      (followed 100 (opens (g.F.Files.files l.fn.files) l.fn.reach.home)) l.frame
+      (record { pairs = []; count = l.count }) l.fn.reach.used
+      ≡ arguments_behind (drop l.pair-index l.pair-items)
+      (followed 100 (opens (g.F.Files.files l.fn.files) l.fn.reach.home))
+      l.frame l.given l.reach.used;
+  files : g.F.Files.files l.files ≡ g.F.Files.files l.fn.files;
+  home : l.reach.home ≡ l.fn.reach.home;
+}

@@ -1,0 +1,20 @@
+use Rattle.std.proofs.Common.{◌≡◌, drop}
+use Rattle.pl_calls.specs.Reaching.{opens}
+use Rattle.pl_directives.specs.declared.region.Region.TheVariants.{Free}
+use Rattle.pl_recursion.specs.Following.{scope_of}
+use Rattle.pl_recursion.specs.Levels.{followed}
+use Rattle.pl_extends.specs.Extending.{body_pairs}
+use Rattle.pl_extends.proofs.extending.fill_body_pairs.Given as goal
+
+abbrev pub invariant-loop-pair : goal.invariant-loop-pair
+invariant-loop-pair g l = record {
+  filled :
+      body_pairs l.pairs
+      (scope_of (followed 99 (opens (g.F.Files.files l.fn.files) l.fn.reach.home)) l.frame Free)
+      l.fn.progress l.fn.reach.used
+      ≡ body_pairs (drop l.pair-index l.pair-items)
+      (scope_of (followed 99 (opens (g.F.Files.files l.fn.files) l.fn.reach.home)) l.frame Free)
+      l.after l.reach.used;
+  files : g.F.Files.files l.files ≡ g.F.Files.files l.fn.files;
+  home : l.reach.home ≡ l.fn.reach.home;
+}

@@ -1,0 +1,48 @@
+use Rattle.std.proofs.Common.{◌≡◌, ℕ, ◌+◌, ◌*◌, drop, map}
+use Rattle.pl_calls.specs.Reaching.{opens}
+use Rattle.pl_extends.specs.Rooting.{node_seen, pair_seen, pairs_put, turns_put}
+use Rattle.pl_extends.proofs.rooting.+rooting.Given as goal
+
+abbrev depth : ℕ → ℕ → ℕ
+depth levels rank = 8 * levels + rank
+
+abbrev pub decreases-put_body : goal.decreases-put_body
+decreases-put_body g l = depth l.spot.levels 1
+
+abbrev pub decreases-put_node : goal.decreases-put_node
+decreases-put_node g l = depth l.spot.levels 2
+
+abbrev pub decreases-put_turns : goal.decreases-put_turns
+decreases-put_turns g l = depth l.spot.levels 3
+
+abbrev pub decreases-put_asked : goal.decreases-put_asked
+decreases-put_asked g l = depth l.spot.levels 4
+
+abbrev pub decreases-put_pair_of : goal.decreases-put_pair_of
+decreases-put_pair_of g l = depth l.spot.levels 5
+
+abbrev pub decreases-put_pairs : goal.decreases-put_pairs
+decreases-put_pairs g l = depth l.spot.levels 6
+
+abbrev pub invariant-put_pairs-loop-pair : goal.invariant-put_pairs-loop-pair
+invariant-put_pairs-loop-pair g l = record {
+  filled :
+      pairs_put (map pair_seen l.pairs) (opens (g.F.Files.files l.fn.files) l.fn.reach.home)
+      l.spot.frame.now l.fn.filling l.fn.reach.used
+      ≡ pairs_put (map pair_seen (drop l.pair-index l.pair-items))
+      (opens (g.F.Files.files l.fn.files) l.fn.reach.home) l.spot.frame.now l.after l.reach.used;
+  files : g.F.Files.files l.files ≡ g.F.Files.files l.fn.files;
+  home : l.reach.home ≡ l.fn.reach.home;
+}
+
+abbrev pub invariant-put_turns-loop-item : goal.invariant-put_turns-loop-item
+invariant-put_turns-loop-item g l = record {
+  filled :
+      turns_put l.turns.name (node_seen l.node) l.turns.items
+      (opens (g.F.Files.files l.fn.files) l.fn.reach.home) l.spot.frame.now l.fn.filling
+      l.fn.reach.used
+      ≡ turns_put l.turns.name (node_seen l.node) (drop l.item-index l.item-items)
+      (opens (g.F.Files.files l.fn.files) l.fn.reach.home) l.spot.frame.now l.after l.reach.used;
+  files : g.F.Files.files l.files ≡ g.F.Files.files l.fn.files;
+  home : l.reach.home ≡ l.fn.reach.home;
+}

@@ -1,0 +1,12 @@
+pub mod Counting
+pub mod Exactly
+pub mod Fitting
+pub mod InList
+pub mod InOrder
+pub mod Labels
+pub mod LeastJob
+pub mod Look
+pub mod OneRule
+pub mod OpenRun
+pub mod Places
+pub mod Taking

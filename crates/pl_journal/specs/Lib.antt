@@ -1,0 +1,6 @@
+pub mod About
+pub mod Counted
+pub mod Kinds
+pub mod Log
+pub mod Runs
+pub mod Settings

@@ -1,0 +1,16 @@
+pub mod Steps
+pub mod Induction
+pub mod Leading
+pub mod Moved
+pub mod Nodes
+pub mod Plainly
+pub mod SameFile
+pub mod Frames
+pub mod Scalars
+pub mod Contents
+pub mod Bound
+pub mod Following
+pub mod Beginnings
+pub mod Expanded
+pub mod Called
+pub mod Kept

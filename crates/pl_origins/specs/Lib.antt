@@ -1,0 +1,4 @@
+pub mod Behind
+pub mod Places
+pub mod Spots
+pub mod Through

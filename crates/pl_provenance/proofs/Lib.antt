@@ -1,0 +1,13 @@
+pub mod Closure
+pub mod Extended
+pub mod Files
+pub mod Given
+pub mod Joined
+pub mod Known
+pub mod Merged
+pub mod Reader
+pub mod Rooted
+pub mod Saying
+pub mod Through
+pub mod Whole
+pub mod Written

@@ -1,0 +1,6 @@
+pub mod Closure
+pub mod Known
+pub mod Reader
+pub mod Roots
+pub mod Texts
+pub mod Written

@@ -1,0 +1,4 @@
+pub mod Filled
+pub mod Itself
+pub mod Levels
+pub mod Spread

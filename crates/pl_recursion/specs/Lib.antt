@@ -1,0 +1,6 @@
+pub mod Expanding
+pub mod Following
+pub mod Levels
+pub mod Putting
+pub mod Scalars
+pub mod Settling

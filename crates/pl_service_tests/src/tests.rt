@@ -1,0 +1,9 @@
+mod bundles;
+mod every_list;
+mod nodes;
+mod plain;
+mod stages;
+mod step_lists;
+mod streams;
+mod turns;
+mod zones;

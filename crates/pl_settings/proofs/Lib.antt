@@ -1,0 +1,2 @@
+pub mod OpenAlone
+pub mod Turns

@@ -1,0 +1,9 @@
+pub mod Adding
+pub mod Behind
+pub mod Bounded
+pub mod Counting
+pub mod Giving
+pub mod Occupying
+pub mod Planned
+pub mod Turns
+pub mod Waiting

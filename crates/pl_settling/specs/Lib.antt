@@ -1,0 +1,4 @@
+pub mod Allowed
+pub mod Gives
+pub mod Laws
+pub mod Settles

@@ -1,0 +1,6 @@
+//! Laws of what a plan was compiled from.
+#![tactic(auto)]
+
+mod laws;
+
+pub use laws::sources_compile_again;

@@ -1,0 +1,4 @@
+pub mod Asked
+pub mod Behind
+pub mod Fitting
+pub mod Serving

@@ -1,0 +1,4 @@
+pub mod LineLemmas
+pub mod ScriptLemmas
+pub mod SpellingLemmas
+pub mod StepLemmas

@@ -1,0 +1,3 @@
+pub mod Planned
+pub mod Reading
+pub mod Schema

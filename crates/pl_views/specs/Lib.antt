@@ -1,0 +1,3 @@
+pub mod CheckViews
+pub mod Ready
+pub mod RunViews

@@ -1,0 +1,3 @@
+mod Members
+pub mod Borders
+pub mod Sayings
