@@ -53,7 +53,7 @@ abbrev pub job_taken : List Fact → Event → Option JobOf
 job_taken facts (event.JobTaken run stage job agent) = job_at run stage job facts
 job_taken facts _ = None
 
--- the job that an agent holds: the one that it took last, until that ends
+-- the job that an agent holds, until that ends
 abbrev pub held_job : List Fact → List ℕ → Option JobOf
 held_job facts agent = option_and_then (λ fact. job_taken facts fact.event) (held_by agent facts)
 

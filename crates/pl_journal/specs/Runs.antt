@@ -1,5 +1,5 @@
 -- Runs, their stages and their jobs: the latest fact counts.
-use Rattle.std.specs.Prelude.{ℕ, Bool, false, not, ◌&&◌, List, [], ◌∷◌, flat_map}
+use Rattle.std.specs.Prelude.{ℕ, nat_lt, Bool, false, not, ◌&&◌, ◌||◌, List, [], ◌∷◌, flat_map}
 use Rattle.std.specs.Prelude.{Option, Some, None, is_none, is_some, if◌then◌else◌}
 use Rattle.std.specs.Option.{option_or, option_and_then, option_map_or}
 use Rattle.pl_base.specs.declared.outcome.Outcome.{Outcome}
@@ -8,12 +8,12 @@ use Rattle.pl_facts.specs.declared.fact.Event.TheVariants as event
 use Rattle.pl_facts.specs.declared.fact.Fact.{Fact}
 use Rattle.pl_facts.specs.declared.fact.QueuedRun.{QueuedRun}
 use Rattle.pl_rules.specs.declared.rule.Rule.{Rule}
-use Rattle.pl_journal.specs.About.{is_about, latest_also, latest_of}
+use Rattle.pl_journal.specs.About.{is_about, is_also_about, latest_also, latest_of}
 use Rattle.pl_journal.specs.Kinds.{is_queueing, is_canceling, is_start, is_stage_end}
 use Rattle.pl_journal.specs.Kinds.{is_decision_by, is_taking, is_job_end}
 use Rattle.pl_journal.specs.Settings.{by}
 use Rattle.pl_log.specs.Keys.{Run, Stage, Job, Taker}
-use Rattle.pl_log.specs.Latest.{latest_first}
+use Rattle.pl_log.specs.Latest.{latest, latest_first}
 
 -- ---- what one fact tells
 
@@ -113,10 +113,24 @@ abbrev pub still_runs : List Fact → Event → Bool
 still_runs facts (event.JobTaken run stage job agent) = is_none (job_ending run stage job facts)
 still_runs facts _ = false
 
--- the taking by which an agent holds a job: its latest, until that job's end
+-- The taking by which an agent holds a job. An agent takes a job only where it holds none, and
+-- moments never fall along the facts: what it took before the moment of its last taking has ended.
+-- Of the takings of that moment, though, the one whose job still runs needn't be the last: a service
+-- that is opened again has the facts of one moment in the order of its rows. So from its last taking
+-- back the first one counts whose job still runs, or which is older; and it holds the job where that
+-- still runs.
+abbrev pub decides : List Fact → ℕ → Fact → Bool
+decides facts last fact = still_runs facts fact.event || nat_lt fact.moment last
+
+abbrev pub if_running : List Fact → Fact → Option Fact
+if_running facts fact = if still_runs facts fact.event then Some fact else None
+
+abbrev pub held_at : List ℕ → List Fact → ℕ → Option Fact
+held_at agent facts last = option_and_then (if_running facts)
+    (latest (λ fact. is_also_about (Taker agent) fact && decides facts last fact) facts)
+
 abbrev pub held_by : List ℕ → List Fact → Option Fact
-held_by agent facts =
-    option_and_then (λ fact. if still_runs facts fact.event then Some fact else None)
+held_by agent facts = option_and_then (λ last. held_at agent facts last.moment)
     (latest_also (Taker agent) facts)
 
 -- the outputs of a job that ended by itself

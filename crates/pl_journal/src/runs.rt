@@ -5,12 +5,14 @@ ghost use Rattle.std.specs.Option.{option_copied};
 ghost use Rattle.pl_journal.specs.Runs as spec;
 ghost use Rattle.pl_journal.specs.Settings.{by};
 
+use crate::about::Logged;
 use crate::journal::Journal;
 use crate::kinds::What;
+use crate::looking::fact_of;
 use crate::told::{outputs_told, run_told};
-use pl_base::{List, Shared, Text};
+use pl_base::{List, Moment, Shared, Text};
 use pl_facts::{Event, Fact, QueuedRun};
-use pl_log::{Key, SecondKey};
+use pl_log::{Key, SecondKey, Test};
 
 impl Journal {
     /// The fact that a run was queued, or None where it wasn't. It takes no memory, as no look-up
@@ -104,12 +106,28 @@ impl Journal {
         }
     }
 
-    /// The taking by which an agent holds a job, or None where it holds none: its latest one, until
-    /// that job's end.
+    /// The taking by which an agent holds a job, or None where it holds none. It looks at those of
+    /// the moment at which the agent took a job last, and at one more: an agent takes a job only
+    /// where it holds none, so what it took before has ended.
     pub fn held_by(&self, agent: &Text) -> Option<&Fact>
         ensures { option_copied result ≡ spec.held_by agent.now self.now.facts }
     {
         match self.latest_also(SecondKey::Taker(agent)) {
+            Some(last) => self.held_since(agent, last.moment),
+            None => None,
+        }
+    }
+
+    /// The same, where the agent took a job last at this moment.
+    fn held_since(&self, agent: &Text, last: Moment) -> Option<&Fact>
+        ensures { option_copied result ≡ spec.held_at agent.now self.now.facts last }
+    {
+        let decides = Decides {
+            journal: self,
+            last,
+        };
+        let found = self.log.latest_second_of(SecondKey::Taker(agent), &decides);
+        match fact_of(found) {
             Some(fact) if self.still_runs(&fact.event) => Some(fact),
             _ => None,
         }
@@ -140,5 +158,21 @@ impl Journal {
             Some(fact) => outputs_told(&fact.event),
             None => None,
         }
+    }
+}
+
+/// Takings whose job still runs, or that are older than a moment.
+#[derive(Clone, Copy)]
+struct Decides<'j> {
+    journal: &'j Journal,
+    last: Moment,
+}
+
+impl Test<Logged> for Decides<'_> {
+    ghost passes = { λ decides fact.
+        spec.decides decides.journal.now.facts decides.last fact };
+
+    fn passes(&self, logged: &Logged) -> bool {
+        self.journal.still_runs(&logged.fact.event) || logged.fact.moment < self.last
     }
 }
