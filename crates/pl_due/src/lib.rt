@@ -10,6 +10,7 @@ mod eligible;
 mod ends;
 mod first_due;
 mod jobs;
+mod judged;
 mod judging;
 mod laws;
 mod nodes;
