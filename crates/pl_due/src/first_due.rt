@@ -12,10 +12,10 @@ use crate::contention::contenders;
 use crate::eligible::Running;
 use crate::ends::superseded_end;
 use crate::jobs::{FalseJobs, OutOfTime};
-use crate::judged::all_judged;
 use crate::open_stages::{Place, open_stages};
 use crate::scanning::first_stage;
 use crate::stages::{Done, FalseStages};
+use crate::verdicts::{AllJudged, all_judged};
 use pl_base::{Memory, Moment};
 use pl_claims::{any_superseded, next_of};
 use pl_facts::Event;
@@ -154,10 +154,10 @@ fn after_conditions(
     requires says { Least journal.now.facts (IsPassedOver journal.now.facts) None }
     ensures { IfOk result (FirstOf (drop 4 (findings journal.now.facts moment))) }
 {
-    let judged = all_judged(alloc, journal, moment, waiting)?;
-    match judged.fails {
+    let AllJudged { fails, eligible } = all_judged(alloc, journal, moment, waiting)?;
+    match fails {
         Some(event) => Ok(Some(event)),
-        None => by_locks(alloc, journal, moment, judged.eligible.as_slice(), running),
+        None => by_locks(alloc, journal, moment, eligible.as_slice(), running),
     }
 }
 

@@ -10,7 +10,6 @@ mod eligible;
 mod ends;
 mod first_due;
 mod jobs;
-mod judged;
 mod judging;
 mod laws;
 mod nodes;
@@ -19,6 +18,7 @@ mod open_stages;
 mod scanning;
 mod stage_at;
 mod stages;
+mod verdicts;
 
 pub use checked::{exclusive_uses, permits};
 pub use contention::{Contention, contender_of, contention_at};

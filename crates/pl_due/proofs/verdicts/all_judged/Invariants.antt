@@ -1,5 +1,5 @@
 use Rattle.pl_due.proofs.Once.{SoFar}
-use Rattle.pl_due.proofs.judged.all_judged.Given as goal
+use Rattle.pl_due.proofs.verdicts.all_judged.Given as goal
 
 -- what is told of the places that are left, behind those so far, is told of all
 abbrev pub invariant-loop-place : goal.invariant-loop-place

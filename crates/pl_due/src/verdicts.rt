@@ -18,9 +18,9 @@ use crate::nodes::is_waiting;
 use crate::open_stages::Place;
 use crate::stage_at::StageAt;
 use pl_base::{List, Memory, Moment};
-use pl_facts::Event;
+use pl_facts::{Event, Rule};
 use pl_journal::Journal;
-use pl_judgement::judgement_laws;
+use pl_judgement::{Judgement, judgement_laws};
 use pl_locks::Contender;
 use std::alloc::Global;
 
@@ -29,7 +29,7 @@ use std::alloc::Global;
 #[derive(Drop)]
 struct OneJudged {
     fails: Option<Event>,
-    eligible: Option<Contender>,
+    picked: Option<Contender>,
 }
 
 /// What is told of some stages: the end of the first of which a check fails, and where none does
@@ -55,14 +55,14 @@ pub(crate) fn all_judged(
 {
     let mut eligible = List::new(alloc);
     for place in places {
-        let one = judged_at(alloc, journal, moment, *place)?;
-        if let Some(event) = one.fails {
+        let OneJudged { fails, picked } = judged_at(alloc, journal, moment, *place)?;
+        if let Some(event) = fails {
             return Ok(AllJudged {
                 fails: Some(event),
                 eligible,
             });
         }
-        if let Some(stage) = one.eligible {
+        if let Some(stage) = picked {
             eligible.push(stage)?;
         }
     }
@@ -83,7 +83,7 @@ fn judged_at(
     requires fit { AreFit journal.now.facts }
     requires says { Least journal.now.facts (IsPassedOver journal.now.facts) None }
     ensures { IfOk result (λ told. OneJudged journal.now.facts moment place.run place.stage
-        told.fails told.eligible) }
+        told.fails told.picked) }
 {
     match journal.run(place.run) {
         Some(queued) => match queued.compiled.plan.stages.get(place.stage as usize) {
@@ -107,11 +107,11 @@ fn judged_at(
 /// That a stage neither ends nor contends.
 fn nothing() -> OneJudged
     ensures fails { result.fails ≡ None }
-    ensures eligible { result.eligible ≡ None }
+    ensures picked { result.picked ≡ None }
 {
     OneJudged {
         fails: None,
-        eligible: None,
+        picked: None,
     }
 }
 
@@ -120,7 +120,7 @@ fn judged(alloc: Global, at: &StageAt<'_>) -> Result<OneJudged, Memory>
     requires asked { IsAsked at.now }
     requires says { Least (facts_of at.now) (IsPassedOver (facts_of at.now)) None }
     ensures { IfOk result (λ told. OneJudged (facts_of at.now) at.now.moment at.now.run
-        at.now.stage told.fails told.eligible) }
+        at.now.stage told.fails told.picked) }
 {
     judgement_laws();
     if !is_waiting(at) {
@@ -128,16 +128,23 @@ fn judged(alloc: Global, at: &StageAt<'_>) -> Result<OneJudged, Memory>
     }
     let judgement = judgement(alloc, at)?;
     let passes = judgement.passes();
-    match judgement.fail {
+    match fail_of(judgement) {
         Some(rule) => Ok(OneJudged {
             fails: Some(fail_end(alloc, at.run, at.stage, rule)?),
-            eligible: None,
+            picked: None,
         }),
         None => Ok(OneJudged {
             fails: None,
-            eligible: contender_where(alloc, at, passes)?,
+            picked: contender_where(alloc, at, passes)?,
         }),
     }
+}
+
+/// The rule by which the first check fails that fails.
+fn fail_of(judgement: Judgement) -> Option<Rule>
+    ensures { result ≡ judgement.fail }
+{
+    judgement.fail
 }
 
 /// A waiting stage as a contender, where its checks pass and its pipeline may use what it uses.
