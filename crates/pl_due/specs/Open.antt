@@ -33,9 +33,9 @@ of_open facts test = flat_map (of_run facts test) (open_runs facts)
 
 -- ---- the tests
 
-abbrev pub runs : List Fact → Test
+abbrev pub runs : List Fact → List PlanStage → ℕ → ℕ → Bool
 runs facts stages run stage = is_running run stage facts
 
-abbrev pub waits : List Fact → Test
+abbrev pub waits : List Fact → List PlanStage → ℕ → ℕ → Bool
 waits facts stages run stage =
     option_map_or (λ one. is_waiting one run stage facts) (slice_get stages stage) false

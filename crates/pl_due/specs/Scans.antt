@@ -27,7 +27,7 @@ pub record HasStages (facts : List Fact) (P : InRun) (places : List Place) : Typ
       Contains places (at_place run stage)
 
 -- a stage that waits for no other stage
-abbrev pub Waits : List Fact → InRun
+abbrev pub Waits : List Fact → QueuedRun → PlanStage → ℕ → ℕ → Type 0
 Waits facts told one run stage = is_waiting one run stage facts ≡ true
 
 abbrev pub HasRunning : List Fact → List Place → Type 0

@@ -1,5 +1,4 @@
-use Rattle.std.proofs.Common.{inl, refl, subst, sym}
-use Rattle.pl_locks.specs.Locks.{IsSuperseded}
+use Rattle.std.proofs.Common.{inl, refl}
 use Rattle.pl_due.proofs.ByLocks.{given_up}
 use Rattle.pl_due.proofs.first_due.first_superseded.Goals as goal
 
