@@ -1,26 +1,25 @@
 -- What the set of taken resources and the map of latest runs tell of a stage.
-use Rattle.std.proofs.Common.{◌≡◌, ◌<◌, ◌≤◌, ◌+◌, ◌↔◌, ◌⊎◌, ℕ, zero, suc, Bool, true, false, cond}
+use Rattle.std.proofs.Common.{◌≡◌, ◌<◌, ◌≤◌, ◌↔◌, ◌⊎◌, ℕ, zero, suc, Bool, true, false, cond}
 use Rattle.std.proofs.Common.{List, [], ◌∷◌, ◌++◌, length, take, get_or, Option, Some, None, refl, sym}
 use Rattle.std.proofs.Common.{ap, ◌∙◌, subst, arith, inl, inr, ⊎_elim}
 use Rattle.std.specs.BTreeMap.{BTreeMap, get, is_at}
 use Rattle.std.specs.BTreeSet.{BTreeSet, contains}
-use Rattle.std.specs.List.{All, AllPairs, Any, Contains, list_any}
+use Rattle.std.specs.List.{All, Contains}
 use Rattle.std.specs.Option.{option_map_or}
 use Rattle.std.specs.Prelude.{IsTrue, nat_lt}
-use Rattle.std.proofs.lemmas.Bool.{cases_lt, false≢true}
+use Rattle.std.proofs.lemmas.Bool.{false≢true}
 use Rattle.std.proofs.lemmas.List.{get_or_default}
 use Rattle.std.proofs.lemmas.List.Elements.{Contains-append_cases, Contains-append_left}
 use Rattle.std.proofs.lemmas.List.Elements.{Contains-append_right}
 use Rattle.std.proofs.lemmas.List.Folds.{Any-from_list_any, list_any-from_Any}
-use Rattle.pl_base.specs.declared.outcome.Behaviour.TheVariants.{RunLatest}
 use Rattle.pl_base.specs.declared.resource.ResourceKey.{ResourceKey}
 use Rattle.pl_locks.specs.declared.contender.Contender.{Contender}
-use Rattle.pl_locks.specs.Locks.{ComesFirst, GivesWay, IsBehind, IsHeld, IsSuperseded, MayStart}
-use Rattle.pl_locks.specs.Locks.{Precedes, Shares}
+use Rattle.pl_locks.specs.Locks.{IsSuperseded, MayStart}
+use Rattle.pl_locks.specs.Locks.{Precedes}
 use Rattle.pl_locks.specs.Kept.{IsOrdered}
 use Rattle.pl_locks.proofs.Ordered.{lower}
 use Rattle.pl_claims.specs.Claims.{AreLast, AreTaken, GivesWayBy, claim_cmp, claim_of, has_claim}
-use Rattle.pl_claims.specs.Claims.{has_later, is_later, key_cmp, last_run, wants, wants_taken}
+use Rattle.pl_claims.specs.Claims.{is_later, key_cmp, last_run, wants, wants_taken}
 use Rattle.pl_claims.specs.declared.claim.Claim.{Claim}
 use Rattle.pl_claims.proofs.Orders.{claim_itself, key_itself, same_claim, same_key}
 

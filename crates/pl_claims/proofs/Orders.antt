@@ -1,7 +1,7 @@
 -- Resources, and claims, are one exactly where they compare alike.
 use Rattle.std.proofs.Common.{◌≡◌, true, List, ℕ, refl, ap}
 use Rattle.std.specs.BTreeMap.{is_at}
-use Rattle.std.specs.Cmp.{Equal-is, IsTotalOrder, tied_itself}
+use Rattle.std.specs.Cmp.{Equal-is, tied_itself}
 use Rattle.std.specs.Ordering.{is_eq}
 use Rattle.std.proofs.lemmas.Map.Lookups.{CmpEqualImpliesEq, exact_bytes, exact_pairs}
 use Rattle.pl_base.specs.Files.{text_cmp}
