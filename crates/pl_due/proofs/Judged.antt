@@ -252,9 +252,10 @@ module _ (facts : List Fact) (moment : ℕ) (told : QueuedRun) (one : PlanStage)
               (eligible_if passes tells waits permitted says)
           go false lacks =
               subst (λ p. IsTrue p ↔ IsEligible facts moment told one run stage)
-              (sym (ap (λ p. passes && p) lacks ∙ and_false passes))
-              (λ holds. absurd (false≢true holds),
-              λ is. absurd (clash (is_permitted facts told one) lacks is.permitted))
+              (sym (ap (λ p. passes && p) lacks ∙ and_false passes)) (
+                λ holds. absurd (false≢true holds),
+                λ is. absurd (clash (is_permitted facts told one) lacks is.permitted),
+              )
 
     pub fails_idle : is_waiting one run stage facts ≡ false →
         FirstJob (Fails facts moment told one run stage) None

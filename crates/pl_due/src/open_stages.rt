@@ -3,7 +3,6 @@
 ghost use Rattle.std.specs.Prelude.{◌≡◌, ◌++◌, ◌<◌, ◌^◌, IfOk, OnOk, cond, flat_map, length, ◌∷◌, []};
 ghost use Rattle.pl_due.specs.Open as spec;
 ghost use Rattle.pl_due.specs.Fit.{AreFit};
-ghost use Rattle.pl_due.specs.Nodes as nodes;
 
 use crate::nodes::{is_running, waits};
 use pl_base::{List, Memory};
@@ -93,28 +92,19 @@ fn push_stages(
 {
     for stage in 0..stages.len() as u32 {
         let planned = &stages[stage as usize];
-        push_stage(running, waiting, journal, Place { run, stage }, planned)?;
+        let place = Place { run, stage };
+        push_if(running, place, is_running(journal, run, stage))?;
+        push_if(waiting, place, waits(journal, run, stage, planned))?;
     }
     Ok(())
 }
 
-/// Puts a stage behind those that run, or behind those that wait, or nowhere.
-fn push_stage(
-    running: &mut List<Place>,
-    waiting: &mut List<Place>,
-    journal: &Journal,
-    place: Place,
-    planned: &PlanStage,
-) -> Result<(), Memory>
-    ensures running { OnOk result (running.new ≡ running.old ++ cond
-        (nodes.is_running place.run place.stage journal.now.facts) (place ∷ []) []) }
-    ensures waiting { OnOk result (waiting.new ≡ waiting.old ++ cond
-        (nodes.is_waiting planned.now place.run place.stage journal.now.facts) (place ∷ []) []) }
+/// Puts a stage behind others, where it is one of them.
+fn push_if(places: &mut List<Place>, place: Place, is_one: bool) -> Result<(), Memory>
+    ensures { OnOk result (places.new ≡ places.old ++ cond is_one (place ∷ []) []) }
 {
-    if is_running(journal, place.run, place.stage) {
-        running.push(place)?;
-    } else if waits(journal, place.run, place.stage, planned) {
-        waiting.push(place)?;
+    if is_one {
+        places.push(place)?;
     }
     Ok(())
 }
