@@ -65,6 +65,14 @@ says_false false c h = absurd (false≢true h)
 pub passed_by : (b c : Bool) → b ≡ true → c ≡ false → (b && not c) ≡ true
 passed_by b c x y = ap (λ t. t && not c) x ∙ ap not y
 
+and_true : (b : Bool) → (b && true) ≡ b
+and_true true = refl
+and_true false = refl
+
+and_false : (b : Bool) → (b && false) ≡ false
+and_false true = refl
+and_false false = refl
+
 -- ---- kinds
 
 module _ (facts : List Fact) (moment : ℕ) (told : QueuedRun) (one : PlanStage) (run stage : ℕ)
@@ -227,6 +235,27 @@ module _ (facts : List Fact) (moment : ℕ) (told : QueuedRun) (one : PlanStage)
             },
             λ is. tells is.verdicts (sums_of is.verdicts is.are) ∙ is.pass,
           )
+
+      -- with what its pipeline may use
+      pub eligible_both : (passes : Bool) →
+          ((verdicts : List Verdict) → Sums verdicts judgement → passes ≡ all_pass verdicts) →
+          is_waiting one run stage facts ≡ true → condition told run (Stage stage) facts ≡ true →
+          IsTrue (passes && is_permitted facts told one) ↔ IsEligible facts moment told one run stage
+      eligible_both passes tells waits says = go (is_permitted facts told one) refl
+        where
+          go : (b : Bool) → is_permitted facts told one ≡ b →
+              IsTrue (passes && is_permitted facts told one)
+              ↔ IsEligible facts moment told one run stage
+          go true permitted =
+              subst (λ p. IsTrue p ↔ IsEligible facts moment told one run stage)
+              (sym (ap (λ p. passes && p) permitted ∙ and_true passes))
+              (eligible_if passes tells waits permitted says)
+          go false lacks =
+              subst (λ p. IsTrue p ↔ IsEligible facts moment told one run stage)
+              (sym (ap (λ p. passes && p) lacks ∙ and_false passes)) (
+                λ holds. absurd (false≢true holds),
+                λ is. absurd (clash (is_permitted facts told one) lacks is.permitted),
+              )
 
     pub fails_idle : is_waiting one run stage facts ≡ false →
         FirstJob (Fails facts moment told one run stage) None

@@ -5,6 +5,7 @@ pub mod InOrder
 pub mod Judged
 pub mod Looping
 pub mod Members
+pub mod Once
 pub mod OneDue
 pub mod OneStage
 pub mod Opened

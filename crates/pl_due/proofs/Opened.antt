@@ -1,4 +1,4 @@
--- The stages of open runs that haven't ended are all stages of queued runs that haven't.
+-- The stages of open runs that run, or wait, are all stages of queued runs that do.
 use Rattle.std.proofs.Common.{◌≡◌, ◌<◌, ◌+◌, ◌⊎◌, eqb, ℕ, Bool, true, false, List, []}
 use Rattle.std.proofs.Common.{◌∷◌, ◌++◌, length, map, flat_map, Option, Some, None, is_none}
 use Rattle.std.proofs.Common.{refl, sym, ap, ◌∙◌, subst, arith, inl, inr, ⊎_elim}
@@ -11,7 +11,7 @@ use Rattle.std.proofs.lemmas.List.Elements.{Contains-append_right}
 use Rattle.std.proofs.lemmas.List.Folds.{Any-from_list_any, list_any-from_Any}
 use Rattle.std.proofs.lemmas.List.FromFn.{get_or-range_with_len, length-range_with_len}
 use Rattle.std.proofs.lemmas.List.Kept.{AllPairs-filter}
-use Rattle.std.proofs.lemmas.Option.{slice_get_within}
+use Rattle.std.proofs.lemmas.Option.{slice_get_read, slice_get_within}
 use Rattle.pl_facts.specs.declared.fact.Fact.{Fact}
 use Rattle.pl_facts.specs.declared.fact.QueuedRun.{QueuedRun}
 use Rattle.pl_journal.specs.Runs.{queueing, run_told, stage_end}
@@ -19,10 +19,12 @@ use Rattle.pl_journal.specs.Settings.{by}
 use Rattle.pl_open_runs.specs.Open.{is_open, open_runs}
 use Rattle.pl_plan.specs.declared.plan.PlanStage.{PlanStage}
 use Rattle.pl_due.specs.declared.open_stages.Place.{Place}
-use Rattle.pl_due.specs.Nodes.{IsStageOf}
-use Rattle.pl_due.specs.Open.{at_place, open_among, open_of_run, open_places}
-use Rattle.pl_due.specs.Scans.{HasOpenStages, IsBefore}
+use Rattle.pl_due.specs.Contention.{Holds, InRun}
+use Rattle.pl_due.specs.Nodes.{IsStageOf, is_waiting}
+use Rattle.pl_due.specs.Open.{Test, at_place, of_open, of_run, passing, runs, waits}
+use Rattle.pl_due.specs.Scans.{HasRunning, HasStages, HasWaiting, IsBefore, Waits}
 use Rattle.pl_due.proofs.Members.{cons_cases, head_before, here, pairs_append, tail_pairs, there}
+use Rattle.pl_due.proofs.Standing.{running_open, waiting_open}
 
 -- ---- lists
 
@@ -92,23 +94,7 @@ range_in count n less =
     let same : 0 + n ≡ n = omega arith in
     (n, omega (arith, len, less), get_or-range_with_len 0 count n n less ∙ same)
 
--- ---- stages of one run
-
-among_run : (facts : List Fact) (run count : ℕ) (at : Place) →
-    Contains (open_among facts run count) at → at.run ≡ run
-among_run facts run count at in_it =
-    let (stage, in_xs, is) = map_from (at_place run) at
-    (filter (λ s. is_none (stage_end run s facts)) (range_with_len 0 count)) in_it in
-    sym (ap (λ (p : Place). p.run) is)
-
-of_run : (facts : List Fact) (run : ℕ) (at : Place) → Contains (open_of_run facts run) at →
-    at.run ≡ run
-of_run facts run at = go (by run_told (queueing run facts))
-  where
-    go : (told : Option QueuedRun) → Contains (option_map_or
-        (λ t. open_among facts run (length t.compiled.plan.stages)) told []) at → at.run ≡ run
-    go None (k, below, is) = absurd (omega arith)
-    go (Some t) in_it = among_run facts run (length t.compiled.plan.stages) at in_it
+-- ---- places of one run, and counted ones
 
 map_pairs : (run : ℕ) (stages : List ℕ) → AllPairs (λ a b. a < b) stages →
     AllPairs IsBefore (map (at_place run) stages)
@@ -132,45 +118,77 @@ range_pairs count = λ i j d less within.
     let b = get_or-range_with_len 0 count j d (omega (arith, len, within)) in
     rw (a, b) (omega (arith, less))
 
-run_pairs : (facts : List Fact) (run : ℕ) → AllPairs IsBefore (open_of_run facts run)
-run_pairs facts run = go (by run_told (queueing run facts))
-  where
-    go : (told : Option QueuedRun) → AllPairs IsBefore (option_map_or
-        (λ t. open_among facts run (length t.compiled.plan.stages)) told [])
-    go None = λ i j d less within. absurd (omega arith)
-    go (Some t) =
-        let count = length t.compiled.plan.stages in
-        map_pairs run (filter (λ s. is_none (stage_end run s facts)) (range_with_len 0 count))
-        (AllPairs-filter (λ a b. a < b) (λ s. is_none (stage_end run s facts))
-        (range_with_len 0 count) (range_pairs count))
+-- ---- stages of one run that pass a test
 
-pub of_told : (facts : List Fact) (run : ℕ) (told : QueuedRun) →
-    by run_told (queueing run facts) ≡ Some told →
-    open_of_run facts run ≡ open_among facts run (length told.compiled.plan.stages)
-of_told facts run told is = ap (λ (o : Option QueuedRun). option_map_or
-    (λ (t : QueuedRun). open_among facts run (length t.compiled.plan.stages)) o []) is
+module _ (facts : List Fact) (test : Test) where
+  among_run : (stages : List PlanStage) (run count : ℕ) (at : Place) →
+      Contains (passing test stages run count) at → at.run ≡ run
+  among_run stages run count at in_it =
+      let (stage, in_xs, is) = map_from (at_place run) at
+      (filter (test stages run) (range_with_len 0 count)) in_it in
+      sym (ap (λ (p : Place). p.run) is)
 
-pub no_run : (facts : List Fact) (run : ℕ) (places : List Place) →
-    by run_told (queueing run facts) ≡ None → places ≡ places ++ open_of_run facts run
-no_run facts run places is = sym (append-nil places) ∙ ap (λ more. places ++ more)
-    (sym (ap (λ (o : Option QueuedRun). option_map_or
-    (λ (t : QueuedRun). open_among facts run (length t.compiled.plan.stages)) o []) is))
+  abbrev of_queued : ℕ → Option QueuedRun → List Place
+  of_queued run told = option_map_or (λ (t : QueuedRun). passing test t.compiled.plan.stages run
+      (length t.compiled.plan.stages)) told []
 
--- ---- of all
+  in_its_run : (run : ℕ) (at : Place) → Contains (of_run facts test run) at → at.run ≡ run
+  in_its_run run at = go (by run_told (queueing run facts))
+    where
+      go : (told : Option QueuedRun) → Contains (of_queued run told) at → at.run ≡ run
+      go None (k, below, is) = absurd (omega arith)
+      go (Some t) in_it =
+          among_run t.compiled.plan.stages run (length t.compiled.plan.stages) at in_it
 
-all_pairs : (facts : List Fact) (runs : List ℕ) → AllPairs (λ a b. a < b) runs →
-    AllPairs IsBefore (flat_map (open_of_run facts) runs)
-all_pairs facts [] pairs = λ i j d less within. absurd (omega arith)
-all_pairs facts (run ∷ runs) pairs =
-    subst (AllPairs IsBefore) (sym (flat_map-cons (open_of_run facts) run runs))
-    (pairs_append IsBefore (open_of_run facts run) (flat_map (open_of_run facts) runs)
-    (run_pairs facts run) (all_pairs facts runs (tail_pairs (λ a b. a < b) run runs pairs))
-    (λ x y in_run in_rest.
-    let (other, in_runs, in_other) = flat_from (open_of_run facts) y runs in_rest in
-    let a = of_run facts run x in_run in
-    let b = of_run facts other y in_other in
-    let less = head_before (λ m n. m < n) run other runs pairs in_runs in
-    inl (omega (arith, a, b, less))))
+  run_pairs : (run : ℕ) → AllPairs IsBefore (of_run facts test run)
+  run_pairs run = go (by run_told (queueing run facts))
+    where
+      go : (told : Option QueuedRun) → AllPairs IsBefore (of_queued run told)
+      go None = λ i j d less within. absurd (omega arith)
+      go (Some t) =
+          let count = length t.compiled.plan.stages in
+          map_pairs run (filter (test t.compiled.plan.stages run) (range_with_len 0 count))
+          (AllPairs-filter (λ a b. a < b) (test t.compiled.plan.stages run)
+          (range_with_len 0 count) (range_pairs count))
+
+  pub of_told : (run : ℕ) (told : QueuedRun) → by run_told (queueing run facts) ≡ Some told →
+      of_run facts test run
+      ≡ passing test told.compiled.plan.stages run (length told.compiled.plan.stages)
+  of_told run told is = ap (of_queued run) is
+
+  pub no_run : (run : ℕ) (places : List Place) → by run_told (queueing run facts) ≡ None →
+      places ≡ places ++ of_run facts test run
+  no_run run places is = sym (append-nil places) ∙ ap (λ more. places ++ more)
+      (sym (ap (of_queued run) is))
+
+  -- ---- of all runs
+
+  all_pairs : (runs : List ℕ) → AllPairs (λ a b. a < b) runs →
+      AllPairs IsBefore (flat_map (of_run facts test) runs)
+  all_pairs [] pairs = λ i j d less within. absurd (omega arith)
+  all_pairs (run ∷ runs) pairs =
+      subst (AllPairs IsBefore) (sym (flat_map-cons (of_run facts test) run runs))
+      (pairs_append IsBefore (of_run facts test run) (flat_map (of_run facts test) runs)
+      (run_pairs run) (all_pairs runs (tail_pairs (λ a b. a < b) run runs pairs))
+      (λ x y in_run in_rest.
+      let (other, in_runs, in_other) = flat_from (of_run facts test) y runs in_rest in
+      let a = in_its_run run x in_run in
+      let b = in_its_run other y in_other in
+      let less = head_before (λ m n. m < n) run other runs pairs in_runs in
+      inl (omega (arith, a, b, less))))
+
+  in_run : (told : QueuedRun) (one : PlanStage) (run stage : ℕ) →
+      IsStageOf facts run stage told one → test told.compiled.plan.stages run stage ≡ true →
+      Contains (of_run facts test run) (at_place run stage)
+  in_run told one run stage is passes =
+      let stages = told.compiled.plan.stages in
+      let within = slice_get_within stages stage one is.planned in
+      rw is.queued (map_in (at_place run) stage
+      (filter (test stages run) (range_with_len 0 (length stages)))
+      (filter_in (test stages run) stage (range_with_len 0 (length stages)) passes
+      (range_in (length stages) stage within)))
+
+-- ---- open runs
 
 eqb_same : (a b : ℕ) → eqb a b ≡ true → a ≡ b
 eqb_same a b h = grind arith
@@ -192,25 +210,39 @@ open_run facts told one run stage is unended =
     rw is.queued (list_any-from_Any (λ s. is_none (stage_end run s facts))
     (range_with_len 0 (length told.compiled.plan.stages)) (k, stage, below, at, here))
 
-in_run : (facts : List Fact) (told : QueuedRun) (one : PlanStage) (run stage : ℕ) →
-    IsStageOf facts run stage told one → stage_end run stage facts ≡ None →
-    Contains (open_of_run facts run) (at_place run stage)
-in_run facts told one run stage is unended =
-    let count = length told.compiled.plan.stages in
-    let within = slice_get_within told.compiled.plan.stages stage one is.planned in
-    let here : is_none (stage_end run stage facts) ≡ true = ap is_none unended in
-    rw is.queued (map_in (at_place run) stage
-    (filter (λ s. is_none (stage_end run s facts)) (range_with_len 0 count))
-    (filter_in (λ s. is_none (stage_end run s facts)) stage (range_with_len 0 count) here
-    (range_in count stage within)))
+module _ (facts : List Fact) (ascend : AllPairs (λ a b. a < b) (open_runs facts))
+    (hold : (run : ℕ) →
+    list_any (λ one. eqb one run) (open_runs facts) ≡ is_open run facts) where
+  -- those that pass a test are among those of open runs, where they haven't ended
+  has_stages : (test : Test) (P : InRun) → ((told : QueuedRun) (one : PlanStage) (run stage : ℕ) →
+      IsStageOf facts run stage told one → P told one run stage →
+      (test told.compiled.plan.stages run stage ≡ true) × (stage_end run stage facts ≡ None)) →
+      HasStages facts P (of_open facts test)
+  has_stages test P passes = record {
+    ordered = all_pairs facts test (open_runs facts) ascend;
+    all = λ told one run stage is holds.
+        let (h, unended) = passes told one run stage is holds in
+        flat_in (of_run facts test) run (at_place run stage) (open_runs facts)
+        (run_in (open_runs facts) run (hold run ∙ open_run facts told one run stage is unended))
+        (in_run facts test told one run stage is h);
+  }
 
-pub has_open_stages : (facts : List Fact) → AllPairs (λ a b. a < b) (open_runs facts) →
-    ((run : ℕ) → list_any (λ one. eqb one run) (open_runs facts) ≡ is_open run facts) →
-    HasOpenStages facts (open_places facts)
-has_open_stages facts ascend hold = record {
-  ordered = all_pairs facts (open_runs facts) ascend;
-  all = λ told one run stage is unended.
-      flat_in (open_of_run facts) run (at_place run stage) (open_runs facts)
-      (run_in (open_runs facts) run (hold run ∙ open_run facts told one run stage is unended))
-      (in_run facts told one run stage is unended);
-}
+  pub has_running : HasRunning facts (of_open facts (runs facts))
+  has_running = has_stages (runs facts) (Holds facts)
+      (λ told one run stage is holds. (holds, running_open run stage facts holds))
+
+  pub has_waiting : HasWaiting facts (of_open facts (waits facts))
+  has_waiting = has_stages (waits facts) (Waits facts)
+      (λ told one run stage is holds. (
+        ap (λ o. option_map_or (λ (p : PlanStage). is_waiting p run stage facts) o false)
+            is.planned ∙ holds,
+        waiting_open one run stage facts holds,
+      ))
+
+-- whether a stage waits is told of the stage at its place
+pub waits_at : (facts : List Fact) (stages : List PlanStage) (run stage : ℕ) (one : PlanStage) →
+    stage < length stages → one ≡ get_or stages stage one →
+    waits facts stages run stage ≡ is_waiting one run stage facts
+waits_at facts stages run stage one within is =
+    ap (λ o. option_map_or (λ (p : PlanStage). is_waiting p run stage facts) o false)
+    (slice_get_read stages (length stages) stage one refl within is)

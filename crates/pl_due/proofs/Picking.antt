@@ -1,13 +1,14 @@
 -- The stages that are picked from those in order are all of which something holds.
-use Rattle.std.proofs.Common.{◌≡◌, ◌<◌, ◌+◌, ◌⊎◌, ℕ, List, [], ◌∷◌, ◌++◌, length, get_or, drop}
-use Rattle.std.proofs.Common.{Some, None, refl, sym, ap, ◌∙◌, subst, arith, inl, inr}
-use Rattle.std.proofs.Common.{⊎_elim}
+use Rattle.std.proofs.Common.{◌≡◌, ◌<◌, ◌+◌, ◌⊎◌, ◌↔◌, ℕ, Bool, true, false, cond, List, [], ◌∷◌}
+use Rattle.std.proofs.Common.{◌++◌, length, get_or, drop, Option, Some, None, refl, sym, ap, ◌∙◌}
+use Rattle.std.proofs.Common.{subst, arith, inl, inr, ⊎_elim}
+use Rattle.std.specs.Prelude.{IsTrue}
+use Rattle.std.proofs.lemmas.Bool.{false≢true}
 use Rattle.std.specs.List.{AllPairs, Any, Contains}
 use Rattle.std.proofs.lemmas.List.{append_assoc, drop_more}
 use Rattle.std.proofs.lemmas.List.Kept.{AllPairs-cons}
 use Rattle.pl_facts.specs.declared.fact.Fact.{Fact}
 use Rattle.pl_facts.specs.declared.fact.QueuedRun.{QueuedRun}
-use Rattle.pl_journal.specs.Runs.{stage_end}
 use Rattle.pl_locks.specs.Locks.{IsAt, Precedes}
 use Rattle.pl_locks.specs.Kept.{IsOrdered}
 use Rattle.pl_locks.specs.declared.contender.Contender.{Contender}
@@ -16,7 +17,7 @@ use Rattle.pl_due.specs.declared.open_stages.Place.{Place}
 use Rattle.pl_due.specs.Contention.{AreThose, InRun, IsOne, contender_of}
 use Rattle.pl_due.specs.Nodes.{IsStageOf}
 use Rattle.pl_due.specs.Open.{at_place}
-use Rattle.pl_due.specs.Scans.{HasOpenStages, IsBefore, IsPicked, Picked}
+use Rattle.pl_due.specs.Scans.{HasStages, IsBefore, IsPicked, Picked}
 use Rattle.pl_due.proofs.Members.{all_from, any_there, cons_cases, head_before, here, tail_pairs}
 use Rattle.pl_due.proofs.Members.{there}
 use Rattle.pl_due.proofs.OneStage.{moved}
@@ -132,12 +133,12 @@ module _ (facts : List Fact) (P : InRun) where
       (λ behind. all_picked places picked others at behind told one is_there holds)
       (cons_cases at first places in_places)
 
-  -- where it holds of stages alone that haven't ended
-  pub are_those : (places : List Place) (picked : List Contender) → HasOpenStages facts places →
+  -- where it holds of no other stages
+  pub are_those : (Q : InRun) (places : List Place) (picked : List Contender) →
+      HasStages facts Q places →
       ((told : QueuedRun) (one : PlanStage) (run stage : ℕ) → P told one run stage →
-      stage_end run stage facts ≡ None) → Picked facts P places picked →
-      AreThose facts P picked
-  are_those places picked has_open stays is = record {
+      Q told one run stage) → Picked facts P places picked → AreThose facts P picked
+  are_those Q places picked has_open stays is = record {
     ordered = in_order places picked has_open.ordered is;
     only = all_from (IsOne facts P) picked (λ stage in_picked.
         (comes_from places picked is stage in_picked).one);
@@ -162,3 +163,11 @@ module _ (facts : List Fact) (P : InRun) (told : QueuedRun) (one : PlanStage) (r
   pub not_picked : (P told one run stage → ⊥) → IsPicked facts P run stage None
   not_picked none = λ t o is_there holds.
       none (moved facts run stage t told o one (λ x y. P x y run stage) is_there there holds)
+
+  pub picked_if : (b : Bool) → IsTrue b ↔ P told one run stage → (picked : Option Contender) →
+      picked ≡ cond b (Some (contender_of facts told one run stage)) None →
+      IsPicked facts P run stage picked
+  picked_if true tells picked is = subst (IsPicked facts P run stage) (sym is)
+      (picked_one (contender_of facts told one run stage) (tells.0 refl) refl)
+  picked_if false tells picked is = subst (IsPicked facts P run stage) (sym is)
+      (not_picked (λ holds. false≢true (tells.1 holds)))

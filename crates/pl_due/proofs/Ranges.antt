@@ -1,6 +1,6 @@
 -- Turns of loops over places.
 use Rattle.std.proofs.Common.{◌≡◌, ◌<◌, ◌≤◌, ◌+◌, ◌&&◌, ℕ, Bool, true, false, cond, List, [], ◌∷◌}
-use Rattle.std.proofs.Common.{◌++◌, length, map, Option, Some, None, is_none, refl, sym, ap}
+use Rattle.std.proofs.Common.{◌++◌, length, map, Option, Some, None, refl, sym, ap}
 use Rattle.std.proofs.Common.{◌∙◌, subst, arith, ⊎_elim}
 use Rattle.std.specs.List.{filter, filter_map, list_all, range_with_len, cons_option}
 use Rattle.std.proofs.lemmas.Bool.{cases_lt}
@@ -8,11 +8,10 @@ use Rattle.std.proofs.lemmas.List.{append_assoc, append-nil, map-append}
 use Rattle.std.proofs.lemmas.List.Elements.{filter-append, filter_map-append}
 use Rattle.std.proofs.lemmas.List.Folds.{list_all-append, list_all_at}
 use Rattle.std.proofs.lemmas.List.FromFn.{get_or-range_with_len, length-range_with_len}
-use Rattle.pl_facts.specs.declared.fact.Fact.{Fact}
-use Rattle.pl_journal.specs.Runs.{stage_end}
+use Rattle.pl_plan.specs.declared.plan.PlanStage.{PlanStage}
 use Rattle.pl_results.proofs.Turns.{range_more}
 use Rattle.pl_due.specs.declared.open_stages.Place.{Place}
-use Rattle.pl_due.specs.Open.{at_place, open_among}
+use Rattle.pl_due.specs.Open.{Test, at_place, passing}
 use Rattle.pl_due.specs.Scans.{IsFirstTrue}
 
 more : (n : ℕ) → range_with_len 0 n ++ n ∷ [] ≡ range_with_len 0 (n + 1)
@@ -54,43 +53,33 @@ made_none h n old new so_far is same =
     ∙ sym (filter_map-append h (range_with_len 0 n) (n ∷ []))
     ∙ ap (filter_map h) (more n)
 
--- ---- stages that haven't ended
+-- ---- stages that pass a test
 
-module _ (facts : List Fact) (run n : ℕ) (before old new : List Place) where
-  grown : (b : Bool) → is_none (stage_end run n facts) ≡ b →
-      open_among facts run (n + 1) ≡ open_among facts run n ++ cond b (at_place run n ∷ []) []
-  grown b is =
-      ap (λ ns. map (at_place run) (filter (λ s. is_none (stage_end run s facts)) ns))
-      (sym (more n))
-      ∙ ap (map (at_place run)) (filter-append (λ s. is_none (stage_end run s facts))
-      (range_with_len 0 n) (n ∷ []))
-      ∙ map-append (at_place run) (filter (λ s. is_none (stage_end run s facts))
-      (range_with_len 0 n)) (filter (λ s. is_none (stage_end run s facts)) (n ∷ []))
-      ∙ ap (λ ns. open_among facts run n ++ map (at_place run) ns) (one b is)
-      ∙ ap (λ ps. open_among facts run n ++ ps) (made b)
+module _ (test : Test) (stages : List PlanStage) (run n : ℕ) where
+  passing_more : passing test stages run (n + 1)
+      ≡ passing test stages run n ++ cond (test stages run n) (at_place run n ∷ []) []
+  passing_more =
+      ap (λ ns. map (at_place run) (filter (test stages run) ns)) (sym (more n))
+      ∙ ap (map (at_place run)) (filter-append (test stages run) (range_with_len 0 n) (n ∷ []))
+      ∙ map-append (at_place run) (filter (test stages run) (range_with_len 0 n))
+      (filter (test stages run) (n ∷ []))
+      ∙ ap (λ ps. passing test stages run n ++ ps) (made (test stages run n))
     where
-      one : (b : Bool) → is_none (stage_end run n facts) ≡ b →
-          filter (λ s. is_none (stage_end run s facts)) (n ∷ []) ≡ cond b (n ∷ []) []
-      one b is = ap (λ t. cond t (n ∷ []) []) is
-
-      made : (b : Bool) → map (at_place run) (cond b (n ∷ []) []) ≡ cond b (at_place run n ∷ []) []
+      made : (b : Bool) →
+          map (at_place run) (cond b (n ∷ []) []) ≡ cond b (at_place run n ∷ []) []
       made true = refl
       made false = refl
 
-  pub opened_some : old ≡ before ++ open_among facts run n →
-      is_none (stage_end run n facts) ≡ true → new ≡ old ++ at_place run n ∷ [] →
-      new ≡ before ++ open_among facts run (n + 1)
-  opened_some so_far is pushed =
-      pushed ∙ ap (λ ps. ps ++ at_place run n ∷ []) so_far
-      ∙ append_assoc before (open_among facts run n) (at_place run n ∷ [])
-      ∙ ap (λ ps. before ++ ps) (sym (grown true is))
-
-  pub opened_none : old ≡ before ++ open_among facts run n →
-      is_none (stage_end run n facts) ≡ false → new ≡ old →
-      new ≡ before ++ open_among facts run (n + 1)
-  opened_none so_far is same =
-      same ∙ so_far ∙ ap (λ ps. before ++ ps) (sym (append-nil (open_among facts run n))
-      ∙ sym (grown false is))
+  -- one more is put behind those before it
+  pub passed : (before old new : List Place) (b : Bool) → test stages run n ≡ b →
+      old ≡ before ++ passing test stages run n →
+      new ≡ old ++ cond b (at_place run n ∷ []) [] →
+      new ≡ before ++ passing test stages run (n + 1)
+  passed before old new b is so_far put =
+      put ∙ ap (λ ps. ps ++ cond b (at_place run n ∷ []) []) so_far
+      ∙ append_assoc before (passing test stages run n) (cond b (at_place run n ∷ []) [])
+      ∙ ap (λ t. before ++ passing test stages run n ++ cond t (at_place run n ∷ []) []) (sym is)
+      ∙ ap (λ ps. before ++ ps) (sym passing_more)
 
 -- ---- the first place that passes
 

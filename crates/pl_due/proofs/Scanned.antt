@@ -6,13 +6,13 @@ use Rattle.std.proofs.lemmas.List.{drop_more}
 use Rattle.pl_facts.specs.declared.fact.Event.{Event}
 use Rattle.pl_facts.specs.declared.fact.Fact.{Fact}
 use Rattle.pl_facts.specs.declared.fact.QueuedRun.{QueuedRun}
-use Rattle.pl_journal.specs.Runs.{stage_end}
 use Rattle.pl_plan.specs.declared.plan.PlanStage.{PlanStage}
 use Rattle.pl_due.specs.declared.open_stages.Place.{Place}
 use Rattle.pl_due.specs.Least.{InStage, Least, OfStages}
 use Rattle.pl_due.specs.Nodes.{IsStageOf}
 use Rattle.pl_due.specs.Open.{at_place}
-use Rattle.pl_due.specs.Scans.{FirstJob, FirstStage, HasOpenStages, IsBefore}
+use Rattle.pl_due.specs.Contention.{InRun}
+use Rattle.pl_due.specs.Scans.{FirstJob, FirstStage, HasStages, IsBefore}
 use Rattle.pl_due.proofs.Members.{cons_cases, head_before, here, tail_pairs, there}
 use Rattle.pl_due.proofs.OneStage.{moved}
 
@@ -118,17 +118,17 @@ module _ (facts : List Fact) (kind : InStage) where
         },
       )
 
-  -- where what is of the kind is of a stage that hasn't ended
-  pub least_of_all : (places : List Place) (found : Option Event) →
-      HasOpenStages facts places →
+  -- where what is of the kind is of one of these stages
+  pub least_of_all : (P : InRun) (places : List Place) (found : Option Event) →
+      HasStages facts P places →
       ((told : QueuedRun) (one : PlanStage) (run stage job : ℕ) (event : Event) →
-      kind told one run stage job event → stage_end run stage facts ≡ None) →
+      kind told one run stage job event → P told one run stage) →
       FirstStage facts kind places found → Least facts kind found
-  least_of_all places None has_open stays found = λ run stage job event (told, one, is, k).
+  least_of_all P places None has_open stays found = λ run stage job event (told, one, is, k).
       none_among places found (at_place run stage)
       (has_open.all told one run stage is (stays told one run stage job event k))
       job event (told, one, is, k)
-  least_of_all places (Some event) has_open stays found =
+  least_of_all P places (Some event) has_open stays found =
       let (at, there) = found_among places event has_open.ordered found in
       let (job, k, least) = there.first in
       record {

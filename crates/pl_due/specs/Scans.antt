@@ -4,14 +4,14 @@ use Rattle.std.specs.Prelude.{Contains, Option, Some, None}
 use Rattle.pl_facts.specs.declared.fact.Event.{Event}
 use Rattle.pl_facts.specs.declared.fact.Fact.{Fact}
 use Rattle.pl_facts.specs.declared.fact.QueuedRun.{QueuedRun}
-use Rattle.pl_journal.specs.Runs.{stage_end}
 use Rattle.pl_locks.specs.Locks.{IsAt}
 use Rattle.pl_locks.specs.declared.contender.Contender.{Contender}
 use Rattle.pl_plan.specs.declared.plan.PlanStage.{PlanStage}
 use Rattle.pl_due.specs.declared.open_stages.Place.{Place}
-use Rattle.pl_due.specs.Contention.{InRun, IsOne}
+use Rattle.pl_due.specs.Contention.{Holds, InRun, IsEligible, IsOne}
 use Rattle.pl_due.specs.Least.{InStage, OfStages}
-use Rattle.pl_due.specs.Nodes.{IsStageOf}
+use Rattle.pl_due.specs.Kinds.{Fails}
+use Rattle.pl_due.specs.Nodes.{IsStageOf, is_waiting}
 use Rattle.pl_due.specs.Open.{at_place}
 
 -- ---- stages by run and place
@@ -19,12 +19,22 @@ use Rattle.pl_due.specs.Open.{at_place}
 abbrev pub IsBefore : Place → Place → Type 0
 IsBefore a b = (a.run < b.run) ⊎ ((a.run ≡ b.run) × (a.stage < b.stage))
 
--- ascending, and among them each stage of a queued run that hasn't ended
-pub record HasOpenStages (facts : List Fact) (places : List Place) : Type 0 where
+-- ascending, and among them each stage of a queued run of which it holds
+pub record HasStages (facts : List Fact) (P : InRun) (places : List Place) : Type 0 where
   pub ordered : AllPairs IsBefore places
   pub all : (told : QueuedRun) (one : PlanStage) (run stage : ℕ) →
-      IsStageOf facts run stage told one → stage_end run stage facts ≡ None →
+      IsStageOf facts run stage told one → P told one run stage →
       Contains places (at_place run stage)
+
+-- a stage that waits for no other stage
+abbrev pub Waits : List Fact → QueuedRun → PlanStage → ℕ → ℕ → Type 0
+Waits facts told one run stage = is_waiting one run stage facts ≡ true
+
+abbrev pub HasRunning : List Fact → List Place → Type 0
+HasRunning facts places = HasStages facts (Holds facts) places
+
+abbrev pub HasWaiting : List Fact → List Place → Type 0
+HasWaiting facts places = HasStages facts (Waits facts) places
 
 -- ---- the first place at which a test passes
 
@@ -62,3 +72,17 @@ Picked facts P (at ∷ places) picked =
     ((stage : Contender) × (rest : List Contender) × (picked ≡ stage ∷ rest)
     × IsPicked facts P at.run at.stage (Some stage) × Picked facts P places rest)
     ⊎ (IsPicked facts P at.run at.stage None × Picked facts P places picked)
+
+-- ---- what is told of one stage that waits: that a check fails, or the stage as a contender where
+-- it is eligible, or neither
+
+abbrev pub OneJudged : List Fact → ℕ → ℕ → ℕ → Option Event → Option Contender → Type 0
+OneJudged facts moment run stage fails picked =
+    FirstJob (OfStages facts (Fails facts moment) run stage) fails
+    × ((fails ≡ None) → IsPicked facts (IsEligible facts moment) run stage picked)
+
+-- and of some stages: the first of which a check fails, or all that are eligible
+abbrev pub AllJudged : List Fact → ℕ → List Place → Option Event → List Contender → Type 0
+AllJudged facts moment places fails picked =
+    FirstStage facts (Fails facts moment) places fails
+    × ((fails ≡ None) → Picked facts (IsEligible facts moment) places picked)

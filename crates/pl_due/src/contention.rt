@@ -4,7 +4,7 @@ ghost use Rattle.std.specs.Prelude.{◌≡◌, ◌≤◌, IfOk};
 ghost use Rattle.pl_due.specs.Asked.{IsAsked, facts_of};
 ghost use Rattle.pl_due.specs.Contention as spec;
 ghost use Rattle.pl_due.specs.Fit.{AreFit, last_moment};
-ghost use Rattle.pl_due.specs.Scans.{HasOpenStages, IsPicked, Picked};
+ghost use Rattle.pl_due.specs.Scans.{HasRunning, HasWaiting, IsPicked, Picked};
 
 use crate::checked::exclusive_uses;
 use crate::eligible::{Eligible, Holding, Running};
@@ -39,25 +39,29 @@ pub fn contention_at(
     ensures { IfOk result (λ told. spec.IsContention journal.now.facts moment
         (spec.locks told.eligible told.holders)) }
 {
-    let places = open_stages(alloc, journal)?;
-    contention_among(alloc, journal.journal(), moment, places.as_slice())
+    let stages = open_stages(alloc, journal)?;
+    let running = stages.running.as_slice();
+    let waiting = stages.waiting.as_slice();
+    contention_among(alloc, journal.journal(), moment, running, waiting)
 }
 
-/// Which of the stages that haven't ended contend.
-pub(crate) fn contention_among(
+/// Which contend of the stages that run and of those that wait for no other stage.
+fn contention_among(
     alloc: Global,
     journal: &Journal,
     moment: Moment,
-    places: &[Place],
+    running: &[Place],
+    waiting: &[Place],
 ) -> Result<Contention, Memory>
     requires moment { moment ≤ last_moment }
     requires fit { AreFit journal.now.facts }
-    requires places { HasOpenStages journal.now.facts places.now }
+    requires running { HasRunning journal.now.facts running.now }
+    requires waiting { HasWaiting journal.now.facts waiting.now }
     ensures { IfOk result (λ told. spec.IsContention journal.now.facts moment
         (spec.locks told.eligible told.holders)) }
 {
-    let eligible = contenders(alloc, journal, moment, places, &Eligible)?;
-    let holders = contenders(alloc, journal, moment, places, &Running)?;
+    let eligible = contenders(alloc, journal, moment, waiting, &Eligible)?;
+    let holders = contenders(alloc, journal, moment, running, &Running)?;
     Ok(Contention { eligible, holders })
 }
 
@@ -139,7 +143,7 @@ fn contender_at<H: Holding>(
 }
 
 /// Those of some stages of which something holds, in their order.
-fn contenders<H: Holding>(
+pub(crate) fn contenders<H: Holding>(
     alloc: Global,
     journal: &Journal,
     moment: Moment,

@@ -1,21 +1,26 @@
-ghost use Rattle.std.specs.Prelude.{◌≤◌, ◌∷◌, [], IfOk, drop};
-ghost use Rattle.pl_due.specs.Contention.{locks};
+ghost use Rattle.std.specs.Prelude.{◌≤◌, ◌∷◌, [], All, Any, IfOk, None, drop};
+ghost use Rattle.pl_due.specs.Contention.{AreThose, IsEligible, locks};
 ghost use Rattle.pl_due.specs.Due.{IsDue, Next, Superseded, findings};
-ghost use Rattle.pl_due.specs.Least.{FirstOf};
 ghost use Rattle.pl_due.specs.Fit.{AreFit, last_moment};
-ghost use Rattle.pl_due.specs.Scans.{HasOpenStages};
+ghost use Rattle.pl_due.specs.Kinds.{IsPassedOver};
+ghost use Rattle.pl_due.specs.Least.{FirstOf, Least};
+ghost use Rattle.pl_due.specs.Scans.{HasRunning, HasWaiting};
 ghost use Rattle.pl_locks.specs.Kept.{IsOrdered};
+ghost use Rattle.pl_locks.specs.Locks.{IsSuperseded};
 
-use crate::contention::contention_among;
+use crate::contention::contenders;
+use crate::eligible::Running;
 use crate::ends::superseded_end;
 use crate::jobs::{FalseJobs, OutOfTime};
 use crate::open_stages::{Place, open_stages};
 use crate::scanning::first_stage;
-use crate::stages::{Done, Failing, FalseStages};
+use crate::stages::{Done, FalseStages};
+use crate::verdicts::{AllJudged, all_judged};
 use pl_base::{Memory, Moment};
+use pl_claims::{any_superseded, next_of};
 use pl_facts::Event;
 use pl_journal::Journal;
-use pl_locks::{Contender, least_superseded, next_of};
+use pl_locks::{Contender, least_superseded};
 use pl_open_runs::IndexedJournal;
 use std::alloc::Global;
 
@@ -47,8 +52,10 @@ pub fn due(alloc: Global, journal: &IndexedJournal, moment: Moment) -> Result<Op
     requires fit { AreFit journal.now.facts }
     ensures { IfOk result (IsDue journal.now.facts moment) }
 {
-    let places = open_stages(alloc, journal)?;
-    first_of_all(alloc, journal.journal(), moment, places.as_slice())
+    let stages = open_stages(alloc, journal)?;
+    let running = stages.running.as_slice();
+    let waiting = stages.waiting.as_slice();
+    first_of_all(alloc, journal.journal(), moment, running, waiting)
 }
 
 /// What is due of all kinds.
@@ -56,16 +63,18 @@ fn first_of_all(
     alloc: Global,
     journal: &Journal,
     moment: Moment,
-    places: &[Place],
+    running: &[Place],
+    waiting: &[Place],
 ) -> Result<Option<Event>, Memory>
     requires moment { moment ≤ last_moment }
     requires fit { AreFit journal.now.facts }
-    requires places { HasOpenStages journal.now.facts places.now }
+    requires running { HasRunning journal.now.facts running.now }
+    requires waiting { HasWaiting journal.now.facts waiting.now }
     ensures { IfOk result (FirstOf (findings journal.now.facts moment)) }
 {
-    match first_stage(alloc, journal, moment, places, &OutOfTime)? {
+    match first_stage(alloc, journal, moment, running, &OutOfTime)? {
         Some(event) => Ok(Some(event)),
-        None => after_timeouts(alloc, journal, moment, places),
+        None => after_timeouts(alloc, journal, moment, running, waiting),
     }
 }
 
@@ -74,16 +83,18 @@ fn after_timeouts(
     alloc: Global,
     journal: &Journal,
     moment: Moment,
-    places: &[Place],
+    running: &[Place],
+    waiting: &[Place],
 ) -> Result<Option<Event>, Memory>
     requires moment { moment ≤ last_moment }
     requires fit { AreFit journal.now.facts }
-    requires places { HasOpenStages journal.now.facts places.now }
+    requires running { HasRunning journal.now.facts running.now }
+    requires waiting { HasWaiting journal.now.facts waiting.now }
     ensures { IfOk result (FirstOf (drop 1 (findings journal.now.facts moment))) }
 {
-    match first_stage(alloc, journal, moment, places, &FalseJobs)? {
+    match first_stage(alloc, journal, moment, running, &FalseJobs)? {
         Some(event) => Ok(Some(event)),
-        None => after_jobs(alloc, journal, moment, places),
+        None => after_jobs(alloc, journal, moment, running, waiting),
     }
 }
 
@@ -92,16 +103,18 @@ fn after_jobs(
     alloc: Global,
     journal: &Journal,
     moment: Moment,
-    places: &[Place],
+    running: &[Place],
+    waiting: &[Place],
 ) -> Result<Option<Event>, Memory>
     requires moment { moment ≤ last_moment }
     requires fit { AreFit journal.now.facts }
-    requires places { HasOpenStages journal.now.facts places.now }
+    requires running { HasRunning journal.now.facts running.now }
+    requires waiting { HasWaiting journal.now.facts waiting.now }
     ensures { IfOk result (FirstOf (drop 2 (findings journal.now.facts moment))) }
 {
-    match first_stage(alloc, journal, moment, places, &Done)? {
+    match first_stage(alloc, journal, moment, running, &Done)? {
         Some(event) => Ok(Some(event)),
-        None => after_ends(alloc, journal, moment, places),
+        None => after_ends(alloc, journal, moment, running, waiting),
     }
 }
 
@@ -110,34 +123,41 @@ fn after_ends(
     alloc: Global,
     journal: &Journal,
     moment: Moment,
-    places: &[Place],
+    running: &[Place],
+    waiting: &[Place],
 ) -> Result<Option<Event>, Memory>
     requires moment { moment ≤ last_moment }
     requires fit { AreFit journal.now.facts }
-    requires places { HasOpenStages journal.now.facts places.now }
+    requires running { HasRunning journal.now.facts running.now }
+    requires waiting { HasWaiting journal.now.facts waiting.now }
     ensures { IfOk result (FirstOf (drop 3 (findings journal.now.facts moment))) }
 {
-    match first_stage(alloc, journal, moment, places, &FalseStages)? {
+    match first_stage(alloc, journal, moment, waiting, &FalseStages)? {
         Some(event) => Ok(Some(event)),
-        None => after_conditions(alloc, journal, moment, places),
+        None => after_conditions(alloc, journal, moment, running, waiting),
     }
 }
 
-/// What is due of the kinds behind the conditions.
+/// What is due of the kinds behind the conditions, none of which is false. Each stage's checks are
+/// asked once, for those that fail and for those that let it start.
 fn after_conditions(
     alloc: Global,
     journal: &Journal,
     moment: Moment,
-    places: &[Place],
+    running: &[Place],
+    waiting: &[Place],
 ) -> Result<Option<Event>, Memory>
     requires moment { moment ≤ last_moment }
     requires fit { AreFit journal.now.facts }
-    requires places { HasOpenStages journal.now.facts places.now }
+    requires running { HasRunning journal.now.facts running.now }
+    requires waiting { HasWaiting journal.now.facts waiting.now }
+    requires says { Least journal.now.facts (IsPassedOver journal.now.facts) None }
     ensures { IfOk result (FirstOf (drop 4 (findings journal.now.facts moment))) }
 {
-    match first_stage(alloc, journal, moment, places, &Failing)? {
+    let AllJudged { fails, eligible } = all_judged(alloc, journal, moment, waiting)?;
+    match fails {
         Some(event) => Ok(Some(event)),
-        None => by_locks(alloc, journal, moment, places),
+        None => by_locks(alloc, journal, moment, eligible.as_slice(), running),
     }
 }
 
@@ -146,15 +166,18 @@ fn by_locks(
     alloc: Global,
     journal: &Journal,
     moment: Moment,
-    places: &[Place],
+    eligible: &[Contender],
+    running: &[Place],
 ) -> Result<Option<Event>, Memory>
     requires moment { moment ≤ last_moment }
     requires fit { AreFit journal.now.facts }
-    requires places { HasOpenStages journal.now.facts places.now }
+    requires eligible { AreThose journal.now.facts (IsEligible journal.now.facts moment)
+        eligible.now }
+    requires running { HasRunning journal.now.facts running.now }
     ensures { IfOk result (FirstOf (drop 5 (findings journal.now.facts moment))) }
 {
-    let told = contention_among(alloc, journal, moment, places)?;
-    among(alloc, told.eligible.as_slice(), told.holders.as_slice())
+    let holders = contenders(alloc, journal, moment, running, &Running)?;
+    among(alloc, eligible, holders.as_slice())
 }
 
 /// What is due among stages that may start and stages that hold their resources.
@@ -167,19 +190,42 @@ fn among(
     ensures { IfOk result (λ found. FirstOf (Superseded (locks eligible.now holders.now)
         ∷ Next (locks eligible.now holders.now) ∷ []) found) }
 {
-    match least_superseded(eligible) {
-        Some((run, stage, later)) => Ok(Some(superseded_end(alloc, run, stage, later)?)),
-        None => Ok(next_start(eligible, holders)),
+    if any_superseded(alloc, eligible)? {
+        first_superseded(alloc, eligible, holders)
+    } else {
+        next_start(alloc, eligible, holders)
     }
 }
 
-/// The start of the next stage.
-fn next_start(eligible: &[Contender], holders: &[Contender]) -> Option<Event>
-    requires { IsOrdered eligible.now }
-    ensures { Next (locks eligible.now holders.now) result }
+/// The end of the least stage that gives way, where one does.
+fn first_superseded(
+    alloc: Global,
+    eligible: &[Contender],
+    holders: &[Contender],
+) -> Result<Option<Event>, Memory>
+    requires ordered { IsOrdered eligible.now }
+    requires some { Any (IsSuperseded eligible.now) eligible.now }
+    ensures { IfOk result (λ found. FirstOf (Superseded (locks eligible.now holders.now)
+        ∷ Next (locks eligible.now holders.now) ∷ []) found) }
 {
-    match next_of(eligible, holders) {
-        Some((run, stage)) => Some(Event::StageStarted { run, stage }),
-        None => None,
+    match least_superseded(eligible) {
+        Some((run, stage, later)) => Ok(Some(superseded_end(alloc, run, stage, later)?)),
+        None => unreachable!(),
+    }
+}
+
+/// The start of the next stage, where none gives way.
+fn next_start(
+    alloc: Global,
+    eligible: &[Contender],
+    holders: &[Contender],
+) -> Result<Option<Event>, Memory>
+    requires ordered { IsOrdered eligible.now }
+    requires stand { All (λ stage. ¬ IsSuperseded eligible.now stage) eligible.now }
+    ensures { IfOk result (Next (locks eligible.now holders.now)) }
+{
+    match next_of(alloc, eligible, holders)? {
+        Some((run, stage)) => Ok(Some(Event::StageStarted { run, stage })),
+        None => Ok(None),
     }
 }

@@ -18,6 +18,7 @@ mod open_stages;
 mod scanning;
 mod stage_at;
 mod stages;
+mod verdicts;
 
 pub use checked::{exclusive_uses, permits};
 pub use contention::{Contention, contender_of, contention_at};

@@ -12,6 +12,7 @@ use crate::stage_at::StageAt;
 use pl_base::{List, Memory, Moment, Outcome};
 use pl_cond::{job_condition, stage_condition};
 use pl_journal::{Journal, outcome_told};
+use pl_plan::PlanStage;
 use pl_results::RunView;
 use pl_views::{is_ready, job_is_ready, run_view};
 use std::alloc::Global;
@@ -23,14 +24,21 @@ pub(crate) fn is_running(journal: &Journal, run: u64, stage: u32) -> bool
     journal.stage_start(run, stage).is_some() && journal.stage_end(run, stage).is_none()
 }
 
-/// Whether a stage is neither started nor ended, and waits for nothing more.
+/// Whether a stage is neither started nor ended, and waits for no other stage.
+pub(crate) fn waits(journal: &Journal, run: u64, stage: u32, planned: &PlanStage) -> bool
+    ensures { result ≡ spec.is_waiting planned.now run stage journal.now.facts }
+{
+    journal.stage_start(run, stage).is_none()
+        && journal.stage_end(run, stage).is_none()
+        && is_ready(journal, run, planned)
+}
+
+/// The same of a stage that is asked about.
 pub(crate) fn is_waiting(at: &StageAt<'_>) -> bool
     ensures { result ≡ spec.is_waiting at.now.planned.now at.now.run at.now.stage
         (facts_of at.now) }
 {
-    at.journal.stage_start(at.run, at.stage).is_none()
-        && at.journal.stage_end(at.run, at.stage).is_none()
-        && is_ready(at.journal, at.run, at.planned)
+    waits(at.journal, at.run, at.stage, at.planned)
 }
 
 /// Whether a run is canceled.

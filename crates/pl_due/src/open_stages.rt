@@ -1,9 +1,10 @@
-//! The stages that haven't ended.
+//! The stages in which anything may be due.
 
-ghost use Rattle.std.specs.Prelude.{◌≡◌, ◌++◌, ◌<◌, ◌^◌, IfOk, OnOk, flat_map, length};
-ghost use Rattle.pl_due.specs.Open.{open_among, open_of_run, open_places};
+ghost use Rattle.std.specs.Prelude.{◌≡◌, ◌++◌, ◌<◌, ◌^◌, IfOk, OnOk, cond, flat_map, length, ◌∷◌, []};
+ghost use Rattle.pl_due.specs.Open as spec;
 ghost use Rattle.pl_due.specs.Fit.{AreFit};
 
+use crate::nodes::{is_running, waits};
 use pl_base::{List, Memory};
 use pl_journal::Journal;
 use pl_open_runs::IndexedJournal;
@@ -17,56 +18,93 @@ pub(crate) struct Place {
     pub(crate) stage: u32,
 }
 
-/// The stages of open runs that haven't ended, by run, then by place.
-pub(crate) fn open_stages(alloc: Global, journal: &IndexedJournal) -> Result<List<Place>, Memory>
+/// The stages that run, and those that are neither started nor ended and wait for no other stage,
+/// each by run, then by place.
+#[derive(Drop)]
+pub(crate) struct OpenStages {
+    pub(crate) running: List<Place>,
+    pub(crate) waiting: List<Place>,
+}
+
+/// Those of open runs.
+pub(crate) fn open_stages(alloc: Global, journal: &IndexedJournal) -> Result<OpenStages, Memory>
     requires { AreFit journal.now.facts }
-    ensures { IfOk result (λ places. places ≡ open_places journal.now.facts) }
+    ensures running { IfOk result (λ all. all.running ≡
+        spec.of_open journal.now.facts (spec.runs journal.now.facts)) }
+    ensures waiting { IfOk result (λ all. all.waiting ≡
+        spec.of_open journal.now.facts (spec.waits journal.now.facts)) }
 {
     stages_of(alloc, journal.journal(), journal.open_runs())
 }
 
-/// The stages of some runs that haven't ended.
-fn stages_of(alloc: Global, journal: &Journal, runs: &[u64]) -> Result<List<Place>, Memory>
+/// Those of some runs.
+fn stages_of(alloc: Global, journal: &Journal, runs: &[u64]) -> Result<OpenStages, Memory>
     requires { AreFit journal.now.facts }
-    ensures { IfOk result (λ places. places ≡
-        flat_map (open_of_run journal.now.facts) runs.now) }
+    ensures running { IfOk result (λ all. all.running ≡
+        flat_map (spec.of_run journal.now.facts (spec.runs journal.now.facts)) runs.now) }
+    ensures waiting { IfOk result (λ all. all.waiting ≡
+        flat_map (spec.of_run journal.now.facts (spec.waits journal.now.facts)) runs.now) }
 {
-    let mut places = List::new(alloc);
+    let mut running = List::new(alloc);
+    let mut waiting = List::new(alloc);
     for run in runs {
-        push_run(&mut places, journal, *run)?;
+        push_run(&mut running, &mut waiting, journal, *run)?;
     }
-    Ok(places)
+    Ok(OpenStages { running, waiting })
 }
 
 /// Puts those of one run behind the others. What is left after Memory isn't told.
-fn push_run(places: &mut List<Place>, journal: &Journal, run: u64) -> Result<(), Memory>
+fn push_run(
+    running: &mut List<Place>,
+    waiting: &mut List<Place>,
+    journal: &Journal,
+    run: u64,
+) -> Result<(), Memory>
     requires { AreFit journal.now.facts }
-    ensures { OnOk result (places.new ≡ places.old ++ open_of_run journal.now.facts run) }
+    ensures running { OnOk result (running.new ≡ running.old
+        ++ spec.of_run journal.now.facts (spec.runs journal.now.facts) run) }
+    ensures waiting { OnOk result (waiting.new ≡ waiting.old
+        ++ spec.of_run journal.now.facts (spec.waits journal.now.facts) run) }
 {
     match journal.run(run) {
         Some(queued) => {
-            push_stages(places, journal, run, queued.compiled.plan.stages.as_slice())?;
+            let stages = queued.compiled.plan.stages.as_slice();
+            push_stages(running, waiting, journal, run, stages)?;
             Ok(())
         }
         None => Ok(()),
     }
 }
 
-/// Puts those of the stages of a run behind the others that haven't ended.
+/// Puts those of the stages of a run behind the others.
 fn push_stages(
-    places: &mut List<Place>,
+    running: &mut List<Place>,
+    waiting: &mut List<Place>,
     journal: &Journal,
     run: u64,
     stages: &[PlanStage],
 ) -> Result<(), Memory>
     requires { length stages.now < 2 ^ 32 }
-    ensures { OnOk result (places.new ≡ places.old
-        ++ open_among journal.now.facts run (length stages.now)) }
+    ensures running { OnOk result (running.new ≡ running.old
+        ++ spec.passing (spec.runs journal.now.facts) stages.now run (length stages.now)) }
+    ensures waiting { OnOk result (waiting.new ≡ waiting.old
+        ++ spec.passing (spec.waits journal.now.facts) stages.now run (length stages.now)) }
 {
     for stage in 0..stages.len() as u32 {
-        if journal.stage_end(run, stage).is_none() {
-            places.push(Place { run, stage })?;
-        }
+        let planned = &stages[stage as usize];
+        let place = Place { run, stage };
+        push_if(running, place, is_running(journal, run, stage))?;
+        push_if(waiting, place, waits(journal, run, stage, planned))?;
+    }
+    Ok(())
+}
+
+/// Puts a stage behind others, where it is one of them.
+fn push_if(places: &mut List<Place>, place: Place, is_one: bool) -> Result<(), Memory>
+    ensures { OnOk result (places.new ≡ places.old ++ cond is_one (place ∷ []) []) }
+{
+    if is_one {
+        places.push(place)?;
     }
     Ok(())
 }

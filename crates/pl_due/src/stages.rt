@@ -1,16 +1,13 @@
 //! What is due for stages by themselves.
 
-ghost use Rattle.std.specs.Prelude.{◌≡◌};
 ghost use Rattle.pl_due.specs.Kinds as spec;
 
-use crate::ends::{fail_end, false_stage_end};
-use crate::judging::judgement;
+use crate::ends::false_stage_end;
 use crate::nodes::{has_done_all, is_canceled, is_running, is_waiting, outcomes, stage_says};
 use crate::scanning::Kind;
 use crate::stage_at::StageAt;
 use pl_base::Memory;
-use pl_facts::{Event, Rule};
-use pl_judgement::{Judgement, judgement_laws};
+use pl_facts::Event;
 use pl_results::combined;
 use std::alloc::Global;
 
@@ -55,30 +52,4 @@ impl Kind for FalseStages {
         let canceled = is_canceled(at.journal, at.run);
         Ok(Some(false_stage_end(alloc, canceled, at.run, at.stage)?))
     }
-}
-
-/// Waiting stages of which a check fails.
-#[derive(Clone, Copy)]
-pub(crate) struct Failing;
-
-impl Kind for Failing {
-    ghost of = { λ itself facts moment. spec.Fails facts moment };
-
-    fn in_stage(&self, alloc: Global, at: &StageAt<'_>) -> Result<Option<Event>, Memory> {
-        judgement_laws();
-        if !is_waiting(at) {
-            return Ok(None);
-        }
-        match fail_of(judgement(alloc, at)?) {
-            Some(rule) => Ok(Some(fail_end(alloc, at.run, at.stage, rule)?)),
-            None => Ok(None),
-        }
-    }
-}
-
-/// The rule by which the first check fails that fails.
-fn fail_of(judgement: Judgement) -> Option<Rule>
-    ensures { result ≡ judgement.fail }
-{
-    judgement.fail
 }

@@ -4,20 +4,27 @@ use Rattle.pl_journal.specs.Log.{Log}
 use Rattle.pl_open_runs.proofs.OpenRuns.{open_runs_ascend, open_runs_hold}
 use Rattle.pl_due.specs.Contention.{IsContention, locks}
 use Rattle.pl_due.specs.Fit.{AreFit}
-use Rattle.pl_due.specs.Scans.{HasOpenStages}
-use Rattle.pl_due.proofs.Opened.{has_open_stages}
+use Rattle.pl_due.specs.Scans.{HasRunning, HasWaiting}
+use Rattle.pl_due.proofs.Opened.{has_running, has_waiting}
 use Rattle.pl_due.proofs.contention.contention_at.Goals as goal
 
 pub contention_among-requires-clause-fit : goal.contention_among-requires-clause-fit
 contention_among-requires-clause-fit c =
     subst (λ (log : Log). AreFit log.facts) (sym c.journal.ensures) c.requires.fit
 
-pub contention_among-requires-clause-places : goal.contention_among-requires-clause-places
-contention_among-requires-clause-places c =
+pub contention_among-requires-clause-running : goal.contention_among-requires-clause-running
+contention_among-requires-clause-running c =
     let facts = c.args.journal.now.facts in
-    subst (λ (log : Log). HasOpenStages log.facts c.as_slice.result.now) (sym c.journal.ensures)
-    (subst (HasOpenStages facts) (sym (c.as_slice.ensures ∙ c.in_ok-places.ensures))
-    (has_open_stages facts (open_runs_ascend facts) (open_runs_hold facts)))
+    subst (λ (log : Log). HasRunning log.facts c.as_slice-running.result.now) (sym c.journal.ensures)
+    (subst (HasRunning facts) (sym (c.as_slice-running.ensures ∙ c.in_ok-stages.ensures.running))
+    (has_running facts (open_runs_ascend facts) (open_runs_hold facts)))
+
+pub contention_among-requires-clause-waiting : goal.contention_among-requires-clause-waiting
+contention_among-requires-clause-waiting c =
+    let facts = c.args.journal.now.facts in
+    subst (λ (log : Log). HasWaiting log.facts c.as_slice-waiting.result.now) (sym c.journal.ensures)
+    (subst (HasWaiting facts) (sym (c.as_slice-waiting.ensures ∙ c.in_ok-stages.ensures.waiting))
+    (has_waiting facts (open_runs_ascend facts) (open_runs_hold facts)))
 
 pub returns : goal.returns
 returns c =

@@ -1,5 +1,6 @@
 use Rattle.std.proofs.Common.{drop, subst}
 use Rattle.pl_cond.proofs.Roots.{if_ok}
+use Rattle.pl_due.specs.Contention.{Holds}
 use Rattle.pl_due.specs.Due.{findings}
 use Rattle.pl_due.specs.Kinds.{IsDone}
 use Rattle.pl_due.specs.Scans.{FirstStage}
@@ -9,17 +10,15 @@ use Rattle.pl_due.proofs.first_due.after_jobs.Goals as goal
 pub returns-in-Some : goal.returns-in-Some
 returns-in-Some c =
     let facts = c.args.journal.now.facts in
-    found_here facts (IsDone facts) c.args.places.now c.requires.places
+    found_here facts (IsDone facts) (Holds facts) c.args.running.now c.requires.running
     (done_stays facts c.args.moment) (drop 3 (findings facts c.args.moment)) c.in-Some.event
-    (subst (FirstStage facts (IsDone facts) c.args.places.now) c.in-Some.is
-    c.in_ok-event.ensures)
+    (subst (FirstStage facts (IsDone facts) c.args.running.now) c.in-Some.is c.in_ok-event.ensures)
 
 pub returns-in-None : goal.returns-in-None
 returns-in-None c =
     let facts = c.args.journal.now.facts in
-    if_ok _ _ c.after_ends.result (λ found. found_later facts (IsDone facts)
-    c.args.places.now c.requires.places (done_stays facts c.args.moment)
+    if_ok _ _ c.after_ends.result (λ found. found_later facts (IsDone facts) (Holds facts)
+    c.args.running.now c.requires.running (done_stays facts c.args.moment)
     (drop 3 (findings facts c.args.moment)) found
-    (subst (FirstStage facts (IsDone facts) c.args.places.now) c.in-None.is
-    c.in_ok-event.ensures))
+    (subst (FirstStage facts (IsDone facts) c.args.running.now) c.in-None.is c.in_ok-event.ensures))
     c.after_ends.ensures

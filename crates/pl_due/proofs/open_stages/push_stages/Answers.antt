@@ -1,26 +1,28 @@
-use Rattle.std.proofs.Common.{sym, ◌∙◌}
+use Rattle.std.proofs.Common.{get_or, refl, sym}
 use Rattle.std.proofs.lemmas.List.{append-nil}
-use Rattle.pl_journal.specs.Runs.{stage_end}
-use Rattle.pl_due.proofs.Ranges.{opened_none, opened_some}
-use Rattle.pl_due.proofs.Standing.{none_when, some_by}
-use Rattle.pl_due.proofs.open_stages.push_stages.Goals.{then-is_none+in_ok-push, else-is_none}
+use Rattle.pl_due.specs.Nodes.{is_running, is_waiting}
+use Rattle.pl_due.specs.Open.{runs, waits}
+use Rattle.pl_due.proofs.Opened.{waits_at}
+use Rattle.pl_due.proofs.Ranges.{passed}
 use Rattle.pl_due.proofs.open_stages.push_stages.Goals as goal
 
 pub loop-stage-init : goal.loop-stage-init
-loop-stage-init c = sym (append-nil c.args.places.now)
+loop-stage-init c = record {
+  running = sym (append-nil c.args.running.now);
+  waiting = sym (append-nil c.args.waiting.now);
+}
 
 pub loop-stage-preserved : goal.loop-stage-preserved
 loop-stage-preserved c =
     let facts = c.args.journal.now.facts in
-    let end = stage_end c.args.run c.loop-stage.stage facts in
-    let is = none_when end c.is_none.result
-    (some_by c.stage_end.result end c.is_none.result c.stage_end.ensures c.is_none.ensures) in
-    elim c.if-is_none.branch [
-      | then-is_none+in_ok-push w ↦
-          opened_some facts c.args.run c.loop-stage.stage c.args.places.now c.loop-stage.places
-          c.if-is_none.places c.loop-stage.invariant (is ∙ w.if-is_none.true)
-          (w.places-is ∙ w.in_ok-push.ensures.ok)
-      | else-is_none w ↦
-          opened_none facts c.args.run c.loop-stage.stage c.args.places.now c.loop-stage.places
-          c.if-is_none.places c.loop-stage.invariant (is ∙ w.if-is_none.false) w.places-is
-    ]
+    let stages = c.args.stages.now in
+    let run = c.args.run in
+    let stage = c.loop-stage.stage in
+    record {
+      running = passed (runs facts) stages run stage c.args.running.now c.loop-stage.running
+          c.push_if.new.places c.is_running.result c.is_running.ensures
+          c.loop-stage.invariant.running c.in_ok-push_if.ensures;
+      waiting = passed (waits facts) stages run stage c.args.waiting.now c.loop-stage.waiting
+          c.push_if-2.new.places c.waits.result ? c.loop-stage.invariant.waiting
+          c.in_ok-push_if-2.ensures;
+    }
