@@ -6,6 +6,7 @@ use crate::origins::put_files_of;
 use crate::repeats::repeated;
 use crate::trees::put_node;
 use pl_base::{Argument, FileKey, List};
+use pl_budgets::Meter;
 use pl_bundle::bundle_of;
 use pl_cases::Answers;
 use pl_expand::{MemFiles, RootTree, expand_counted};
@@ -44,7 +45,10 @@ fn put_expansion(
     root: &FileKey,
     arguments: &List<Argument>,
 ) {
-    match expand_counted(alloc, files, root, arguments) {
+    let Ok(meter) = Meter::new(alloc) else {
+        return out.fail();
+    };
+    match expand_counted(alloc, &meter, files, root, arguments) {
         Ok(whole) => put_whole(alloc, out, shown, &whole),
         Err(fault) => put_fault(alloc, out, &fault),
     }

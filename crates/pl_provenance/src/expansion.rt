@@ -12,6 +12,7 @@ ghost use Rattle.pl_provenance.specs.Texts.{IsSaid};
 ghost use Rattle.pl_provenance.specs.Written.{ArePairsWhereTold};
 
 use pl_base::{Argument, Expanded, FileKey, List};
+use pl_budgets::Meter;
 use pl_calls::Files;
 use pl_directives::ExpandFault;
 use std::alloc::Global;
@@ -31,6 +32,7 @@ use std::alloc::Global;
 /// `pl_expand::expand` gives.
 pub fn expand<F: Files>(
     alloc: Global,
+    meter: &Meter,
     files: &mut F,
     root: &FileKey,
     arguments: &List<Argument>,
@@ -50,5 +52,5 @@ pub fn expand<F: Files>(
     ensures texts { IfOk result (λ whole.
         AllByRecursion (IsSaid (F.files files.old)) (marks_of whole.tree)) }
 {
-    pl_expand::expand(alloc, files, root, arguments)
+    pl_expand::expand(alloc, meter, files, root, arguments)
 }

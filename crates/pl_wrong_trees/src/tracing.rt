@@ -10,6 +10,7 @@ ghost use Rattle.pl_provenance.specs.Texts.{IsSaid};
 ghost use Rattle.pl_provenance.specs.Written.{ArePairsWhereTold};
 
 use pl_base::{Argument, Expanded, FileKey, List};
+use pl_budgets::Meter;
 use pl_calls::Files;
 use pl_directives::ExpandFault;
 use std::alloc::Global;
@@ -19,6 +20,7 @@ use std::alloc::Global;
 /// clauses refuse by themselves.
 pub fn traced<F: Files>(
     alloc: Global,
+    meter: &Meter,
     files: &mut F,
     root: &FileKey,
     arguments: &List<Argument>,
@@ -37,5 +39,5 @@ pub fn traced<F: Files>(
     ensures texts { IfOk result (λ whole.
         AllByRecursion (IsSaid (F.files files.old)) (marks_of whole.tree)) }
 {
-    pl_provenance::expand(alloc, files, root, arguments)
+    pl_provenance::expand(alloc, meter, files, root, arguments)
 }
