@@ -1,9 +1,10 @@
-"""Changes inputs at random for so many seconds, and tells each that is over the goal.
+"""Changes inputs at random for so many seconds of processor time, and tells each that is over the goal.
 
     python3 bench/hostile/mutate.py PROGRAM SECONDS [SEED]
 
-The seeds are the small shapes that are within the goal and the cases of bundles. What is over is kept in a folder that is named at the end, and the status is 1
-then."""
+The seconds are those of this process and of the programs that it runs, so that a busy machine tries as many inputs as a quiet one.
+The seeds are the small shapes that are within the goal and the cases of bundles. What is over in seconds alone is measured twice
+more, and the least counts. What is over is kept in a folder that is named at the end, and the status is 1 then."""
 
 import glob
 import os
@@ -11,12 +12,12 @@ import random
 import shutil
 import sys
 import tempfile
-import time
 
 from measure import over
 from measured import measure
 from shapes import ALL, OVER
 
+STATUSES = {0, 8, 9}
 HERE = os.path.dirname(os.path.abspath(__file__))
 TOP = os.path.dirname(os.path.dirname(HERE))
 WORDS = ["${{ parameters.a }}", "${{ each x in parameters.l }}:", "${{ if 1 }}:", "${{ insert }}:", "- template: t.yml", "steps:", "split(", "replace(", "format('{0}{0}',", "join(',',", "parameters.l", ",", "'", '"', "[", "]", "{", "}", "dependsOn: a", "parallel: 100", "type: object", "default:"]
@@ -65,25 +66,42 @@ def changed(text, others, chance):
     return "\n".join(lines)[:4_000_000]
 
 
+def spent():
+    """Seconds of processor time of this process and of those that it ran."""
+    return sum(os.times()[:4])
+
+
+def measured(words, path, output):
+    """What a program takes over a file, and what of that is over the goal."""
+    one = measure(words, path, output)
+    for _ in range(2):
+        if over(one, STATUSES) == "seconds":
+            one = min(one, measure(words, path, output))
+    return one, over(one, STATUSES)
+
+
 def main():
     program, seconds = sys.argv[1], float(sys.argv[2])
     chance = random.Random(int(sys.argv[3]) if len(sys.argv) > 3 else 1)
-    texts, end, count, wrong = seeds(), time.time() + seconds, 0, 0
+    texts, end, count, wrong = seeds(), spent() + seconds, 0, 0
+    most = [0.0, 0.0, 0]
     kept = tempfile.mkdtemp(prefix="hostile-")
     with tempfile.TemporaryDirectory() as folder:
         path, output = os.path.join(folder, "text"), os.path.join(folder, "output")
-        while time.time() < end:
+        while spent() < end:
             text = changed(chance.choice(texts), texts, chance)
             with open(path, "w", encoding="utf-8", newline="\n", errors="replace") as file:
                 file.write(text)
-            one = measure([program, "compile"], path, output)
+            one, told = measured([program, "compile"], path, output)
             count += 1
-            told = over(one, {0, 8, 9})
+            most = [max(pair) for pair in zip(most, one[:3])]
+            if count % 1000 == 0:
+                print(f"{count} inputs, {spent():.0f} s, at most {most[0]:.2f} s, {most[1]:.0f} MB, {most[2]} KiB", flush=True)
             if told:
                 wrong += 1
                 shutil.copyfile(path, f"{kept}/{wrong}.bundle")
                 print(f"{wrong}.bundle: {told}: {one.seconds:.2f} s, {one.megabytes:.0f} MB, {one.stack} KiB, status {one.ending}", flush=True)
-    print(f"{count} inputs, {wrong} over, in {kept}")
+    print(f"{count} inputs, {wrong} over, in {kept}; at most {most[0]:.2f} s, {most[1]:.0f} MB, {most[2]} KiB")
     return 1 if wrong else 0
 
 
