@@ -33,6 +33,16 @@ def over(one, statuses, wanted=None):
     return " ".join(found)
 
 
+def least(words, path, output, statuses, wanted=None):
+    """What a program takes over a file, and what of that is over the goal. Where only the seconds are, which other programs on the
+    same processor may make more, it is measured twice more, and the least counts."""
+    one = measure(words, path, output)
+    for _ in range(2):
+        if over(one, statuses, wanted) == "seconds":
+            one = min(one, measure(words, path, output))
+    return one, over(one, statuses, wanted)
+
+
 def chosen(quick, parts):
     """The shapes to measure."""
     for name, written, statuses, seed, wanted in ALL:
@@ -53,8 +63,7 @@ def main():
         for name, written, statuses, wanted in chosen(quick, parts):
             with open(text, "w", encoding="utf-8", newline="\n") as file:
                 file.write(written())
-            one = measure([program, "compile"], text, output)
-            wrong = over(one, statuses, wanted)
+            one, wrong = least([program, "compile"], text, output, statuses, wanted)
             count += 1
             beyond += bool(wrong)
             failed += bool(wrong) != (name in OVER)

@@ -13,8 +13,7 @@ import shutil
 import sys
 import tempfile
 
-from measure import over
-from measured import measure
+from measure import least
 from shapes import ALL, OVER
 
 STATUSES = {0, 8, 9}
@@ -71,15 +70,6 @@ def spent():
     return sum(os.times()[:4])
 
 
-def measured(words, path, output):
-    """What a program takes over a file, and what of that is over the goal."""
-    one = measure(words, path, output)
-    for _ in range(2):
-        if over(one, STATUSES) == "seconds":
-            one = min(one, measure(words, path, output))
-    return one, over(one, STATUSES)
-
-
 def main():
     program, seconds = sys.argv[1], float(sys.argv[2])
     chance = random.Random(int(sys.argv[3]) if len(sys.argv) > 3 else 1)
@@ -92,7 +82,7 @@ def main():
             text = changed(chance.choice(texts), texts, chance)
             with open(path, "w", encoding="utf-8", newline="\n", errors="replace") as file:
                 file.write(text)
-            one, told = measured([program, "compile"], path, output)
+            one, told = least([program, "compile"], path, output, STATUSES)
             count += 1
             most = [max(pair) for pair in zip(most, one[:3])]
             if count % 1000 == 0:
