@@ -76,7 +76,7 @@ pub fn expanded(
     ensures texts { IfOk result (λ whole.
         AllByRecursion (IsSaid (read_all files.now)) (marks_of whole.tree)) }
 {
-    let mut read = TextFiles::new(alloc, files);
-    let expanded = expand(alloc, &mut read, root, arguments);
+    let read = TextFiles::new(alloc, files);
+    let expanded = expand(alloc, read, root, arguments);
     told(alloc, expanded)
 }
