@@ -41,7 +41,7 @@ fn put_expansion(
     alloc: Global,
     out: &mut Answers,
     shown: Shown,
-    files: &mut MemFiles,
+    files: MemFiles,
     root: &FileKey,
     arguments: &List<Argument>,
 ) {
@@ -58,7 +58,7 @@ fn put_with(
     alloc: Global,
     out: &mut Answers,
     shown: Shown,
-    files: &mut MemFiles,
+    files: MemFiles,
     root: &FileKey,
     case: &str,
 ) {
@@ -68,7 +68,7 @@ fn put_with(
     }
 }
 
-fn put_from(alloc: Global, out: &mut Answers, shown: Shown, files: &mut MemFiles, case: &str) {
+fn put_from(alloc: Global, out: &mut Answers, shown: Shown, files: MemFiles, case: &str) {
     match first_key(alloc, behind(case)) {
         Ok(root) => put_with(alloc, out, shown, files, &root, case),
         Err(_) => out.fail(),
@@ -79,7 +79,7 @@ fn put_from(alloc: Global, out: &mut Answers, shown: Shown, files: &mut MemFiles
 pub fn put_file(alloc: Global, out: &mut Answers, shown: Shown, case: &str) {
     let mut files = MemFiles::new(alloc);
     match read_root(alloc, &mut files, behind(case)) {
-        Ok(()) => put_from(alloc, out, shown, &mut files, case),
+        Ok(()) => put_from(alloc, out, shown, files, case),
         Err(_) => out.fail(),
     }
 }
@@ -96,7 +96,7 @@ pub fn put_count(alloc: Global, out: &mut Answers, case: &str) {
 pub fn put_files(alloc: Global, out: &mut Answers, case: &str) {
     let mut files = MemFiles::new(alloc);
     match read_files(alloc, &mut files, behind(case)) {
-        Ok(()) => put_from(alloc, out, Shown::Whole, &mut files, case),
+        Ok(()) => put_from(alloc, out, Shown::Whole, files, case),
         Err(_) => out.fail(),
     }
 }

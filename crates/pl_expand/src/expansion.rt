@@ -1,7 +1,7 @@
 ghost use Rattle.std.specs.Prelude.{◌≡◌, [], None, filter, not, IfOk};
 ghost use Rattle.pl_base.specs.Places.{place_at};
-ghost use Rattle.pl_calls.specs.Gives.{GivesUsed};
-ghost use Rattle.pl_calls.specs.Reaching.{opens, same_file};
+ghost use Rattle.pl_calls.specs.Gives.{GivesFrom};
+ghost use Rattle.pl_calls.specs.Reaching.{same_file};
 ghost use Rattle.pl_directives.specs.Complaints.{refused};
 ghost use Rattle.pl_directives.specs.Gives.{Gives};
 ghost use Rattle.pl_directives.specs.declared.fault.ExpandProblem.TheVariants.{FileMissing};
@@ -42,10 +42,14 @@ fn used_files(alloc: Global, root: &FileKey, used: List<FileKey>) -> Result<List
 }
 
 /// The whole of an expansion.
-fn whole(alloc: Global, one: RootNode, reach: Reach) -> Result<RootTree, Memory>
+fn whole<F: Files>(alloc: Global, one: RootNode, reach: Reach<F>) -> Result<RootTree, Memory>
     ensures { IfOk result (λ tree. tree ≡ whole reach.home one reach.used) }
 {
-    let Reach { home, used } = reach;
+    let Reach {
+        files: _,
+        home,
+        used,
+    } = reach;
     let Home { root, repositories } = home;
     let used = used_files(alloc, &root, used)?;
     let RootNode {
@@ -67,27 +71,17 @@ fn whole(alloc: Global, one: RootNode, reach: Reach) -> Result<RootTree, Memory>
 fn expand_pairs<F: Files>(
     alloc: Global,
     root: &RootMapping<'_>,
-    files: &mut F,
-    reach: &mut Reach,
+    reach: &mut Reach<F>,
 ) -> Result<RootNode, ExpandFault>
     requires { reach.old.used ≡ [] }
-    ensures expanded { GivesUsed result reach.new.used (pairs_expanded (root_mapping
-        root.now.file.now root.now.place.now root.now.pairs.now root.now.parameters.now) (opens
-        (F.files files.old) reach.old.home)) }
-    ensures files { F.files files.new ≡ F.files files.old }
-    ensures home { reach.new.home ≡ reach.old.home }
+    ensures { GivesFrom F.files result reach.old reach.new (λ opens used. pairs_expanded
+        (root_mapping root.now.file.now root.now.place.now root.now.pairs.now
+        root.now.parameters.now) opens) }
 {
     let count = enter(alloc, root.place, 0)?;
     let first = first_frame(alloc, root.file, root.parameters, root.meter)?;
-    let early = early_by(
-        alloc,
-        under("variables", root.pairs),
-        &first,
-        count,
-        files,
-        reach,
-    )?;
-    fill_root(alloc, root, early, files, reach)
+    let early = early_by(alloc, under("variables", root.pairs), &first, count, reach)?;
+    fill_root(alloc, root, early, reach)
 }
 
 /// How many repositories a root file has: each call seeks its alias among them. More are want of
@@ -103,12 +97,14 @@ fn judge_repositories(meter: &Meter, repositories: &List<Repository>) -> Result<
 }
 
 /// Where paths lead from a root of these pairs. Nothing is called yet.
-fn reach_from(
+fn reach_from<F: Files>(
     alloc: Global,
     meter: &Meter,
+    files: F,
     root: &FileKey,
     pairs: &List<NodePair>,
-) -> Result<Reach, Memory>
+) -> Result<Reach<F>, Memory>
+    ensures files { IfOk result (λ reach. reach.files ≡ files) }
     ensures home { IfOk result (λ reach. reach.home ≡ home_of root.now pairs.now) }
     ensures used { IfOk result (λ reach. reach.used ≡ []) }
 {
@@ -116,6 +112,7 @@ fn reach_from(
     judge_repositories(meter, &repositories)?;
     let root = root.copy(alloc)?;
     Ok(Reach {
+        files,
         home: Home { root, repositories },
         used: List::new(alloc),
     })
@@ -129,11 +126,10 @@ fn expand_mapping<F: Files>(
     place: &Place,
     pairs: &List<NodePair>,
     arguments: &List<Argument>,
-    files: &mut F,
+    files: F,
 ) -> Result<RootTree, ExpandFault>
-    ensures expanded { Gives result (mapping_expanded (F.files files.old) root.now place.now
+    ensures { Gives result (mapping_expanded (F.files files) root.now place.now
         pairs.now arguments.now) }
-    ensures files { F.files files.new ≡ F.files files.old }
 {
     if let Some(first) = first_complaint(alloc, pairs)? {
         return Err(ExpandFault::Refused(first));
@@ -147,18 +143,20 @@ fn expand_mapping<F: Files>(
         parameters: &parameters,
         meter,
     };
-    let mut reach = reach_from(alloc, meter, root, pairs)?;
-    let one = expand_pairs(alloc, &mapping, files, &mut reach)?;
+    let mut reach = reach_from(alloc, meter, files, root, pairs)?;
+    let one = expand_pairs(alloc, &mapping, &mut reach)?;
     Ok(whole(alloc, one, reach)?)
 }
 
 /// Where paths lead from a root without resources. Nothing is called yet.
-fn bare_reach(alloc: Global, root: &FileKey) -> Result<Reach, Memory>
+fn bare_reach<F: Files>(alloc: Global, files: F, root: &FileKey) -> Result<Reach<F>, Memory>
+    ensures files { IfOk result (λ reach. reach.files ≡ files) }
     ensures home { IfOk result (λ reach. reach.home ≡ bare_home root.now) }
     ensures used { IfOk result (λ reach. reach.used ≡ []) }
 {
     let root = root.copy(alloc)?;
     Ok(Reach {
+        files,
         home: Home {
             root,
             repositories: List::new(alloc),
@@ -185,15 +183,14 @@ fn expand_bare<F: Files>(
     root: &FileKey,
     node: &Node,
     frame: &Frame,
-    files: &mut F,
+    files: F,
 ) -> Result<RootTree, ExpandFault>
-    ensures expanded { Gives result (bare_expanded (F.files files.old) root.now node.now
+    ensures { Gives result (bare_expanded (F.files files) root.now node.now
         frame.now) }
-    ensures files { F.files files.new ≡ F.files files.old }
 {
-    let mut reach = bare_reach(alloc, root)?;
+    let mut reach = bare_reach(alloc, files, root)?;
     let scope = Scope { frame, at: ROOT };
-    let one = expand_node(alloc, node, scope, 0, files, &mut reach)?;
+    let one = expand_node(alloc, node, scope, 0, &mut reach)?;
     Ok(whole(alloc, bare_node(one), reach)?)
 }
 
@@ -204,11 +201,10 @@ fn expand_other<F: Files>(
     root: &FileKey,
     node: &Node,
     arguments: &List<Argument>,
-    files: &mut F,
+    files: F,
 ) -> Result<RootTree, ExpandFault>
-    ensures expanded { Gives result (other_expanded (F.files files.old) root.now node.now
+    ensures { Gives result (other_expanded (F.files files) root.now node.now
         arguments.now) }
-    ensures files { F.files files.new ≡ F.files files.old }
 {
     let parameters = Shared::new(alloc, parameters_by(alloc, meter, None, arguments)?)?;
     let frame = first_frame(alloc, root, &parameters, meter)?;
@@ -222,11 +218,10 @@ fn expand_root<F: Files>(
     root: &FileKey,
     node: &Node,
     arguments: &List<Argument>,
-    files: &mut F,
+    files: F,
 ) -> Result<RootTree, ExpandFault>
-    ensures expanded { Gives result (body_expanded (F.files files.old) root.now node.now
+    ensures { Gives result (body_expanded (F.files files) root.now node.now
         arguments.now) }
-    ensures files { F.files files.new ≡ F.files files.old }
 {
     match &node.body {
         NodeBody::Map(pairs) => {
@@ -250,13 +245,13 @@ fn missing(alloc: Global, root: &FileKey) -> Result<RootTree, ExpandFault>
 pub fn expand_counted<F: Files>(
     alloc: Global,
     meter: &Meter,
-    files: &mut F,
+    files: F,
     root: &FileKey,
     arguments: &List<Argument>,
 ) -> Result<RootTree, ExpandFault>
-    ensures tree { Gives result (tree_of (F.files files.old) root.now arguments.now) }
-    ensures same { F.files files.new ≡ F.files files.old }
+    ensures { Gives result (tree_of (F.files files) root.now arguments.now) }
 {
+    let mut files = files;
     match files.node(alloc, root)? {
         Some(file) => {
             let node = node_in(alloc, &file)?;
@@ -275,7 +270,7 @@ pub fn expand_counted<F: Files>(
 /// to, and stands for what that gives; `extends` of the root puts what a template gives behind the
 /// root's own pairs. What comes out is the tree, the root's key, that of the template which it
 /// extends, its repositories, and the files that were used: the root, and each other one once, in
-/// the order in which they were reached. The files stay as they are.
+/// the order in which they were reached.
 ///
 /// The first fault that is met is the answer, each with its place: X1 where the root file isn't
 /// there, X16 where it or an argument isn't in the profile of YAML that is read; X5 and X9 where
@@ -295,12 +290,11 @@ pub fn expand_counted<F: Files>(
 pub fn expand<F: Files>(
     alloc: Global,
     meter: &Meter,
-    files: &mut F,
+    files: F,
     root: &FileKey,
     arguments: &List<Argument>,
 ) -> Result<Expanded, ExpandFault>
-    ensures tree { Gives result (expansion (F.files files.old) root.now arguments.now) }
-    ensures same { F.files files.new ≡ F.files files.old }
+    ensures { Gives result (expansion (F.files files) root.now arguments.now) }
 {
     let whole = expand_counted(alloc, meter, files, root, arguments)?;
     Ok(whole.expanded)
