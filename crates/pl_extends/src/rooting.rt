@@ -18,6 +18,7 @@ use crate::forms::{form_place, is_form};
 use pl_base::{
     ExactCopy, List, MarkedNode, MarkedPair, Memory, Node, NodeBody, NodePair, Place, Text, Value,
 };
+use pl_budgets::Budget;
 use pl_calls::{Files, Reach};
 use pl_directives::{
     Action, Chain, Content, Counted, ExpandFault, ExpandProblem, MadeKey, Misfit, Progress, Region,
@@ -356,7 +357,9 @@ impl<'f> Spot<'f> {
         ensures frame { IfOk result (λ spot. spot.frame ≡ self.entry.frame) }
         ensures levels { IfOk result (λ spot. spot.levels + 1 ≡ self.entry.levels) }
     {
-        let levels = self.levels.checked_sub(1).ok_or(Memory)?;
+        let Some(levels) = self.levels.checked_sub(1) else {
+            return Err(self.frame.meter().pass(Budget::Open));
+        };
         Ok(Spot {
             frame: self.frame,
             levels,
