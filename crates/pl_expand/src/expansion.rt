@@ -249,7 +249,7 @@ pub fn expand_counted<F: Files>(
     root: &FileKey,
     arguments: &List<Argument>,
 ) -> Result<RootTree, ExpandFault>
-    ensures { Gives result (tree_of (F.files files) root.now arguments.now) }
+    ensures tree { Gives result (tree_of (F.files files) root.now arguments.now) }
 {
     let mut files = files;
     match files.node(alloc, root)? {
@@ -294,7 +294,7 @@ pub fn expand<F: Files>(
     root: &FileKey,
     arguments: &List<Argument>,
 ) -> Result<Expanded, ExpandFault>
-    ensures { Gives result (expansion (F.files files) root.now arguments.now) }
+    ensures tree { Gives result (expansion (F.files files) root.now arguments.now) }
 {
     let whole = expand_counted(alloc, meter, files, root, arguments)?;
     Ok(whole.expanded)
