@@ -11,6 +11,7 @@ use crate::weighing::{keep_parameters, work_of_calling};
 use pl_base::{
     Crossing, ExactCopy, FileKey, List, MarkedPair, Memory, NodePair, Shared, SharedList,
 };
+use pl_budgets::Meter;
 use pl_directives::ExpandFault;
 use pl_frame::{Frame, Parameter, Variables, parameters_of};
 use pl_params::{Given, under};
@@ -48,13 +49,14 @@ fn all_given(
 /// The parameters that a template's pairs declare, bound to what is given.
 fn parameters_for(
     alloc: Global,
+    meter: &Meter,
     pairs: &List<NodePair>,
     crossings: &SharedList<Crossing>,
     given: &List<Given>,
 ) -> Result<List<Parameter>, ExpandFault>
     ensures { Gives result (parameters_for pairs.now crossings.now given.now) }
 {
-    let declared = declared_by(alloc, under("parameters", pairs))?;
+    let declared = declared_by(alloc, meter, under("parameters", pairs))?;
     let bound = bound_to(alloc, &declared, given)?;
     Ok(parameters_of(alloc, crossings, &declared, bound)?)
 }
@@ -111,7 +113,7 @@ fn framed(
 {
     let meter = variables.meter();
     meter.work(work_of_calling(template.pairs, given))?;
-    let parameters = parameters_for(alloc, template.pairs, crossings, given)?;
+    let parameters = parameters_for(alloc, meter, template.pairs, crossings, given)?;
     keep_parameters(meter, &parameters)?;
     let parameters = Shared::new(alloc, parameters)?;
     Ok(inner_frame(alloc, template.file, parameters, variables, crossings)?)

@@ -8,6 +8,7 @@ ghost use Rattle.pl_directives.specs.Gives.{Gives};
 ghost use Rattle.pl_calls.specs.Parameters.{parameter_told, declared_by, bound_to};
 
 use pl_base::{List, Memory, Node, NodeBody};
+use pl_budgets::{Budget, Meter};
 use pl_directives::{Complaint, ExpandFault, ExpandProblem};
 use pl_params::{Bound, Declared, Given, ParamFault, bind, declare};
 use std::alloc::Global;
@@ -17,14 +18,14 @@ use std::alloc::Global;
 const MOST_PARAMETERS: usize = 1_000;
 
 /// Memory where more parameters are declared than may be.
-fn judge_count(node: &Node) -> Result<(), Memory> {
+fn judge_count(meter: &Meter, node: &Node) -> Result<(), Memory> {
     let count = match &node.body {
         NodeBody::Scalar(_) => 0,
         NodeBody::Seq(items) => items.len(),
         NodeBody::Map(pairs) => pairs.len(),
     };
     if count > MOST_PARAMETERS {
-        return Err(Memory);
+        return Err(meter.pass(Budget::Parameters));
     }
     Ok(())
 }
@@ -63,12 +64,16 @@ fn told_bound(found: Result<List<Bound>, ParamFault>) -> Result<List<Bound>, Exp
 
 /// The declared parameters. X14 where a declaration is wrong. Memory comes too where more than
 /// `MOST_PARAMETERS` are declared.
-pub fn declared_by(alloc: Global, node: Option<&Node>) -> Result<Declared, ExpandFault>
+pub fn declared_by(
+    alloc: Global,
+    meter: &Meter,
+    node: Option<&Node>,
+) -> Result<Declared, ExpandFault>
     ensures { Gives result (declared_by (option_copied node.entry)) }
 {
     match node {
         Some(node) => {
-            judge_count(node)?;
+            judge_count(meter, node)?;
             told_declared(declare(alloc, node))
         }
         None => Ok(List::new(alloc)),

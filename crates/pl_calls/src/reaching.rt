@@ -7,9 +7,9 @@ ghost use Rattle.pl_base.specs.Texts.{is};
 ghost use Rattle.pl_directives.specs.Complaints.{refused};
 ghost use Rattle.pl_directives.specs.Gives.{Gives};
 ghost use Rattle.pl_directives.specs.declared.fault.ExpandProblem.TheVariants.{FileMissing};
-ghost use Rattle.pl_calls.specs.Gives.{GivesUsed};
+ghost use Rattle.pl_calls.specs.Gives.{GivesFrom, GivesUsed};
 ghost use Rattle.pl_calls.specs.Reaching.{file_in, target, aliased, same_file, is_called};
-ghost use Rattle.pl_calls.specs.Reaching.{called_then, found_at, opened_at, opens};
+ghost use Rattle.pl_calls.specs.Reaching.{called_then, found_at, opened_at};
 
 use crate::files::{Files, Parsed};
 use pl_base::{ExactCopy, FileKey, List, Memory, Place, Repository, Shared, Text};
@@ -28,10 +28,11 @@ pub struct Home {
     pub repositories: List<Repository>,
 }
 
-/// Where paths lead, and the files that were called so far, each once, in the order in which they
-/// were reached first.
+/// The files of repositories, where paths lead among them, and the files that were called so far,
+/// each once, in the order in which they were reached first.
 #[derive(Drop)]
-pub struct Reach {
+pub struct Reach<F> {
+    pub files: F,
     pub home: Home,
     pub used: List<FileKey>,
 }
@@ -134,18 +135,22 @@ fn is_called(key: &FileKey, used: &List<FileKey>) -> bool
 }
 
 /// A file is called by then. X2 where too many are.
-fn use_file(alloc: Global, at: &Place, key: &FileKey, reach: &mut Reach) -> Result<(), ExpandFault>
-    ensures used { GivesUsed result reach.new.used (called_then at.now key.now reach.old.used) }
-    ensures home { reach.new.home ≡ reach.old.home }
+fn use_file(
+    alloc: Global,
+    at: &Place,
+    key: &FileKey,
+    used: &mut List<FileKey>,
+) -> Result<(), ExpandFault>
+    ensures { GivesUsed result used.new (called_then at.now key.now used.old) }
 {
-    if is_called(key, &reach.used) {
+    if is_called(key, used) {
         return Ok(());
     }
-    if MOST_FILES <= reach.used.len() {
+    if MOST_FILES <= used.len() {
         let first = complain(alloc, ExpandProblem::TooManyFiles, at)?;
         return Err(ExpandFault::Refused(first));
     }
-    reach.used.push(key.copy(alloc)?)?;
+    used.push(key.copy(alloc)?)?;
     Ok(())
 }
 
@@ -155,13 +160,11 @@ fn open_found(
     at: &Place,
     key: FileKey,
     file: Shared<Parsed>,
-    reach: &mut Reach,
+    used: &mut List<FileKey>,
 ) -> Result<Opened, ExpandFault>
-    ensures opened { GivesUsed result reach.new.used (found_at at.now key (Some file)
-        reach.old.used) }
-    ensures home { reach.new.home ≡ reach.old.home }
+    ensures { GivesUsed result used.new (found_at at.now key (Some file) used.old) }
 {
-    use_file(alloc, at, &key, reach)?;
+    use_file(alloc, at, &key, used)?;
     let key = Shared::new(alloc, key)?;
     Ok(Opened { key, file })
 }
@@ -180,16 +183,15 @@ fn open_key<F: Files>(
     alloc: Global,
     at: &Place,
     key: FileKey,
-    files: &mut F,
-    reach: &mut Reach,
+    reach: &mut Reach<F>,
 ) -> Result<Opened, ExpandFault>
-    ensures opened { GivesUsed result reach.new.used (opened_at (F.files files.old) at.now (Some
-        key) reach.old.used) }
-    ensures files { F.files files.new ≡ F.files files.old }
+    ensures opened { GivesUsed result reach.new.used (opened_at (F.files reach.old.files) at.now
+        (Some key) reach.old.used) }
+    ensures files { F.files reach.new.files ≡ F.files reach.old.files }
     ensures home { reach.new.home ≡ reach.old.home }
 {
-    match files.node(alloc, &key)? {
-        Some(file) => open_found(alloc, at, key, file, reach),
+    match reach.files.node(alloc, &key)? {
+        Some(file) => open_found(alloc, at, key, file, &mut reach.used),
         None => missing(alloc, at),
     }
 }
@@ -202,17 +204,13 @@ pub fn open<F: Files>(
     alloc: Global,
     at: &Place,
     path: &Text,
-    files: &mut F,
-    reach: &mut Reach,
+    reach: &mut Reach<F>,
 ) -> Result<Opened, ExpandFault>
-    ensures opened { GivesUsed result reach.new.used (opens (F.files files.old) reach.old.home
-        at.now path.now reach.old.used) }
-    ensures files { F.files files.new ≡ F.files files.old }
-    ensures home { reach.new.home ≡ reach.old.home }
+    ensures { GivesFrom F.files result reach.old reach.new (λ opens. opens at.now path.now) }
 {
     let cut = cut_path(alloc, path)?;
     match target(alloc, at, &cut, &reach.home)? {
-        Some(key) => open_key(alloc, at, key, files, reach),
+        Some(key) => open_key(alloc, at, key, reach),
         None => missing(alloc, at),
     }
 }

@@ -14,4 +14,4 @@ pub before_all :
 before_all None old is = absurd is
 before_all (Some (Replay admin)) old is = absurd is
 before_all (Some (Compile arguments)) old is =
-    (ending.Memory, refl, ([], none_read old.link.left, omega arith, refl, refl))
+    (ending.Memory None, refl, ([], none_read old.link.left, omega arith, refl, refl))

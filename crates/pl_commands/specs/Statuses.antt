@@ -36,4 +36,4 @@ compile_status ending.NotBundle = status.NotWhole
 compile_status ending.ReadFault = status.ReadFault
 compile_status ending.Spent = status.Spent
 compile_status ending.WriteFault = status.WriteFault
-compile_status ending.Memory = status.Memory
+compile_status (ending.Memory passed) = status.Memory

@@ -13,6 +13,7 @@ use crate::fault::CompileFault;
 use pl_base::{
     Argument, Bytes, ExactCopy, Expanded, FileKey, FileSet, List, Memory, Place, Refusal, Text,
 };
+use pl_budgets::Meter;
 use pl_plan::{Compiled, Plan, PlanCode, PlanFault, Sources, plan_of};
 use pl_schema::{Pipeline, SchemaCode, SchemaFault, pipeline_of};
 use std::alloc::Global;
@@ -65,10 +66,10 @@ fn read(alloc: Global, whole: &Expanded) -> Result<Pipeline, CompileFault>
 }
 
 /// The plan of a pipeline.
-fn planned(alloc: Global, pipeline: &Pipeline) -> Result<Plan, CompileFault>
+fn planned(alloc: Global, meter: &Meter, pipeline: &Pipeline) -> Result<Plan, CompileFault>
     ensures { Plans pipeline.now result }
 {
-    judge_copies(pipeline)?;
+    judge_copies(meter, pipeline)?;
     match plan_of(alloc, pipeline) {
         Ok(plan) => Ok(plan),
         Err(PlanFault::Refused(code, place)) => {
@@ -79,11 +80,11 @@ fn planned(alloc: Global, pipeline: &Pipeline) -> Result<Plan, CompileFault>
 }
 
 /// The plan of an expanded tree.
-fn tree_planned(alloc: Global, whole: &Expanded) -> Result<Plan, CompileFault>
+fn tree_planned(alloc: Global, meter: &Meter, whole: &Expanded) -> Result<Plan, CompileFault>
     ensures { PlansTree whole.now result }
 {
     match read(alloc, whole) {
-        Ok(pipeline) => planned(alloc, &pipeline),
+        Ok(pipeline) => planned(alloc, meter, &pipeline),
         Err(fault) => Err(fault),
     }
 }
@@ -150,7 +151,8 @@ fn sources_of(
 /// expanded, read by the schema and planned. Refused with the first code of the expansion (X1 to
 /// X16), else of the schema (S1 to S9), else of the plan (L1 to L6), at its place; details are the
 /// inner code for X12, X13, X14 and X16, and the names of a cycle for L2. Memory where memory was
-/// wanting.
+/// wanting, which comes too where a budget is passed: `meter` counts what is made and done, and
+/// tells the first one.
 ///
 /// Where the plan extends a template, the mapping of each step and each node and key in it crossed
 /// the border `extends` just once, and into that template (clause `steps`); and what of these no
@@ -164,6 +166,7 @@ fn sources_of(
 /// "Security through templates").
 pub fn compile(
     alloc: Global,
+    meter: &Meter,
     files: &FileSet,
     root: &FileKey,
     arguments: &List<Argument>,
@@ -176,8 +179,8 @@ pub fn compile(
     ensures known { IfOk result (AreKnown files.now root.now arguments.now) }
     ensures texts { IfOk result (AreSaid files.now) }
 {
-    let whole = expanded(alloc, files, root, arguments)?;
-    match tree_planned(alloc, &whole) {
+    let whole = expanded(alloc, meter, files, root, arguments)?;
+    match tree_planned(alloc, meter, &whole) {
         Ok(plan) => {
             let sources = sources_of(alloc, files, root, arguments, &whole.used)?;
             Ok(Compiled { plan, sources })

@@ -1,4 +1,5 @@
 use pl_base::{List, Memory, Text, Value};
+use pl_budgets::{Budget, Meter};
 use pl_depends::leg_count;
 use pl_expr::Expr;
 use pl_schema::{JobSpec, Pipeline, PoolSpec, StageSpec, Variable};
@@ -10,10 +11,10 @@ const MOST_COPIED: u64 = 16_777_216;
 const ONE: u64 = 72;
 
 /// Memory where more is copied for the stages and legs of a pipeline than may be.
-pub(crate) fn judge_copies(pipeline: &Pipeline) -> Result<(), Memory> {
+pub(crate) fn judge_copies(meter: &Meter, pipeline: &Pipeline) -> Result<(), Memory> {
     let all = stages_weight(pipeline, pipeline.stages.as_slice());
     if all > MOST_COPIED {
-        return Err(Memory);
+        return Err(meter.pass(Budget::Copied));
     }
     Ok(())
 }

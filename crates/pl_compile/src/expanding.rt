@@ -18,6 +18,7 @@ use crate::fault::CompileFault;
 use crate::refusing::refusal_of;
 use crate::text_files::TextFiles;
 use pl_base::{Argument, Expanded, FileKey, FileSet, List};
+use pl_budgets::Meter;
 use pl_directives::ExpandFault;
 use pl_provenance::expand;
 use std::alloc::Global;
@@ -58,6 +59,7 @@ fn told(alloc: Global, expanded: Result<Expanded, ExpandFault>) -> Result<Expand
 /// Microsoft Learn, Azure Pipelines, "Security through templates").
 pub fn expanded(
     alloc: Global,
+    meter: &Meter,
     files: &FileSet,
     root: &FileKey,
     arguments: &List<Argument>,
@@ -76,7 +78,7 @@ pub fn expanded(
     ensures texts { IfOk result (λ whole.
         AllByRecursion (IsSaid (read_all files.now)) (marks_of whole.tree)) }
 {
-    let mut read = TextFiles::new(alloc, files);
-    let expanded = expand(alloc, &mut read, root, arguments);
+    let read = TextFiles::new(alloc, meter, files);
+    let expanded = expand(alloc, meter, read, root, arguments);
     told(alloc, expanded)
 }

@@ -1,7 +1,7 @@
 ghost use Rattle.std.specs.Prelude.{◌≡◌, [], None, filter, not, IfOk};
 ghost use Rattle.pl_base.specs.Places.{place_at};
-ghost use Rattle.pl_calls.specs.Gives.{GivesUsed};
-ghost use Rattle.pl_calls.specs.Reaching.{opens, same_file};
+ghost use Rattle.pl_calls.specs.Gives.{GivesFrom};
+ghost use Rattle.pl_calls.specs.Reaching.{same_file};
 ghost use Rattle.pl_directives.specs.Complaints.{refused};
 ghost use Rattle.pl_directives.specs.Gives.{Gives};
 ghost use Rattle.pl_directives.specs.declared.fault.ExpandProblem.TheVariants.{FileMissing};
@@ -18,11 +18,11 @@ use pl_base::{
     Argument, ExactCopy, Expanded, FileKey, List, Memory, Node, NodeBody, NodePair, Place,
     Repository, Shared,
 };
-use pl_budgets::Meter;
+use pl_budgets::{Budget, Meter};
 use pl_calls::{Files, Home, Reach, node_in, same_file, under};
 use pl_directives::{Counted, ExpandFault, ExpandProblem, complain, enter};
 use pl_extends::ROOT;
-use pl_frame::{Frame, Parameter};
+use pl_frame::Frame;
 use pl_recursion::{Scope, expand_node};
 use pl_root::{first_complaint, first_frame, parameters_by, repositories_of};
 use std::alloc::Global;
@@ -42,10 +42,14 @@ fn used_files(alloc: Global, root: &FileKey, used: List<FileKey>) -> Result<List
 }
 
 /// The whole of an expansion.
-fn whole(alloc: Global, one: RootNode, reach: Reach) -> Result<RootTree, Memory>
+fn whole<F: Files>(alloc: Global, one: RootNode, reach: Reach<F>) -> Result<RootTree, Memory>
     ensures { IfOk result (λ tree. tree ≡ whole reach.home one reach.used) }
 {
-    let Reach { home, used } = reach;
+    let Reach {
+        files: _,
+        home,
+        used,
+    } = reach;
     let Home { root, repositories } = home;
     let used = used_files(alloc, &root, used)?;
     let RootNode {
@@ -66,39 +70,18 @@ fn whole(alloc: Global, one: RootNode, reach: Reach) -> Result<RootTree, Memory>
 /// The root's mapping, with its parameters.
 fn expand_pairs<F: Files>(
     alloc: Global,
-    root: &FileKey,
-    place: &Place,
-    pairs: &List<NodePair>,
-    parameters: List<Parameter>,
-    files: &mut F,
-    reach: &mut Reach,
+    root: &RootMapping<'_>,
+    reach: &mut Reach<F>,
 ) -> Result<RootNode, ExpandFault>
     requires { reach.old.used ≡ [] }
-    ensures expanded { GivesUsed result reach.new.used (pairs_expanded (root_mapping root.now
-        place.now pairs.now parameters) (opens (F.files files.old) reach.old.home)) }
-    ensures files { F.files files.new ≡ F.files files.old }
-    ensures home { reach.new.home ≡ reach.old.home }
+    ensures { GivesFrom F.files result reach.old reach.new (λ opens used. pairs_expanded
+        (root_mapping root.now.file.now root.now.place.now root.now.pairs.now
+        root.now.parameters.now) opens) }
 {
-    let parameters = Shared::new(alloc, parameters)?;
-    let count = enter(alloc, place, 0)?;
-    let meter = Meter::new(alloc)?;
-    let first = first_frame(alloc, root, &parameters, &meter)?;
-    let early = early_by(
-        alloc,
-        under("variables", pairs),
-        &first,
-        count,
-        files,
-        reach,
-    )?;
-    let mapping = RootMapping {
-        file: root,
-        place,
-        pairs,
-        parameters: &parameters,
-        meter: &meter,
-    };
-    fill_root(alloc, &mapping, early, files, reach)
+    let count = enter(alloc, root.place, 0)?;
+    let first = first_frame(alloc, root.file, root.parameters, root.meter)?;
+    let early = early_by(alloc, under("variables", root.pairs), &first, count, reach)?;
+    fill_root(alloc, root, early, reach)
 }
 
 /// How many repositories a root file has: each call seeks its alias among them. More are want of
@@ -106,22 +89,30 @@ fn expand_pairs<F: Files>(
 const MOST_REPOSITORIES: usize = 1_000;
 
 /// Memory where there are more repositories than may be.
-fn judge_repositories(repositories: &List<Repository>) -> Result<(), Memory> {
+fn judge_repositories(meter: &Meter, repositories: &List<Repository>) -> Result<(), Memory> {
     if repositories.len() > MOST_REPOSITORIES {
-        return Err(Memory);
+        return Err(meter.pass(Budget::Repositories));
     }
     Ok(())
 }
 
 /// Where paths lead from a root of these pairs. Nothing is called yet.
-fn reach_from(alloc: Global, root: &FileKey, pairs: &List<NodePair>) -> Result<Reach, Memory>
+fn reach_from<F: Files>(
+    alloc: Global,
+    meter: &Meter,
+    files: F,
+    root: &FileKey,
+    pairs: &List<NodePair>,
+) -> Result<Reach<F>, Memory>
+    ensures files { IfOk result (λ reach. reach.files ≡ files) }
     ensures home { IfOk result (λ reach. reach.home ≡ home_of root.now pairs.now) }
     ensures used { IfOk result (λ reach. reach.used ≡ []) }
 {
     let repositories = repositories_of(alloc, under("resources", pairs))?;
-    judge_repositories(&repositories)?;
+    judge_repositories(meter, &repositories)?;
     let root = root.copy(alloc)?;
     Ok(Reach {
+        files,
         home: Home { root, repositories },
         used: List::new(alloc),
     })
@@ -130,32 +121,42 @@ fn reach_from(alloc: Global, root: &FileKey, pairs: &List<NodePair>) -> Result<R
 /// A root that is a mapping.
 fn expand_mapping<F: Files>(
     alloc: Global,
+    meter: &Meter,
     root: &FileKey,
     place: &Place,
     pairs: &List<NodePair>,
     arguments: &List<Argument>,
-    files: &mut F,
+    files: F,
 ) -> Result<RootTree, ExpandFault>
-    ensures expanded { Gives result (mapping_expanded (F.files files.old) root.now place.now
+    ensures { Gives result (mapping_expanded (F.files files) root.now place.now
         pairs.now arguments.now) }
-    ensures files { F.files files.new ≡ F.files files.old }
 {
     if let Some(first) = first_complaint(alloc, pairs)? {
         return Err(ExpandFault::Refused(first));
     }
-    let parameters = parameters_by(alloc, under("parameters", pairs), arguments)?;
-    let mut reach = reach_from(alloc, root, pairs)?;
-    let one = expand_pairs(alloc, root, place, pairs, parameters, files, &mut reach)?;
+    let parameters = parameters_by(alloc, meter, under("parameters", pairs), arguments)?;
+    let parameters = Shared::new(alloc, parameters)?;
+    let mapping = RootMapping {
+        file: root,
+        place,
+        pairs,
+        parameters: &parameters,
+        meter,
+    };
+    let mut reach = reach_from(alloc, meter, files, root, pairs)?;
+    let one = expand_pairs(alloc, &mapping, &mut reach)?;
     Ok(whole(alloc, one, reach)?)
 }
 
 /// Where paths lead from a root without resources. Nothing is called yet.
-fn bare_reach(alloc: Global, root: &FileKey) -> Result<Reach, Memory>
+fn bare_reach<F: Files>(alloc: Global, files: F, root: &FileKey) -> Result<Reach<F>, Memory>
+    ensures files { IfOk result (λ reach. reach.files ≡ files) }
     ensures home { IfOk result (λ reach. reach.home ≡ bare_home root.now) }
     ensures used { IfOk result (λ reach. reach.used ≡ []) }
 {
     let root = root.copy(alloc)?;
     Ok(Reach {
+        files,
         home: Home {
             root,
             repositories: List::new(alloc),
@@ -182,53 +183,51 @@ fn expand_bare<F: Files>(
     root: &FileKey,
     node: &Node,
     frame: &Frame,
-    files: &mut F,
+    files: F,
 ) -> Result<RootTree, ExpandFault>
-    ensures expanded { Gives result (bare_expanded (F.files files.old) root.now node.now
+    ensures { Gives result (bare_expanded (F.files files) root.now node.now
         frame.now) }
-    ensures files { F.files files.new ≡ F.files files.old }
 {
-    let mut reach = bare_reach(alloc, root)?;
+    let mut reach = bare_reach(alloc, files, root)?;
     let scope = Scope { frame, at: ROOT };
-    let one = expand_node(alloc, node, scope, 0, files, &mut reach)?;
+    let one = expand_node(alloc, node, scope, 0, &mut reach)?;
     Ok(whole(alloc, bare_node(one), reach)?)
 }
 
 /// A root that is no mapping.
 fn expand_other<F: Files>(
     alloc: Global,
+    meter: &Meter,
     root: &FileKey,
     node: &Node,
     arguments: &List<Argument>,
-    files: &mut F,
+    files: F,
 ) -> Result<RootTree, ExpandFault>
-    ensures expanded { Gives result (other_expanded (F.files files.old) root.now node.now
+    ensures { Gives result (other_expanded (F.files files) root.now node.now
         arguments.now) }
-    ensures files { F.files files.new ≡ F.files files.old }
 {
-    let parameters = Shared::new(alloc, parameters_by(alloc, None, arguments)?)?;
-    let meter = Meter::new(alloc)?;
-    let frame = first_frame(alloc, root, &parameters, &meter)?;
+    let parameters = Shared::new(alloc, parameters_by(alloc, meter, None, arguments)?)?;
+    let frame = first_frame(alloc, root, &parameters, meter)?;
     expand_bare(alloc, root, node, &frame, files)
 }
 
 /// A root file's node.
 fn expand_root<F: Files>(
     alloc: Global,
+    meter: &Meter,
     root: &FileKey,
     node: &Node,
     arguments: &List<Argument>,
-    files: &mut F,
+    files: F,
 ) -> Result<RootTree, ExpandFault>
-    ensures expanded { Gives result (body_expanded (F.files files.old) root.now node.now
+    ensures { Gives result (body_expanded (F.files files) root.now node.now
         arguments.now) }
-    ensures files { F.files files.new ≡ F.files files.old }
 {
     match &node.body {
         NodeBody::Map(pairs) => {
-            expand_mapping(alloc, root, &node.place, pairs, arguments, files)
+            expand_mapping(alloc, meter, root, &node.place, pairs, arguments, files)
         }
-        _ => expand_other(alloc, root, node, arguments, files),
+        _ => expand_other(alloc, meter, root, node, arguments, files),
     }
 }
 
@@ -242,20 +241,21 @@ fn missing(alloc: Global, root: &FileKey) -> Result<RootTree, ExpandFault>
     Err(ExpandFault::Refused(first))
 }
 
-/// The expansion of a root file with run arguments, and the count of its nodes.
+/// The expansion of a root file with run arguments under a meter, and the count of its nodes.
 pub fn expand_counted<F: Files>(
     alloc: Global,
-    files: &mut F,
+    meter: &Meter,
+    files: F,
     root: &FileKey,
     arguments: &List<Argument>,
 ) -> Result<RootTree, ExpandFault>
-    ensures tree { Gives result (tree_of (F.files files.old) root.now arguments.now) }
-    ensures same { F.files files.new ≡ F.files files.old }
+    ensures tree { Gives result (tree_of (F.files files) root.now arguments.now) }
 {
+    let mut files = files;
     match files.node(alloc, root)? {
         Some(file) => {
             let node = node_in(alloc, &file)?;
-            expand_root(alloc, root, node, arguments, files)
+            expand_root(alloc, meter, root, node, arguments, files)
         }
         None => missing(alloc, root),
     }
@@ -265,12 +265,12 @@ pub fn expand_counted<F: Files>(
 /// "Templates", "Template expressions", "YAML schema reference").
 ///
 /// `root` is the pipeline's file; its ref is the run's ref. `arguments` are the run's arguments, as
-/// texts. An item whose first key is `template`, directly in a list under `stages`, `jobs`, `steps`
-/// or `variables`, calls the template that its path leads to, and stands for what that gives;
-/// `extends` of the root puts what a template gives behind the root's own pairs. What comes out is
-/// the tree, the root's key, that of the template which it extends, its repositories, and the files
-/// that were used: the root, and each other one once, in the order in which they were reached. The
-/// files stay as they are.
+/// texts. What is made and done counts in `meter`. An item whose first key is `template`, directly
+/// in a list under `stages`, `jobs`, `steps` or `variables`, calls the template that its path leads
+/// to, and stands for what that gives; `extends` of the root puts what a template gives behind the
+/// root's own pairs. What comes out is the tree, the root's key, that of the template which it
+/// extends, its repositories, and the files that were used: the root, and each other one once, in
+/// the order in which they were reached.
 ///
 /// The first fault that is met is the answer, each with its place: X1 where the root file isn't
 /// there, X16 where it or an argument isn't in the profile of YAML that is read; X5 and X9 where
@@ -286,16 +286,16 @@ pub fn expand_counted<F: Files>(
 /// out of the repository or no file is there, X2 where it is the 101st file, X16 where that isn't
 /// in the profile, X10 where that extends a template itself, X9 where it isn't of the form that is
 /// called, X14 where its declarations are wrong or the arguments don't fit. Memory may come at any
-/// time, also where more than `MOST_OPEN` nodes are open at once, over all calls.
+/// time, also where a budget of the meter is passed, which it tells then.
 pub fn expand<F: Files>(
     alloc: Global,
-    files: &mut F,
+    meter: &Meter,
+    files: F,
     root: &FileKey,
     arguments: &List<Argument>,
 ) -> Result<Expanded, ExpandFault>
-    ensures tree { Gives result (expansion (F.files files.old) root.now arguments.now) }
-    ensures same { F.files files.new ≡ F.files files.old }
+    ensures tree { Gives result (expansion (F.files files) root.now arguments.now) }
 {
-    let whole = expand_counted(alloc, files, root, arguments)?;
+    let whole = expand_counted(alloc, meter, files, root, arguments)?;
     Ok(whole.expanded)
 }

@@ -1,7 +1,6 @@
 ghost use Rattle.std.specs.Prelude.{◌≡◌, filter, IfOk};
 ghost use Rattle.std.specs.Option.{option_copied, option_map};
-ghost use Rattle.pl_calls.specs.Gives.{GivesUsed};
-ghost use Rattle.pl_calls.specs.Reaching.{opens};
+ghost use Rattle.pl_calls.specs.Gives.{GivesFrom};
 ghost use Rattle.pl_directives.specs.Gives.{Gives};
 ghost use Rattle.pl_recursion.specs.Levels.{followed};
 ghost use Rattle.pl_expand.specs.Tree.{early_by, given_to, early_behind, root_pair, root_pairs};
@@ -39,13 +38,10 @@ pub fn early_by<F: Files>(
     node: Option<&Node>,
     frame: &Frame,
     count: u32,
-    files: &mut F,
-    reach: &mut Reach,
+    reach: &mut Reach<F>,
 ) -> Result<Early, ExpandFault>
-    ensures early { GivesUsed result reach.new.used (early_by (option_copied node.entry) (followed
-        100 (opens (F.files files.old) reach.old.home)) frame.now count reach.old.used) }
-    ensures files { F.files files.new ≡ F.files files.old }
-    ensures home { reach.new.home ≡ reach.old.home }
+    ensures early { GivesFrom F.files result reach.old reach.new (λ opens. early_by (option_copied
+        node.entry) (followed 100 opens) frame.now count) }
 {
     let Some(node) = node else {
         return Ok(Early { node: None, count });
@@ -55,7 +51,7 @@ pub fn early_by<F: Files>(
         levels: MOST_OPEN,
         calls: MOST_LEVELS,
     };
-    let one = expand_node(alloc, node, Scope { frame, at }, count, files, reach)?;
+    let one = expand_node(alloc, node, Scope { frame, at }, count, reach)?;
     Ok(Early {
         node: Some(one.node),
         count: one.count,
@@ -123,13 +119,10 @@ fn fill_root_pair<F: Files>(
     early: Option<MarkedNode>,
     frame: &Frame,
     filling: RootFilling,
-    files: &mut F,
-    reach: &mut Reach,
+    reach: &mut Reach<F>,
 ) -> Result<RootFilling, ExpandFault>
-    ensures filled { GivesUsed result reach.new.used (root_pair (root_key pair.now.key) early
-        pair.now (opens (F.files files.old) reach.old.home) frame.now filling reach.old.used) }
-    ensures files { F.files files.new ≡ F.files files.old }
-    ensures home { reach.new.home ≡ reach.old.home }
+    ensures filled { GivesFrom F.files result reach.old reach.new (λ opens. root_pair (root_key
+        pair.now.key) early pair.now opens frame.now filling) }
 {
     let spot = Spot {
         frame,
@@ -139,11 +132,9 @@ fn fill_root_pair<F: Files>(
         RootKey::Parameters | RootKey::Resources => Ok(filling.chained(Chain::Closed)),
         RootKey::Variables => match early {
             Some(node) => fill_variables(alloc, node, pair, frame, filling),
-            None => put_pair_of(alloc, pair, spot, filling, files, reach),
+            None => put_pair_of(alloc, pair, spot, filling, reach),
         },
-        RootKey::Extends | RootKey::Other => {
-            put_pair_of(alloc, pair, spot, filling, files, reach)
-        }
+        RootKey::Extends | RootKey::Other => { put_pair_of(alloc, pair, spot, filling, reach) }
     }
 }
 
@@ -154,19 +145,16 @@ fn fill_root_pairs<F: Files>(
     pairs: &List<NodePair>,
     frame: &Frame,
     filling: RootFilling,
-    files: &mut F,
-    reach: &mut Reach,
+    reach: &mut Reach<F>,
 ) -> Result<RootFilling, ExpandFault>
-    ensures filled { GivesUsed result reach.new.used (root_pairs early pairs.now (opens (F.files
-        files.old) reach.old.home) frame.now filling reach.old.used) }
-    ensures files { F.files files.new ≡ F.files files.old }
-    ensures home { reach.new.home ≡ reach.old.home }
+    ensures filled { GivesFrom F.files result reach.old reach.new (λ opens. root_pairs early
+        pairs.now opens frame.now filling) }
 {
     let mut left = early;
     let mut after = filling;
     for pair in pairs.as_slice() {
         let given = given_to(RootKey::of(&pair.key), &mut left);
-        after = fill_root_pair(alloc, pair, given, frame, after, files, reach)?;
+        after = fill_root_pair(alloc, pair, given, frame, after, reach)?;
     }
     Ok(after)
 }
@@ -270,20 +258,17 @@ fn fill_in<F: Files>(
     pairs: &List<NodePair>,
     frame: &Frame,
     early: Early,
-    files: &mut F,
-    reach: &mut Reach,
+    reach: &mut Reach<F>,
 ) -> Result<RootNode, ExpandFault>
-    ensures filled { GivesUsed result reach.new.used (filled_in place.now pairs.now frame.now
-        (opens (F.files files.old) reach.old.home) early reach.old.used) }
-    ensures files { F.files files.new ≡ F.files files.old }
-    ensures home { reach.new.home ≡ reach.old.home }
+    ensures filled { GivesFrom F.files result reach.old reach.new (λ opens. filled_in place.now
+        pairs.now frame.now opens early) }
 {
     let Early { node, count } = early;
     let filling = RootFilling {
         progress: begin(alloc, Kind::Pairs, Chain::Closed, count),
         extension: None,
     };
-    let filling = fill_root_pairs(alloc, node, pairs, frame, filling, files, reach)?;
+    let filling = fill_root_pairs(alloc, node, pairs, frame, filling, reach)?;
     let origin = literal_at(alloc, frame, place)?;
     root_from(alloc, origin, filling)
 }
@@ -293,16 +278,13 @@ pub fn fill_root<F: Files>(
     alloc: Global,
     root: &RootMapping<'_>,
     early: Early,
-    files: &mut F,
-    reach: &mut Reach,
+    reach: &mut Reach<F>,
 ) -> Result<RootNode, ExpandFault>
-    ensures filled { GivesUsed result reach.new.used (filled_root (root_mapping root.now.file.now
-        root.now.place.now root.now.pairs.now root.now.parameters.now) (opens (F.files files.old)
-        reach.old.home) early reach.old.used) }
-    ensures files { F.files files.new ≡ F.files files.old }
-    ensures home { reach.new.home ≡ reach.old.home }
+    ensures filled { GivesFrom F.files result reach.old reach.new (λ opens. filled_root
+        (root_mapping root.now.file.now root.now.place.now root.now.pairs.now
+        root.now.parameters.now) opens early) }
 {
     let early_node = early.node.as_ref();
     let frame = second_frame(alloc, root.file, root.parameters, early_node, root.meter)?;
-    fill_in(alloc, root.place, root.pairs, &frame, early, files, reach)
+    fill_in(alloc, root.place, root.pairs, &frame, early, reach)
 }

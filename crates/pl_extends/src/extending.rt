@@ -2,10 +2,9 @@ ghost use Rattle.std.specs.Prelude.{◌≡◌, [], IfOk};
 ghost use Rattle.pl_base.specs.declared.origin.Crossing.TheVariants.{Extends};
 ghost use Rattle.pl_calls.specs.Frames.{template_seen, framed_by};
 ghost use Rattle.std.specs.Option.{option_copied};
-ghost use Rattle.pl_calls.specs.Gives.{GivesUsed};
+ghost use Rattle.pl_calls.specs.Gives.{GivesFrom};
 ghost use Rattle.pl_calls.specs.Nodes.{GivesPairs};
 ghost use Rattle.pl_calls.specs.Judging.{stray, unless_at, may_give};
-ghost use Rattle.pl_calls.specs.Reaching.{opens};
 ghost use Rattle.pl_directives.specs.Complaints.{refused};
 ghost use Rattle.pl_directives.specs.Gives.{Gives};
 ghost use Rattle.pl_directives.specs.declared.fault.ExpandProblem.TheVariants.{WrongKind, KeyTwice};
@@ -112,19 +111,16 @@ fn value_from<F: Files>(
     node: &Node,
     frame: &Frame,
     count: u32,
-    files: &mut F,
-    reach: &mut Reach,
+    reach: &mut Reach<F>,
 ) -> Result<SettledPairs, ExpandFault>
-    ensures given { GivesUsed result reach.new.used (value_from node.now (followed 100 (opens
-        (F.files files.old) reach.old.home)) frame.now count reach.old.used) }
-    ensures files { F.files files.new ≡ F.files files.old }
-    ensures home { reach.new.home ≡ reach.old.home }
+    ensures given { GivesFrom F.files result reach.old reach.new (λ opens. value_from node.now
+        (followed 100 opens) frame.now count) }
 {
     let scope = Scope {
         frame,
         at: ARGUMENTS,
     };
-    let one = expand_node(alloc, node, scope, count, files, reach)?;
+    let one = expand_node(alloc, node, scope, count, reach)?;
     mapping_from(alloc, one)
 }
 
@@ -135,17 +131,14 @@ fn argument_behind<F: Files>(
     pair: &NodePair,
     frame: &Frame,
     before: SettledPairs,
-    files: &mut F,
-    reach: &mut Reach,
+    reach: &mut Reach<F>,
 ) -> Result<SettledPairs, ExpandFault>
-    ensures given { GivesUsed result reach.new.used (argument_behind pair.now (followed 100 (opens
-        (F.files files.old) reach.old.home)) frame.now before reach.old.used) }
-    ensures files { F.files files.new ≡ F.files files.old }
-    ensures home { reach.new.home ≡ reach.old.home }
+    ensures given { GivesFrom F.files result reach.old reach.new (λ opens. argument_behind pair.now
+        (followed 100 opens) frame.now before) }
 {
     match pair.key.as_str() {
         "template" => Ok(before),
-        "parameters" => value_from(alloc, &pair.item, frame, before.count, files, reach),
+        "parameters" => value_from(alloc, &pair.item, frame, before.count, reach),
         _ => wrong(alloc, &pair.key_place),
     }
 }
@@ -156,21 +149,17 @@ fn arguments_in<F: Files>(
     pairs: &List<NodePair>,
     frame: &Frame,
     count: u32,
-    files: &mut F,
-    reach: &mut Reach,
+    reach: &mut Reach<F>,
 ) -> Result<SettledPairs, ExpandFault>
-    ensures given { GivesUsed result reach.new.used (arguments_behind pairs.now (followed 100 (opens
-        (F.files files.old) reach.old.home)) frame.now (record { pairs = []; count = count })
-        reach.old.used) }
-    ensures files { F.files files.new ≡ F.files files.old }
-    ensures home { reach.new.home ≡ reach.old.home }
+    ensures given { GivesFrom F.files result reach.old reach.new (λ opens. arguments_behind
+        pairs.now (followed 100 opens) frame.now (record { pairs = []; count = count })) }
 {
     let mut given = SettledPairs {
         pairs: List::new(alloc),
         count,
     };
     for pair in pairs.as_slice() {
-        given = argument_behind(alloc, pair, frame, given, files, reach)?;
+        given = argument_behind(alloc, pair, frame, given, reach)?;
     }
     Ok(given)
 }
@@ -215,13 +204,10 @@ fn fill_body_pair<F: Files>(
     pair: &NodePair,
     frame: &Frame,
     progress: Progress,
-    files: &mut F,
-    reach: &mut Reach,
+    reach: &mut Reach<F>,
 ) -> Result<Progress, ExpandFault>
-    ensures filled { GivesUsed result reach.new.used (body_pair pair.now (scope_of (followed 99
-        (opens (F.files files.old) reach.old.home)) frame.now Free) progress reach.old.used) }
-    ensures files { F.files files.new ≡ F.files files.old }
-    ensures home { reach.new.home ≡ reach.old.home }
+    ensures filled { GivesFrom F.files result reach.old reach.new (λ opens. body_pair pair.now
+        (scope_of (followed 99 opens) frame.now Free) progress) }
 {
     if pair.key.as_str() == "parameters" {
         return Ok(progress);
@@ -230,7 +216,7 @@ fn fill_body_pair<F: Files>(
         frame,
         at: EXTENDED,
     };
-    fill_pair(alloc, pair, scope, progress, files, reach)
+    fill_pair(alloc, pair, scope, progress, reach)
 }
 
 /// The template's pairs but the declarations.
@@ -239,17 +225,14 @@ fn fill_body_pairs<F: Files>(
     pairs: &List<NodePair>,
     frame: &Frame,
     progress: Progress,
-    files: &mut F,
-    reach: &mut Reach,
+    reach: &mut Reach<F>,
 ) -> Result<Progress, ExpandFault>
-    ensures filled { GivesUsed result reach.new.used (body_pairs pairs.now (scope_of (followed 99
-        (opens (F.files files.old) reach.old.home)) frame.now Free) progress reach.old.used) }
-    ensures files { F.files files.new ≡ F.files files.old }
-    ensures home { reach.new.home ≡ reach.old.home }
+    ensures filled { GivesFrom F.files result reach.old reach.new (λ opens. body_pairs pairs.now
+        (scope_of (followed 99 opens) frame.now Free) progress) }
 {
     let mut after = progress;
     for pair in pairs.as_slice() {
-        after = fill_body_pair(alloc, pair, frame, after, files, reach)?;
+        after = fill_body_pair(alloc, pair, frame, after, reach)?;
     }
     Ok(after)
 }
@@ -299,18 +282,15 @@ fn fill_extension<F: Files>(
     place: &Place,
     inner: &Frame,
     count: u32,
-    files: &mut F,
-    reach: &mut Reach,
+    reach: &mut Reach<F>,
 ) -> Result<Extension, ExpandFault>
-    ensures filled { GivesUsed result reach.new.used (body_filled template.now.file.now place.now
-        template.now.pairs.now (scope_of (followed 99 (opens (F.files files.old) reach.old.home))
-        inner.now Free) count reach.old.used) }
-    ensures files { F.files files.new ≡ F.files files.old }
-    ensures home { reach.new.home ≡ reach.old.home }
+    ensures filled { GivesFrom F.files result reach.old reach.new (λ opens. body_filled
+        template.now.file.now place.now template.now.pairs.now (scope_of (followed 99 opens)
+        inner.now Free) count) }
 {
     let count = enter(alloc, place, count)?;
     let begun = begin(alloc, Kind::Pairs, Chain::Closed, count);
-    let after = fill_body_pairs(alloc, template.pairs, inner, begun, files, reach)?;
+    let after = fill_body_pairs(alloc, template.pairs, inner, begun, reach)?;
     extension_of(alloc, template.file, after)
 }
 
@@ -322,14 +302,10 @@ fn fill_opened<F: Files>(
     arguments: Option<&List<MarkedPair>>,
     frame: &Frame,
     count: u32,
-    files: &mut F,
-    reach: &mut Reach,
+    reach: &mut Reach<F>,
 ) -> Result<Extension, ExpandFault>
-    ensures filled { GivesUsed result reach.new.used (opened_filled opened.now shown.now (given_of
-        arguments.entry) (followed 99 (opens (F.files files.old) reach.old.home)) frame.now count
-        reach.old.used) }
-    ensures files { F.files files.new ≡ F.files files.old }
-    ensures home { reach.new.home ≡ reach.old.home }
+    ensures filled { GivesFrom F.files result reach.old reach.new (λ opens. opened_filled opened.now
+        shown.now (given_of arguments.entry) (followed 99 opens) frame.now count) }
 {
     let node = node_in(alloc, &opened.file)?;
     let pairs = extended_pairs(alloc, node)?;
@@ -338,7 +314,7 @@ fn fill_opened<F: Files>(
         pairs,
     };
     let inner = extended_frame(alloc, &template, shown, arguments, frame)?;
-    fill_extension(alloc, &template, &node.place, &inner, count, files, reach)
+    fill_extension(alloc, &template, &node.place, &inner, count, reach)
 }
 
 /// The frame of the template.
@@ -379,17 +355,13 @@ fn reach_file<F: Files>(
     arguments: Option<&List<MarkedPair>>,
     frame: &Frame,
     count: u32,
-    files: &mut F,
-    reach: &mut Reach,
+    reach: &mut Reach<F>,
 ) -> Result<Extension, ExpandFault>
-    ensures filled { GivesUsed result reach.new.used (reached_filled (opens (F.files files.old)
-        reach.old.home) (asking at.now path.now shown.now (given_of arguments.entry)) frame.now
-        count reach.old.used) }
-    ensures files { F.files files.new ≡ F.files files.old }
-    ensures home { reach.new.home ≡ reach.old.home }
+    ensures filled { GivesFrom F.files result reach.old reach.new (λ opens. reached_filled opens
+        (asking at.now path.now shown.now (given_of arguments.entry)) frame.now count) }
 {
-    let opened = open(alloc, at, path, files, reach)?;
-    fill_opened(alloc, &opened, shown, arguments, frame, count, files, reach)
+    let opened = open(alloc, at, path, reach)?;
+    fill_opened(alloc, &opened, shown, arguments, frame, count, reach)
 }
 
 /// The origin that shows where a path comes from: its own, unless that crossed nothing.
@@ -413,24 +385,19 @@ fn extend_mapping<F: Files>(
     pairs: &List<NodePair>,
     frame: &Frame,
     count: u32,
-    files: &mut F,
-    reach: &mut Reach,
+    reach: &mut Reach<F>,
 ) -> Result<Extension, ExpandFault>
-    ensures extended { GivesUsed result reach.new.used (mapping_extended (opens (F.files files.old)
-        reach.old.home) key.now place.now pairs.now frame.now count reach.old.used) }
-    ensures files { F.files files.new ≡ F.files files.old }
-    ensures home { reach.new.home ≡ reach.old.home }
+    ensures extended { GivesFrom F.files result reach.old reach.new (λ opens. mapping_extended opens
+        key.now place.now pairs.now frame.now count) }
 {
     let count = enter(alloc, place, count)?;
     let one = path_in(alloc, pairs, place, frame, count)?;
     let path = path_text(alloc, &one.node)?;
-    let arguments = arguments_in(alloc, pairs, frame, one.count, files, reach)?;
+    let arguments = arguments_in(alloc, pairs, frame, one.count, reach)?;
     let shown = shown(alloc, key, &one.node.origin)?;
     let given = Some(&arguments.pairs);
     let count = arguments.count;
-    reach_file(
-        alloc, place, &path, shown, given, frame, count, files, reach,
-    )
+    reach_file(alloc, place, &path, shown, given, frame, count, reach)
 }
 
 /// What a pair beside the path gives, where its mapping is there. X9 at another key than
@@ -482,13 +449,10 @@ fn extend_given<F: Files>(
     pairs: &List<MarkedPair>,
     frame: &Frame,
     count: u32,
-    files: &mut F,
-    reach: &mut Reach,
+    reach: &mut Reach<F>,
 ) -> Result<Extension, ExpandFault>
-    ensures extended { GivesUsed result reach.new.used (given_extended (opens (F.files files.old)
-        reach.old.home) key.now at.now pairs.now frame.now count reach.old.used) }
-    ensures files { F.files files.new ≡ F.files files.old }
-    ensures home { reach.new.home ≡ reach.old.home }
+    ensures extended { GivesFrom F.files result reach.old reach.new (λ opens. given_extended opens
+        key.now at.now pairs.now frame.now count) }
 {
     let Some(path) = item_under("template", pairs) else {
         return wrong(alloc, at);
@@ -497,7 +461,7 @@ fn extend_given<F: Files>(
     let arguments = arguments_given(alloc, pairs)?;
     let shown = shown(alloc, key, &path.origin)?;
     let given = Some(&arguments);
-    reach_file(alloc, at, &text, shown, given, frame, count, files, reach)
+    reach_file(alloc, at, &text, shown, given, frame, count, reach)
 }
 
 /// What the template gives that a value of the key `extends` leads to. X9 at a place where the
@@ -510,17 +474,14 @@ pub fn extend_value<F: Files>(
     node: &MarkedNode,
     frame: &Frame,
     count: u32,
-    files: &mut F,
-    reach: &mut Reach,
+    reach: &mut Reach<F>,
 ) -> Result<Extension, ExpandFault>
-    ensures extended { GivesUsed result reach.new.used (value_extended (opens (F.files files.old)
-        reach.old.home) key.now place.now node.now frame.now count reach.old.used) }
-    ensures files { F.files files.new ≡ F.files files.old }
-    ensures home { reach.new.home ≡ reach.old.home }
+    ensures extended { GivesFrom F.files result reach.old reach.new (λ opens. value_extended opens
+        key.now place.now node.now frame.now count) }
 {
     let at = &node.origin.source;
     match &node.value {
-        Value::Object(pairs) => extend_given(alloc, key, at, pairs, frame, count, files, reach),
+        Value::Object(pairs) => extend_given(alloc, key, at, pairs, frame, count, reach),
         _ => wrong(alloc, place),
     }
 }
@@ -568,25 +529,21 @@ fn extend_pairs<F: Files>(
     pairs: &List<NodePair>,
     frame: &Frame,
     count: u32,
-    files: &mut F,
-    reach: &mut Reach,
+    reach: &mut Reach<F>,
 ) -> Result<Extension, ExpandFault>
-    ensures extended { GivesUsed result reach.new.used (pairs_extended (are_plain pairs.now) (opens
-        (F.files files.old) reach.old.home) key.now node.now pairs.now frame.now count
-        reach.old.used) }
-    ensures files { F.files files.new ≡ F.files files.old }
-    ensures home { reach.new.home ≡ reach.old.home }
+    ensures extended { GivesFrom F.files result reach.old reach.new (λ opens. pairs_extended
+        (are_plain pairs.now) opens key.now node.now pairs.now frame.now count) }
 {
     let place = &node.place;
     if are_plain(alloc, pairs)? {
-        return extend_mapping(alloc, key, place, pairs, frame, count, files, reach);
+        return extend_mapping(alloc, key, place, pairs, frame, count, reach);
     }
     let scope = Scope {
         frame,
         at: IN_EXTENDS,
     };
-    let one = expand_node(alloc, node, scope, count, files, reach)?;
-    extend_value(alloc, key, place, &one.node, frame, one.count, files, reach)
+    let one = expand_node(alloc, node, scope, count, reach)?;
+    extend_value(alloc, key, place, &one.node, frame, one.count, reach)
 }
 
 /// `extends` of a text. X9 where that isn't one expression.
@@ -598,20 +555,16 @@ fn extend_text<F: Files>(
     text: &Text,
     frame: &Frame,
     count: u32,
-    files: &mut F,
-    reach: &mut Reach,
+    reach: &mut Reach<F>,
 ) -> Result<Extension, ExpandFault>
-    ensures extended { GivesUsed result reach.new.used (text_extended (may_give (form_of text.now))
-        (opens (F.files files.old) reach.old.home) key.now place.now text.now frame.now count
-        reach.old.used) }
-    ensures files { F.files files.new ≡ F.files files.old }
-    ensures home { reach.new.home ≡ reach.old.home }
+    ensures extended { GivesFrom F.files result reach.old reach.new (λ opens. text_extended
+        (may_give (form_of text.now)) opens key.now place.now text.now frame.now count) }
 {
     if !may_give(alloc, text)? {
         return wrong(alloc, place);
     }
     let one = scalar_value(alloc, text, frame, place, count)?;
-    extend_value(alloc, key, place, &one.node, frame, one.count, files, reach)
+    extend_value(alloc, key, place, &one.node, frame, one.count, reach)
 }
 
 /// What the template gives that the root extends, by the value of the key `extends`, which comes
@@ -624,18 +577,15 @@ pub fn extend<F: Files>(
     node: &Node,
     frame: &Frame,
     count: u32,
-    files: &mut F,
-    reach: &mut Reach,
+    reach: &mut Reach<F>,
 ) -> Result<Extension, ExpandFault>
-    ensures extended { GivesUsed result reach.new.used (extended (opens (F.files files.old)
-        reach.old.home) key.now node.now frame.now count reach.old.used) }
-    ensures files { F.files files.new ≡ F.files files.old }
-    ensures home { reach.new.home ≡ reach.old.home }
+    ensures extended { GivesFrom F.files result reach.old reach.new (λ opens. extended opens key.now
+        node.now frame.now count) }
 {
     let place = &node.place;
     match &node.body {
-        NodeBody::Map(pairs) => extend_pairs(alloc, key, node, pairs, frame, count, files, reach),
-        NodeBody::Scalar(text) => extend_text(alloc, key, place, text, frame, count, files, reach),
+        NodeBody::Map(pairs) => extend_pairs(alloc, key, node, pairs, frame, count, reach),
+        NodeBody::Scalar(text) => extend_text(alloc, key, place, text, frame, count, reach),
         NodeBody::Seq(_) => wrong(alloc, place),
     }
 }

@@ -2,8 +2,7 @@ ghost use Rattle.std.specs.Prelude.{◌≡◌, ◌+◌, false, codes, map, IfOk}
 ghost use Rattle.std.specs.Option.{option_copied};
 ghost use Rattle.pl_base.specs.declared.value.Value.{out-Value};
 ghost use Rattle.pl_base.specs.Texts.{is};
-ghost use Rattle.pl_calls.specs.Gives.{GivesUsed};
-ghost use Rattle.pl_calls.specs.Reaching.{opens};
+ghost use Rattle.pl_calls.specs.Gives.{GivesFrom};
 ghost use Rattle.pl_directives.specs.Complaints.{refused};
 ghost use Rattle.pl_directives.specs.Gives.{Gives};
 ghost use Rattle.pl_directives.specs.Misfits.{problem_of};
@@ -19,6 +18,7 @@ use crate::forms::{form_place, is_form};
 use pl_base::{
     ExactCopy, List, MarkedNode, MarkedPair, Memory, Node, NodeBody, NodePair, Place, Text, Value,
 };
+use pl_budgets::Budget;
 use pl_calls::{Files, Reach};
 use pl_directives::{
     Action, Chain, Content, Counted, ExpandFault, ExpandProblem, MadeKey, Misfit, Progress, Region,
@@ -146,20 +146,17 @@ fn put_ordinary<F: Files>(
     node: &Node,
     frame: &Frame,
     filling: RootFilling,
-    files: &mut F,
-    reach: &mut Reach,
+    reach: &mut Reach<F>,
 ) -> Result<RootFilling, ExpandFault>
-    ensures filled { GivesUsed result reach.new.used (key_put false made.key made.origin node.now
-        (opens (F.files files.old) reach.old.home) frame.now filling reach.old.used) }
-    ensures files { F.files files.new ≡ F.files files.old }
-    ensures home { reach.new.home ≡ reach.old.home }
+    ensures filled { GivesFrom F.files result reach.old reach.new (λ opens. key_put false made.key
+        made.origin node.now opens frame.now filling) }
 {
     let RootFilling {
         progress,
         extension,
     } = filling;
     let scope = Scope { frame, at: ROOT };
-    let progress = fill_key(alloc, made, node, scope, progress, files, reach)?;
+    let progress = fill_key(alloc, made, node, scope, progress, reach)?;
     Ok(RootFilling {
         progress,
         extension,
@@ -173,21 +170,17 @@ fn put_key<F: Files>(
     node: &Node,
     frame: &Frame,
     filling: RootFilling,
-    files: &mut F,
-    reach: &mut Reach,
+    reach: &mut Reach<F>,
 ) -> Result<RootFilling, ExpandFault>
-    ensures filled { GivesUsed result reach.new.used (key_put (is made.key (codes "extends"))
-        made.key made.origin node.now (opens (F.files files.old) reach.old.home) frame.now filling
-        reach.old.used) }
-    ensures files { F.files files.new ≡ F.files files.old }
-    ensures home { reach.new.home ≡ reach.old.home }
+    ensures filled { GivesFrom F.files result reach.old reach.new (λ opens. key_put (is made.key
+        (codes "extends")) made.key made.origin node.now opens frame.now filling) }
 {
     if made.key.as_str() == "extends" {
         let count = filling.progress.count;
-        let extension = extend(alloc, &made.origin, node, frame, count, files, reach)?;
+        let extension = extend(alloc, &made.origin, node, frame, count, reach)?;
         return Ok(filling.extended(extension));
     }
-    put_ordinary(alloc, made, node, frame, filling, files, reach)
+    put_ordinary(alloc, made, node, frame, filling, reach)
 }
 
 /// A pair whose key is known. X9 at a key of the root's own jobs behind `extends`, and at `extends`
@@ -198,16 +191,13 @@ fn put_named<F: Files>(
     node: &Node,
     frame: &Frame,
     filling: RootFilling,
-    files: &mut F,
-    reach: &mut Reach,
+    reach: &mut Reach<F>,
 ) -> Result<RootFilling, ExpandFault>
-    ensures filled { GivesUsed result reach.new.used (named_put made.key made.origin node.now (opens
-        (F.files files.old) reach.old.home) frame.now filling reach.old.used) }
-    ensures files { F.files files.new ≡ F.files files.old }
-    ensures home { reach.new.home ≡ reach.old.home }
+    ensures filled { GivesFrom F.files result reach.old reach.new (λ opens. named_put made.key
+        made.origin node.now opens frame.now filling) }
 {
     unless_misplaced(alloc, misplaced(&filling, &made.key), &made.origin.source)?;
-    put_key(alloc, made, node, frame, filling, files, reach)
+    put_key(alloc, made, node, frame, filling, reach)
 }
 
 /// A pair with another value.
@@ -252,24 +242,21 @@ fn put_given_by<F: Files>(
     pair: &MarkedPair,
     frame: &Frame,
     filling: RootFilling,
-    files: &mut F,
-    reach: &mut Reach,
+    reach: &mut Reach<F>,
 ) -> Result<RootFilling, ExpandFault>
-    ensures filled { GivesUsed result reach.new.used (given_by (is pair.now.key (codes "extends"))
-        pair.now (opens (F.files files.old) reach.old.home) frame.now filling reach.old.used) }
-    ensures files { F.files files.new ≡ F.files files.old }
-    ensures home { reach.new.home ≡ reach.old.home }
+    ensures filled { GivesFrom F.files result reach.old reach.new (λ opens. given_by (is
+        pair.now.key (codes "extends")) pair.now opens frame.now filling) }
 {
     let count = filling.progress.count;
     let item = &pair.item;
     if pair.key.as_str() == "extends" {
         let place = &item.origin.source;
         let key = &pair.key_origin;
-        let extension = extend_value(alloc, key, place, item, frame, count, files, reach)?;
+        let extension = extend_value(alloc, key, place, item, frame, count, reach)?;
         return Ok(filling.extended(extension));
     }
     let at = ROOT.under(&pair.key);
-    let one = settle_node(alloc, item, Scope { frame, at }, count, files, reach)?;
+    let one = settle_node(alloc, item, Scope { frame, at }, count, reach)?;
     put_item(alloc, pair, filling, one)
 }
 
@@ -279,20 +266,17 @@ fn put_given<F: Files>(
     pair: &MarkedPair,
     frame: &Frame,
     filling: RootFilling,
-    files: &mut F,
-    reach: &mut Reach,
+    reach: &mut Reach<F>,
 ) -> Result<RootFilling, ExpandFault>
-    ensures filled { GivesUsed result reach.new.used (given_put pair.now (opens (F.files files.old)
-        reach.old.home) frame.now filling reach.old.used) }
-    ensures files { F.files files.new ≡ F.files files.old }
-    ensures home { reach.new.home ≡ reach.old.home }
+    ensures filled { GivesFrom F.files result reach.old reach.new (λ opens. given_put pair.now opens
+        frame.now filling) }
 {
     unless_misplaced(
         alloc,
         misplaced(&filling, &pair.key),
         &pair.key_origin.source,
     )?;
-    put_given_by(alloc, pair, frame, filling, files, reach)
+    put_given_by(alloc, pair, frame, filling, reach)
 }
 
 /// Pairs that an expression gave.
@@ -301,17 +285,14 @@ fn put_all_given<F: Files>(
     pairs: &List<MarkedPair>,
     frame: &Frame,
     filling: RootFilling,
-    files: &mut F,
-    reach: &mut Reach,
+    reach: &mut Reach<F>,
 ) -> Result<RootFilling, ExpandFault>
-    ensures filled { GivesUsed result reach.new.used (all_given_put pairs.now (opens (F.files
-        files.old) reach.old.home) frame.now filling reach.old.used) }
-    ensures files { F.files files.new ≡ F.files files.old }
-    ensures home { reach.new.home ≡ reach.old.home }
+    ensures filled { GivesFrom F.files result reach.old reach.new (λ opens. all_given_put pairs.now
+        opens frame.now filling) }
 {
     let mut after = filling;
     for pair in pairs.as_slice() {
-        after = put_given(alloc, pair, frame, after, files, reach)?;
+        after = put_given(alloc, pair, frame, after, reach)?;
     }
     Ok(after)
 }
@@ -333,17 +314,13 @@ fn put_value<F: Files>(
     place: &Place,
     frame: &Frame,
     filling: RootFilling,
-    files: &mut F,
-    reach: &mut Reach,
+    reach: &mut Reach<F>,
 ) -> Result<RootFilling, ExpandFault>
-    ensures filled { GivesUsed result reach.new.used (value_put (out-Value value.now) (problem_of
-        misfit) place.now (opens (F.files files.old) reach.old.home) frame.now filling
-        reach.old.used) }
-    ensures files { F.files files.new ≡ F.files files.old }
-    ensures home { reach.new.home ≡ reach.old.home }
+    ensures filled { GivesFrom F.files result reach.old reach.new (λ opens. value_put (out-Value
+        value.now) (problem_of misfit) place.now opens frame.now filling) }
 {
     match value {
-        Value::Object(pairs) => put_all_given(alloc, pairs, frame, filling, files, reach),
+        Value::Object(pairs) => put_all_given(alloc, pairs, frame, filling, reach),
         _ => misfit_at(alloc, misfit, place),
     }
 }
@@ -356,26 +333,14 @@ fn put_text<F: Files>(
     place: &Place,
     frame: &Frame,
     filling: RootFilling,
-    files: &mut F,
-    reach: &mut Reach,
+    reach: &mut Reach<F>,
 ) -> Result<RootFilling, ExpandFault>
-    ensures filled { GivesUsed result reach.new.used (text_put text.now (problem_of misfit)
-        place.now (opens (F.files files.old) reach.old.home) frame.now filling reach.old.used) }
-    ensures files { F.files files.new ≡ F.files files.old }
-    ensures home { reach.new.home ≡ reach.old.home }
+    ensures filled { GivesFrom F.files result reach.old reach.new (λ opens. text_put text.now
+        (problem_of misfit) place.now opens frame.now filling) }
 {
     let one = scalar_value(alloc, text, frame, place, filling.progress.count)?;
     let filling = filling.counting(one.count);
-    put_value(
-        alloc,
-        &one.node.value,
-        misfit,
-        place,
-        frame,
-        filling,
-        files,
-        reach,
-    )
+    put_value(alloc, &one.node.value, misfit, place, frame, filling, reach)
 }
 
 /// Where a part of the root file is expanded: its frame, and how many nodes may still stand in it
@@ -392,7 +357,9 @@ impl<'f> Spot<'f> {
         ensures frame { IfOk result (λ spot. spot.frame ≡ self.entry.frame) }
         ensures levels { IfOk result (λ spot. spot.levels + 1 ≡ self.entry.levels) }
     {
-        let levels = self.levels.checked_sub(1).ok_or(Memory)?;
+        let Some(levels) = self.levels.checked_sub(1) else {
+            return Err(self.frame.meter().pass(Budget::Open));
+        };
         Ok(Spot {
             frame: self.frame,
             levels,
@@ -407,18 +374,15 @@ pub fn put_pair_of<F: Files>(
     pair: &NodePair,
     spot: Spot<'_>,
     filling: RootFilling,
-    files: &mut F,
-    reach: &mut Reach,
+    reach: &mut Reach<F>,
 ) -> Result<RootFilling, ExpandFault>
-    ensures filled { GivesUsed result reach.new.used ((pair_seen pair.now).put (opens (F.files
-        files.old) reach.old.home) spot.entry.frame.now filling reach.old.used) }
-    ensures files { F.files files.new ≡ F.files files.old }
-    ensures home { reach.new.home ≡ reach.old.home }
+    ensures filled { GivesFrom F.files result reach.old reach.new (λ opens. (pair_seen pair.now).put
+        opens spot.entry.frame.now filling) }
 {
     let chain = filling.progress.chain;
     let count = filling.progress.count;
     let action = key_asks(alloc, &pair.key, spot.frame, &pair.key_place, chain, count)?;
-    put_asked(alloc, action, &pair.item, spot, filling, files, reach)
+    put_asked(alloc, action, &pair.item, spot, filling, reach)
 }
 
 /// What a key asked for.
@@ -430,31 +394,28 @@ fn put_asked<F: Files>(
     node: &Node,
     spot: Spot<'_>,
     filling: RootFilling,
-    files: &mut F,
-    reach: &mut Reach,
+    reach: &mut Reach<F>,
 ) -> Result<RootFilling, ExpandFault>
-    ensures filled { GivesUsed result reach.new.used (asked_put action (node_seen node.now) (opens
-        (F.files files.old) reach.old.home) spot.entry.frame.now filling reach.old.used) }
-    ensures files { F.files files.new ≡ F.files files.old }
-    ensures home { reach.new.home ≡ reach.old.home }
+    ensures filled { GivesFrom F.files result reach.old reach.new (λ opens. asked_put action
+        (node_seen node.now) opens spot.entry.frame.now filling) }
 {
     match action {
         Action::Put(key, origin) => {
             let made = MadeKey { key, origin };
-            put_named(alloc, made, node, spot.frame, filling, files, reach)
+            put_named(alloc, made, node, spot.frame, filling, reach)
         }
         Action::Run(chain) => {
-            let after = put_node(alloc, node, Misfit::WrongKind, spot, filling, files, reach)?;
+            let after = put_node(alloc, node, Misfit::WrongKind, spot, filling, reach)?;
             Ok(after.chained(chain))
         }
         Action::Pass(chain) => Ok(filling.chained(chain)),
         Action::Repeat(turns, count) => {
             let begun = filling.counting(count).chained(Chain::Closed);
-            put_turns(alloc, &turns, node, spot, begun, files, reach)
+            put_turns(alloc, &turns, node, spot, begun, reach)
         }
         Action::Insert => {
             let misfit = Misfit::InsertNoMapping;
-            put_node(alloc, node, misfit, spot, filling, files, reach)
+            put_node(alloc, node, misfit, spot, filling, reach)
         }
     }
 }
@@ -467,14 +428,10 @@ fn put_turns<F: Files>(
     node: &Node,
     spot: Spot<'_>,
     filling: RootFilling,
-    files: &mut F,
-    reach: &mut Reach,
+    reach: &mut Reach<F>,
 ) -> Result<RootFilling, ExpandFault>
-    ensures filled { GivesUsed result reach.new.used (turns_put turns.now.name (node_seen node.now)
-        turns.now.items (opens (F.files files.old) reach.old.home) spot.entry.frame.now filling
-        reach.old.used) }
-    ensures files { F.files files.new ≡ F.files files.old }
-    ensures home { reach.new.home ≡ reach.old.home }
+    ensures filled { GivesFrom F.files result reach.old reach.new (λ opens. turns_put turns.now.name
+        (node_seen node.now) turns.now.items opens spot.entry.frame.now filling) }
 {
     let mut after = filling;
     for item in turns.items.as_slice() {
@@ -483,7 +440,7 @@ fn put_turns<F: Files>(
             frame: &inner,
             levels: spot.levels,
         };
-        after = put_node(alloc, node, Misfit::WrongKind, turn, after, files, reach)?;
+        after = put_node(alloc, node, Misfit::WrongKind, turn, after, reach)?;
     }
     Ok(after)
 }
@@ -496,16 +453,13 @@ fn put_node<F: Files>(
     misfit: Misfit,
     spot: Spot<'_>,
     filling: RootFilling,
-    files: &mut F,
-    reach: &mut Reach,
+    reach: &mut Reach<F>,
 ) -> Result<RootFilling, ExpandFault>
-    ensures filled { GivesUsed result reach.new.used ((node_seen node.now).put (problem_of misfit)
-        (opens (F.files files.old) reach.old.home) spot.entry.frame.now filling reach.old.used) }
-    ensures files { F.files files.new ≡ F.files files.old }
-    ensures home { reach.new.home ≡ reach.old.home }
+    ensures filled { GivesFrom F.files result reach.old reach.new (λ opens. (node_seen node.now).put
+        (problem_of misfit) opens spot.entry.frame.now filling) }
 {
     let filling = filling.chained(Chain::Closed);
-    let after = put_body(alloc, node, misfit, spot, filling, files, reach)?;
+    let after = put_body(alloc, node, misfit, spot, filling, reach)?;
     Ok(after.chained(Chain::Closed))
 }
 
@@ -518,21 +472,15 @@ fn put_body<F: Files>(
     misfit: Misfit,
     spot: Spot<'_>,
     filling: RootFilling,
-    files: &mut F,
-    reach: &mut Reach,
+    reach: &mut Reach<F>,
 ) -> Result<RootFilling, ExpandFault>
-    ensures filled { GivesUsed result reach.new.used ((body_seen node.now.body).put (problem_of
-        misfit) node.now.place (opens (F.files files.old) reach.old.home) spot.entry.frame.now
-        filling reach.old.used) }
-    ensures files { F.files files.new ≡ F.files files.old }
-    ensures home { reach.new.home ≡ reach.old.home }
+    ensures filled { GivesFrom F.files result reach.old reach.new (λ opens. (body_seen
+        node.now.body).put (problem_of misfit) node.now.place opens spot.entry.frame.now filling) }
 {
     let place = &node.place;
     match &node.body {
         NodeBody::Scalar(text) => {
-            put_text(
-                alloc, text, misfit, place, spot.frame, filling, files, reach,
-            )
+            put_text(alloc, text, misfit, place, spot.frame, filling, reach)
         }
         NodeBody::Seq(_) => {
             enter(alloc, place, filling.progress.count)?;
@@ -541,7 +489,7 @@ fn put_body<F: Files>(
         NodeBody::Map(pairs) => {
             let count = enter(alloc, place, filling.progress.count)?;
             let filling = filling.counting(count);
-            put_pairs(alloc, pairs, spot.below()?, filling, files, reach)
+            put_pairs(alloc, pairs, spot.below()?, filling, reach)
         }
     }
 }
@@ -553,17 +501,14 @@ fn put_pairs<F: Files>(
     pairs: &List<NodePair>,
     spot: Spot<'_>,
     filling: RootFilling,
-    files: &mut F,
-    reach: &mut Reach,
+    reach: &mut Reach<F>,
 ) -> Result<RootFilling, ExpandFault>
-    ensures filled { GivesUsed result reach.new.used (pairs_put (map pair_seen pairs.now) (opens
-        (F.files files.old) reach.old.home) spot.entry.frame.now filling reach.old.used) }
-    ensures files { F.files files.new ≡ F.files files.old }
-    ensures home { reach.new.home ≡ reach.old.home }
+    ensures filled { GivesFrom F.files result reach.old reach.new (λ opens. pairs_put (map pair_seen
+        pairs.now) opens spot.entry.frame.now filling) }
 {
     let mut after = filling;
     for pair in pairs.as_slice() {
-        after = put_pair_of(alloc, pair, spot, after, files, reach)?;
+        after = put_pair_of(alloc, pair, spot, after, reach)?;
     }
     Ok(after)
 }

@@ -1,6 +1,7 @@
 -- What is told of the bytes of a source that was read to its end.
 use Rattle.std.proofs.Common.{◌≡◌, ℕ, List, Option, Some, None, Err, inl, inr, refl, subst, arith}
 use Rattle.pl_base.specs.declared.expanded.Argument.{Argument}
+use Rattle.pl_budgets.specs.declared.budget.Budget.{Budget}
 use Rattle.pl_bundle.specs.Bundles.{bundle_of}
 use Rattle.pl_bundle.specs.declared.bundle.Bundle.{Bundle}
 use Rattle.pl_streams.specs.Whole.{Inflow, IsRead, IsWhole, Outflow}
@@ -72,11 +73,13 @@ module _ (arguments : List Argument) (text : List ℕ) (old new : Inflow) where
 -- ---- where memory was wanting
 
 module _ (arguments : List Argument) (old new : Inflow) (before after : Outflow)
-    (same : after ≡ before) where
+    (passed : Option Budget) (same : after ≡ before) where
   pub cut_memory :
-      IsRead (Err unread.Memory) old new → Runs arguments ending.Memory old new before after
+      IsRead (Err unread.Memory) old new →
+      Runs arguments (ending.Memory passed) old new before after
   cut_memory cut = (cut.bytes, cut.gave, cut.within, cut.broken, same)
 
   pub whole_memory :
-      (bytes : List ℕ) → IsWhole bytes old new → Runs arguments ending.Memory old new before after
+      (bytes : List ℕ) → IsWhole bytes old new →
+      Runs arguments (ending.Memory passed) old new before after
   whole_memory bytes whole = (bytes, whole.gave, omega (arith, whole.few), whole.quiet, same)

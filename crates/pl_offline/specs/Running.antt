@@ -37,6 +37,6 @@ Runs arguments ending.Spent old new before after =
     IsRead (Err unread.Spent) old new × (after ≡ before)
 Runs arguments ending.WriteFault old new before after =
     (text : List ℕ) × Holds Told arguments text old new × IsBegun text before after
-Runs arguments ending.Memory old new before after =
+Runs arguments (ending.Memory passed) old new before after =
     (bytes : List ℕ) × (old.left ≡ with_front bytes new.left) × (length bytes ≤ taken_limit)
     × (new.faults ≡ old.faults) × (after ≡ before)

@@ -1,3 +1,5 @@
+use pl_budgets::Budget;
+
 /// How a bundle was compiled.
 #[derive(Clone, Copy, Debug, PartialEq, Eq)]
 pub enum Ending {
@@ -13,6 +15,6 @@ pub enum Ending {
     Spent,
     /// A write failed: a beginning of the text or of the line was written.
     WriteFault,
-    /// Memory was wanting. Nothing was written.
-    Memory,
+    /// Memory was wanting, or this budget was passed. Nothing was written.
+    Memory(Option<Budget>),
 }

@@ -4,6 +4,7 @@ ghost use Rattle.pl_streams.specs.Flows.{inflow, outflow};
 use crate::ending::Ending;
 use crate::output::{Output, output_of};
 use pl_base::{Argument, List, Sink, Source};
+use pl_budgets::Meter;
 use pl_streams::{Unread, read_to_end, write_all};
 use std::alloc::Global;
 
@@ -13,7 +14,7 @@ use std::alloc::Global;
 /// PATH`, the root file first), the sink gets the text of the pipeline's plan, or the line `refused
 /// CODE REPO REF PATH:LINE:COL` of the first refusal; where they are none, nothing. At most
 /// 67,108,864 bytes are taken, however it ends. The text is made before the first byte is written,
-/// so where memory is wanting nothing is written.
+/// so where memory is wanting nothing is written; the ending tells the budget that was passed then.
 #[tactic(auto, using(crate::proofs::Telling::cut_memory, crate::proofs::Telling::whole_memory))]
 pub fn compile_bundle<S: Source, K: Sink>(
     alloc: Global,
@@ -28,9 +29,12 @@ pub fn compile_bundle<S: Source, K: Sink>(
         Ok(bytes) => bytes,
         Err(Unread::ReadFault) => return Ending::ReadFault,
         Err(Unread::Spent) => return Ending::Spent,
-        Err(Unread::Memory) => return Ending::Memory,
+        Err(Unread::Memory) => return Ending::Memory(None),
     };
-    match output_of(alloc, bytes, arguments) {
+    let Ok(meter) = Meter::new(alloc) else {
+        return Ending::Memory(None);
+    };
+    match output_of(alloc, &meter, bytes, arguments) {
         Ok(Output::Plan(text)) => match write_all(sink, text.as_str().as_bytes()) {
             Ok(()) => Ending::Compiled,
             Err(_) => Ending::WriteFault,
@@ -40,6 +44,6 @@ pub fn compile_bundle<S: Source, K: Sink>(
             Err(_) => Ending::WriteFault,
         },
         Ok(Output::Nothing) => Ending::NotBundle,
-        Err(_) => Ending::Memory,
+        Err(_) => Ending::Memory(meter.passed()),
     }
 }

@@ -1,6 +1,5 @@
 ghost use Rattle.std.specs.Prelude.{◌≡◌, map};
-ghost use Rattle.pl_calls.specs.Gives.{GivesUsed};
-ghost use Rattle.pl_calls.specs.Reaching.{opens};
+ghost use Rattle.pl_calls.specs.Gives.{GivesFrom};
 ghost use Rattle.pl_directives.specs.Gives.{Gives};
 ghost use Rattle.pl_directives.specs.Misfits.{problem_of};
 ghost use Rattle.pl_directives.specs.Regions.{is_path};
@@ -35,29 +34,24 @@ pub fn expand_node<F: Files>(
     node: &Node,
     scope: Scope<'_>,
     count: u32,
-    files: &mut F,
-    reach: &mut Reach,
+    reach: &mut Reach<F>,
 ) -> Result<Counted, ExpandFault>
-    ensures gives { GivesUsed result reach.new.used (expanded node.now (scope_of (followed
-        scope.entry.at.calls (opens (F.files files.old) reach.old.home)) scope.entry.frame.now
-        scope.entry.at.region) count reach.old.used) }
-    ensures files { F.files files.new ≡ F.files files.old }
-    ensures home { reach.new.home ≡ reach.old.home }
+    ensures gives { GivesFrom F.files result reach.old reach.new (λ opens. expanded node.now
+        (scope_of (followed scope.entry.at.calls opens) scope.entry.frame.now scope.entry.at.region)
+        count) }
 {
     match &node.body {
-        NodeBody::Scalar(text) => {
-            expand_scalar(alloc, text, scope, &node.place, count, files, reach)
-        }
+        NodeBody::Scalar(text) => { expand_scalar(alloc, text, scope, &node.place, count, reach) }
         NodeBody::Seq(items) => {
             let count = enter(alloc, &node.place, count)?;
             let begun = begin(alloc, Kind::Items, Chain::Closed, count);
-            let progress = fill_items(alloc, items, scope.below()?, begun, files, reach)?;
+            let progress = fill_items(alloc, items, scope.below()?, begun, reach)?;
             finish(alloc, scope.frame, &node.place, progress)
         }
         NodeBody::Map(pairs) => {
             let count = enter(alloc, &node.place, count)?;
             let begun = begin(alloc, Kind::Pairs, Chain::Closed, count);
-            let progress = fill_pairs(alloc, pairs, scope.below()?, begun, files, reach)?;
+            let progress = fill_pairs(alloc, pairs, scope.below()?, begun, reach)?;
             finish(alloc, scope.frame, &node.place, progress)
         }
     }
@@ -71,14 +65,11 @@ fn fill_body<F: Files>(
     misfit: Misfit,
     scope: Scope<'_>,
     progress: Progress,
-    files: &mut F,
-    reach: &mut Reach,
+    reach: &mut Reach<F>,
 ) -> Result<Progress, ExpandFault>
-    ensures gives { GivesUsed result reach.new.used (body (part_of node.now) (problem_of misfit)
-        (scope_of (followed scope.entry.at.calls (opens (F.files files.old) reach.old.home))
-        scope.entry.frame.now scope.entry.at.region) progress reach.old.used) }
-    ensures files { F.files files.new ≡ F.files files.old }
-    ensures home { reach.new.home ≡ reach.old.home }
+    ensures gives { GivesFrom F.files result reach.old reach.new (λ opens. body (part_of node.now)
+        (problem_of misfit) (scope_of (followed scope.entry.at.calls opens) scope.entry.frame.now
+        scope.entry.at.region) progress) }
 {
     let place = &node.place;
     let count = progress.count;
@@ -87,7 +78,7 @@ fn fill_body<F: Files>(
             let called = told(&progress.content);
             let region = scope.at.region;
             let one = given_value(alloc, text, scope.frame, place, count, region, called)?;
-            let one = settle(alloc, one, scope, files, reach)?;
+            let one = settle(alloc, one, scope, reach)?;
             absorb(
                 alloc,
                 misfit,
@@ -99,12 +90,12 @@ fn fill_body<F: Files>(
         NodeBody::Seq(items) => {
             let count = enter(alloc, place, count)?;
             let begun = as_items(alloc, misfit, place, progress.at(Chain::Closed, count))?;
-            fill_items(alloc, items, scope.below()?, begun, files, reach)?
+            fill_items(alloc, items, scope.below()?, begun, reach)?
         }
         NodeBody::Map(pairs) => {
             let count = enter(alloc, place, count)?;
             let begun = as_pairs(alloc, misfit, place, progress.at(Chain::Closed, count))?;
-            fill_pairs(alloc, pairs, scope.below()?, begun, files, reach)?
+            fill_pairs(alloc, pairs, scope.below()?, begun, reach)?
         }
     };
     Ok(after.chained(Chain::Closed))
@@ -118,14 +109,11 @@ fn fill_turns<F: Files>(
     node: &Node,
     scope: Scope<'_>,
     progress: Progress,
-    files: &mut F,
-    reach: &mut Reach,
+    reach: &mut Reach<F>,
 ) -> Result<Progress, ExpandFault>
-    ensures gives { GivesUsed result reach.new.used (turns steps.now.name (part_of node.now)
-        steps.now.items (scope_of (followed scope.entry.at.calls (opens (F.files files.old)
-        reach.old.home)) scope.entry.frame.now scope.entry.at.region) progress reach.old.used) }
-    ensures files { F.files files.new ≡ F.files files.old }
-    ensures home { reach.new.home ≡ reach.old.home }
+    ensures gives { GivesFrom F.files result reach.old reach.new (λ opens. turns steps.now.name
+        (part_of node.now) steps.now.items (scope_of (followed scope.entry.at.calls opens)
+        scope.entry.frame.now scope.entry.at.region) progress) }
 {
     let mut after = progress;
     for item in steps.items.as_slice() {
@@ -134,7 +122,7 @@ fn fill_turns<F: Files>(
             frame: &inner,
             at: scope.at,
         };
-        after = fill_body(alloc, node, Misfit::WrongKind, turn, after, files, reach)?;
+        after = fill_body(alloc, node, Misfit::WrongKind, turn, after, reach)?;
     }
     Ok(after)
 }
@@ -146,19 +134,16 @@ pub fn fill_pair<F: Files>(
     pair: &NodePair,
     scope: Scope<'_>,
     progress: Progress,
-    files: &mut F,
-    reach: &mut Reach,
+    reach: &mut Reach<F>,
 ) -> Result<Progress, ExpandFault>
-    ensures gives { GivesUsed result reach.new.used (pair_behind (entry_of pair.now) (scope_of
-        (followed scope.entry.at.calls (opens (F.files files.old) reach.old.home))
-        scope.entry.frame.now scope.entry.at.region) progress reach.old.used) }
-    ensures files { F.files files.new ≡ F.files files.old }
-    ensures home { reach.new.home ≡ reach.old.home }
+    ensures gives { GivesFrom F.files result reach.old reach.new (λ opens. pair_behind (entry_of
+        pair.now) (scope_of (followed scope.entry.at.calls opens) scope.entry.frame.now
+        scope.entry.at.region) progress) }
 {
     let chain = progress.chain;
     let count = progress.count;
     let action = key_asks(alloc, &pair.key, scope.frame, &pair.key_place, chain, count)?;
-    fill_asked(alloc, action, &pair.item, scope, progress, files, reach)
+    fill_asked(alloc, action, &pair.item, scope, progress, reach)
 }
 
 /// What a key asked for.
@@ -170,46 +155,27 @@ fn fill_asked<F: Files>(
     node: &Node,
     scope: Scope<'_>,
     progress: Progress,
-    files: &mut F,
-    reach: &mut Reach,
+    reach: &mut Reach<F>,
 ) -> Result<Progress, ExpandFault>
-    ensures gives { GivesUsed result reach.new.used (done action (part_of node.now) (scope_of
-        (followed scope.entry.at.calls (opens (F.files files.old) reach.old.home))
-        scope.entry.frame.now scope.entry.at.region) progress reach.old.used) }
-    ensures files { F.files files.new ≡ F.files files.old }
-    ensures home { reach.new.home ≡ reach.old.home }
+    ensures gives { GivesFrom F.files result reach.old reach.new (λ opens. done action (part_of
+        node.now) (scope_of (followed scope.entry.at.calls opens) scope.entry.frame.now
+        scope.entry.at.region) progress) }
 {
     match action {
         Action::Put(key, origin) => {
             let made = MadeKey { key, origin };
-            fill_key(alloc, made, node, scope, progress, files, reach)
+            fill_key(alloc, made, node, scope, progress, reach)
         }
         Action::Run(chain) => {
-            let after = fill_body(
-                alloc,
-                node,
-                Misfit::WrongKind,
-                scope,
-                progress,
-                files,
-                reach,
-            )?;
+            let after = fill_body(alloc, node, Misfit::WrongKind, scope, progress, reach)?;
             Ok(after.chained(chain))
         }
         Action::Pass(chain) => Ok(progress.chained(chain)),
         Action::Repeat(steps, count) => {
             let begun = progress.before_turns(count);
-            fill_turns(alloc, &steps, node, scope, begun, files, reach)
+            fill_turns(alloc, &steps, node, scope, begun, reach)
         }
-        Action::Insert => fill_body(
-            alloc,
-            node,
-            Misfit::InsertNoMapping,
-            scope,
-            progress,
-            files,
-            reach,
-        ),
+        Action::Insert => fill_body(alloc, node, Misfit::InsertNoMapping, scope, progress, reach),
     }
 }
 
@@ -223,14 +189,11 @@ pub fn fill_key<F: Files>(
     node: &Node,
     scope: Scope<'_>,
     progress: Progress,
-    files: &mut F,
-    reach: &mut Reach,
+    reach: &mut Reach<F>,
 ) -> Result<Progress, ExpandFault>
-    ensures gives { GivesUsed result reach.new.used (done (Put made.key made.origin) (part_of
-        node.now) (scope_of (followed scope.entry.at.calls (opens (F.files files.old)
-        reach.old.home)) scope.entry.frame.now scope.entry.at.region) progress reach.old.used) }
-    ensures files { F.files files.new ≡ F.files files.old }
-    ensures home { reach.new.home ≡ reach.old.home }
+    ensures gives { GivesFrom F.files result reach.old reach.new (λ opens. done (Put made.key
+        made.origin) (part_of node.now) (scope_of (followed scope.entry.at.calls opens)
+        scope.entry.frame.now scope.entry.at.region) progress) }
 {
     let MadeKey {
         key,
@@ -243,7 +206,7 @@ pub fn fill_key<F: Files>(
         &key,
         &key_origin.source,
     )?;
-    let one = expand_under(alloc, &key, node, scope, &progress, files, reach)?;
+    let one = expand_under(alloc, &key, node, scope, &progress, reach)?;
     let item = one.node;
     let pair = MarkedPair {
         key,
@@ -262,21 +225,18 @@ fn expand_under<F: Files>(
     node: &Node,
     scope: Scope<'_>,
     progress: &Progress,
-    files: &mut F,
-    reach: &mut Reach,
+    reach: &mut Reach<F>,
 ) -> Result<Counted, ExpandFault>
-    ensures gives { GivesUsed result reach.new.used (value_under (is_path scope.entry.at.region
-        progress.now.content key.now) key.now (part_of node.now) (scope_of (followed
-        scope.entry.at.calls (opens (F.files files.old) reach.old.home)) scope.entry.frame.now
-        scope.entry.at.region) progress.now.count reach.old.used) }
-    ensures files { F.files files.new ≡ F.files files.old }
-    ensures home { reach.new.home ≡ reach.old.home }
+    ensures gives { GivesFrom F.files result reach.old reach.new (λ opens. value_under (is_path
+        scope.entry.at.region progress.now.content key.now) key.now (part_of node.now) (scope_of
+        (followed scope.entry.at.calls opens) scope.entry.frame.now scope.entry.at.region)
+        progress.now.count) }
 {
     let count = progress.count;
     if scope.at.region.is_path(&progress.content, key) {
         return expand_path(alloc, node, scope.frame, count);
     }
-    expand_node(alloc, node, scope.under(key), count, files, reach)
+    expand_node(alloc, node, scope.under(key), count, reach)
 }
 
 /// The path of a call. X9 where it is a list or a mapping.
@@ -306,18 +266,15 @@ fn fill_pairs<F: Files>(
     pairs: &List<NodePair>,
     scope: Scope<'_>,
     progress: Progress,
-    files: &mut F,
-    reach: &mut Reach,
+    reach: &mut Reach<F>,
 ) -> Result<Progress, ExpandFault>
-    ensures gives { GivesUsed result reach.new.used (pairs_behind (map entry_of pairs.now) (scope_of
-        (followed scope.entry.at.calls (opens (F.files files.old) reach.old.home))
-        scope.entry.frame.now scope.entry.at.region) progress reach.old.used) }
-    ensures files { F.files files.new ≡ F.files files.old }
-    ensures home { reach.new.home ≡ reach.old.home }
+    ensures gives { GivesFrom F.files result reach.old reach.new (λ opens. pairs_behind (map
+        entry_of pairs.now) (scope_of (followed scope.entry.at.calls opens) scope.entry.frame.now
+        scope.entry.at.region) progress) }
 {
     let mut after = progress;
     for pair in pairs.as_slice() {
-        after = fill_pair(alloc, pair, scope, after, files, reach)?;
+        after = fill_pair(alloc, pair, scope, after, reach)?;
     }
     Ok(after)
 }
@@ -329,18 +286,15 @@ fn fill_items<F: Files>(
     items: &List<Node>,
     scope: Scope<'_>,
     progress: Progress,
-    files: &mut F,
-    reach: &mut Reach,
+    reach: &mut Reach<F>,
 ) -> Result<Progress, ExpandFault>
-    ensures gives { GivesUsed result reach.new.used (items_behind (map part_of items.now) (scope_of
-        (followed scope.entry.at.calls (opens (F.files files.old) reach.old.home))
-        scope.entry.frame.now scope.entry.at.region) progress reach.old.used) }
-    ensures files { F.files files.new ≡ F.files files.old }
-    ensures home { reach.new.home ≡ reach.old.home }
+    ensures gives { GivesFrom F.files result reach.old reach.new (λ opens. items_behind (map part_of
+        items.now) (scope_of (followed scope.entry.at.calls opens) scope.entry.frame.now
+        scope.entry.at.region) progress) }
 {
     let mut after = progress;
     for item in items.as_slice() {
-        after = fill_item(alloc, item, scope, after, files, reach)?;
+        after = fill_item(alloc, item, scope, after, reach)?;
     }
     Ok(after)
 }
@@ -352,14 +306,11 @@ fn fill_item<F: Files>(
     node: &Node,
     scope: Scope<'_>,
     progress: Progress,
-    files: &mut F,
-    reach: &mut Reach,
+    reach: &mut Reach<F>,
 ) -> Result<Progress, ExpandFault>
-    ensures gives { GivesUsed result reach.new.used (item_behind (part_of node.now) (scope_of
-        (followed scope.entry.at.calls (opens (F.files files.old) reach.old.home))
-        scope.entry.frame.now scope.entry.at.region) progress reach.old.used) }
-    ensures files { F.files files.new ≡ F.files files.old }
-    ensures home { reach.new.home ≡ reach.old.home }
+    ensures gives { GivesFrom F.files result reach.old reach.new (λ opens. item_behind (part_of
+        node.now) (scope_of (followed scope.entry.at.calls opens) scope.entry.frame.now
+        scope.entry.at.region) progress) }
 {
     let place = &node.place;
     let count = progress.count;
@@ -367,19 +318,19 @@ fn fill_item<F: Files>(
         NodeBody::Scalar(text) => {
             let region = scope.at.region.of_item();
             let one = given_value(alloc, text, scope.frame, place, count, region, None)?;
-            let one = settle(alloc, one, scope, files, reach)?;
+            let one = settle(alloc, one, scope, reach)?;
             let progress = progress.at(Chain::Closed, one.count);
-            spread(alloc, scope, one.node, progress, files, reach)
+            spread(alloc, scope, one.node, progress, reach)
         }
         NodeBody::Seq(items) => {
             let count = enter(alloc, place, count)?;
             let begun = begin(alloc, Kind::Items, Chain::Closed, count);
             let inside = scope.inside().below()?;
-            let inner = fill_items(alloc, items, inside, begun, files, reach)?;
+            let inner = fill_items(alloc, items, inside, begun, reach)?;
             let list = finish(alloc, scope.frame, place, inner)?;
-            put_alone(alloc, scope, list, progress, files, reach)
+            put_alone(alloc, scope, list, progress, reach)
         }
-        NodeBody::Map(pairs) => fill_mapping(alloc, place, pairs, scope, progress, files, reach),
+        NodeBody::Map(pairs) => fill_mapping(alloc, place, pairs, scope, progress, reach),
     }
 }
 
@@ -391,36 +342,33 @@ fn fill_mapping<F: Files>(
     pairs: &List<NodePair>,
     scope: Scope<'_>,
     progress: Progress,
-    files: &mut F,
-    reach: &mut Reach,
+    reach: &mut Reach<F>,
 ) -> Result<Progress, ExpandFault>
-    ensures gives { GivesUsed result reach.new.used (mapping_item place.now (map entry_of pairs.now)
-        (scope_of (followed scope.entry.at.calls (opens (F.files files.old) reach.old.home))
-        scope.entry.frame.now scope.entry.at.region) progress reach.old.used) }
-    ensures files { F.files files.new ≡ F.files files.old }
-    ensures home { reach.new.home ≡ reach.old.home }
+    ensures gives { GivesFrom F.files result reach.old reach.new (λ opens. mapping_item place.now
+        (map entry_of pairs.now) (scope_of (followed scope.entry.at.calls opens)
+        scope.entry.frame.now scope.entry.at.region) progress) }
 {
     let count = enter(alloc, place, progress.count)?;
     match manner_of(alloc, pairs)? {
         Manner::Empty => {
             let begun = begin(alloc, Kind::Pairs, Chain::Closed, count);
             let one = finish(alloc, scope.frame, place, begun)?;
-            put_alone(alloc, scope, one, progress, files, reach)
+            put_alone(alloc, scope, one, progress, reach)
         }
         Manner::Stays => {
             let begun = begin(alloc, Kind::Pairs, progress.chain, count);
             let inside = scope.of_item().below()?;
-            let inner = fill_pairs(alloc, pairs, inside, begun, files, reach)?;
+            let inner = fill_pairs(alloc, pairs, inside, begun, reach)?;
             let progress = progress.at(inner.chain, inner.count);
             let one = finish(alloc, scope.frame, place, inner)?;
-            add_item(alloc, scope, one.node, progress, files, reach)
+            add_item(alloc, scope, one.node, progress, reach)
         }
         Manner::Splices(kind) => {
             let begun = begin_spliced(alloc, kind, progress.chain, count);
             let inside = scope.of_item().below()?;
-            let inner = fill_pairs(alloc, pairs, inside, begun, files, reach)?;
+            let inner = fill_pairs(alloc, pairs, inside, begun, reach)?;
             let progress = progress.at(inner.chain, inner.count);
-            splice(alloc, scope, place, inner.content, progress, files, reach)
+            splice(alloc, scope, place, inner.content, progress, reach)
         }
         Manner::Mixed(other) => {
             let first = complain(alloc, ExpandProblem::WrongKind, &other)?;

@@ -1,7 +1,6 @@
 ghost use Rattle.std.specs.Prelude.{◌≡◌, ◌-◌, ◌++◌, ◌∷◌, [], Some, None, IfOk};
 ghost use Rattle.pl_calls.specs.Calls.{seen};
-ghost use Rattle.pl_calls.specs.Gives.{GivesUsed};
-ghost use Rattle.pl_calls.specs.Reaching.{opens};
+ghost use Rattle.pl_calls.specs.Gives.{GivesFrom};
 ghost use Rattle.pl_directives.specs.Gives.{Gives};
 ghost use Rattle.pl_recursion.specs.Following.{scope_of};
 ghost use Rattle.pl_recursion.specs.Levels.{followed, below, frame_for, border};
@@ -47,14 +46,10 @@ pub fn follow<F: Files>(
     scope: Scope<'_>,
     form: Form,
     count: u32,
-    files: &mut F,
-    reach: &mut Reach,
+    reach: &mut Reach<F>,
 ) -> Result<Followed, ExpandFault>
-    ensures followed { GivesUsed result reach.new.used (followed scope.entry.at.calls (opens
-        (F.files files.old) reach.old.home) scope.entry.frame.now form item.now count
-        reach.old.used) }
-    ensures files { F.files files.new ≡ F.files files.old }
-    ensures home { reach.new.home ≡ reach.old.home }
+    ensures followed { GivesFrom F.files result reach.old reach.new (λ opens. followed
+        scope.entry.at.calls opens scope.entry.frame.now form item.now count) }
 {
     let call = call_of(alloc, item)?;
     let calling = Calling {
@@ -63,14 +58,7 @@ pub fn follow<F: Files>(
         form,
         count,
     };
-    descend(
-        alloc,
-        &calling,
-        scope.at.levels,
-        scope.at.calls,
-        files,
-        reach,
-    )
+    descend(alloc, &calling, scope.at.levels, scope.at.calls, reach)
 }
 
 /// One level more, in which so many nodes may still stand in one another. X3 where none is left.
@@ -81,22 +69,18 @@ fn descend<F: Files>(
     calling: &Calling<'_>,
     nodes: u32,
     levels: u32,
-    files: &mut F,
-    reach: &mut Reach,
+    reach: &mut Reach<F>,
 ) -> Result<Followed, ExpandFault>
-    ensures reached { GivesUsed result reach.new.used (reached (below levels (opens (F.files
-        files.old) reach.old.home)) (opens (F.files files.old) reach.old.home) (call_in
-        calling.now.frame.now calling.now.form (seen calling.now.call.now) calling.now.count)
-        reach.old.used) }
-    ensures files { F.files files.new ≡ F.files files.old }
-    ensures home { reach.new.home ≡ reach.old.home }
+    ensures reached { GivesFrom F.files result reach.old reach.new (λ opens. reached (below levels
+        opens) opens (call_in calling.now.frame.now calling.now.form (seen calling.now.call.now)
+        calling.now.count)) }
 {
     let Some(left) = levels.checked_sub(1) else {
         let first = complain(alloc, ExpandProblem::NestedTooDeep, calling.call.at)?;
         return Err(ExpandFault::Refused(first));
     };
-    let opened = open(alloc, calling.call.at, &calling.call.path, files, reach)?;
-    enter_file(alloc, &opened, calling, nodes, left, files, reach)
+    let opened = open(alloc, calling.call.at, &calling.call.path, reach)?;
+    enter_file(alloc, &opened, calling, nodes, left, reach)
 }
 
 /// The file that the path led to.
@@ -107,14 +91,11 @@ fn enter_file<F: Files>(
     calling: &Calling<'_>,
     nodes: u32,
     left: u32,
-    files: &mut F,
-    reach: &mut Reach,
+    reach: &mut Reach<F>,
 ) -> Result<Followed, ExpandFault>
-    ensures found { GivesUsed result reach.new.used (found_in opened.now (followed left (opens
-        (F.files files.old) reach.old.home)) (call_in calling.now.frame.now calling.now.form (seen
-        calling.now.call.now) calling.now.count) reach.old.used) }
-    ensures files { F.files files.new ≡ F.files files.old }
-    ensures home { reach.new.home ≡ reach.old.home }
+    ensures found { GivesFrom F.files result reach.old reach.new (λ opens. found_in opened.now
+        (followed left opens) (call_in calling.now.frame.now calling.now.form (seen
+        calling.now.call.now) calling.now.count)) }
 {
     let node = node_in(alloc, &opened.file)?;
     let pairs = template_in(alloc, node)?;
@@ -128,7 +109,7 @@ fn enter_file<F: Files>(
             calls: left,
         },
     };
-    fill(alloc, &node.place, body, calling, scope, files, reach)
+    fill(alloc, &node.place, body, calling, scope, reach)
 }
 
 /// The frame of a called template.
@@ -174,17 +155,14 @@ fn fill<F: Files>(
     body: &Node,
     calling: &Calling<'_>,
     scope: Scope<'_>,
-    files: &mut F,
-    reach: &mut Reach,
+    reach: &mut Reach<F>,
 ) -> Result<Followed, ExpandFault>
-    ensures filled { GivesUsed result reach.new.used (filled_in place.now body.now calling.now.form
-        (scope_of (followed scope.entry.at.calls (opens (F.files files.old) reach.old.home))
-        scope.entry.frame.now scope.entry.at.region) calling.now.count reach.old.used) }
-    ensures files { F.files files.new ≡ F.files files.old }
-    ensures home { reach.new.home ≡ reach.old.home }
+    ensures filled { GivesFrom F.files result reach.old reach.new (λ opens. filled_in place.now
+        body.now calling.now.form (scope_of (followed scope.entry.at.calls opens)
+        scope.entry.frame.now scope.entry.at.region) calling.now.count) }
 {
     let count = enter(alloc, place, calling.count)?;
     judge_body(alloc, calling.form, body)?;
-    let one = expand_node(alloc, body, scope, count, files, reach)?;
+    let one = expand_node(alloc, body, scope, count, reach)?;
     items_from(alloc, calling.form, &body.place, one)
 }

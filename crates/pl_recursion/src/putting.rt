@@ -1,7 +1,6 @@
 ghost use Rattle.std.specs.Prelude.{◌≡◌, ◌∷◌, []};
 ghost use Rattle.pl_frame.specs.Origins.{literal_at};
-ghost use Rattle.pl_calls.specs.Gives.{GivesUsed};
-ghost use Rattle.pl_calls.specs.Reaching.{opens};
+ghost use Rattle.pl_calls.specs.Gives.{GivesFrom};
 ghost use Rattle.pl_directives.specs.Contents.{with_chain, with_count, add_items};
 ghost use Rattle.pl_directives.specs.Gives.{Gives};
 ghost use Rattle.pl_directives.specs.declared.progress.Chain.TheVariants.{Closed};
@@ -26,18 +25,15 @@ pub fn add_item<F: Files>(
     scope: Scope<'_>,
     item: MarkedNode,
     progress: Progress,
-    files: &mut F,
-    reach: &mut Reach,
+    reach: &mut Reach<F>,
 ) -> Result<Progress, ExpandFault>
-    ensures added { GivesUsed result reach.new.used (add_item (scope_of (followed
-        scope.entry.at.calls (opens (F.files files.old) reach.old.home)) scope.entry.frame.now
-        scope.entry.at.region) item progress reach.old.used) }
-    ensures files { F.files files.new ≡ F.files files.old }
-    ensures home { reach.new.home ≡ reach.old.home }
+    ensures added { GivesFrom F.files result reach.old reach.new (λ opens. add_item (scope_of
+        (followed scope.entry.at.calls opens) scope.entry.frame.now scope.entry.at.region) item
+        progress) }
 {
     match scope.at.region.call_form(&item) {
         Some(form) => {
-            let more = follow(alloc, &item, scope, form, progress.count, files, reach)?;
+            let more = follow(alloc, &item, scope, form, progress.count, reach)?;
             let progress = progress.counting(more.count);
             add_items(alloc, &item.origin.source, more.items, progress)
         }
@@ -62,19 +58,15 @@ pub fn put_alone<F: Files>(
     scope: Scope<'_>,
     one: Counted,
     progress: Progress,
-    files: &mut F,
-    reach: &mut Reach,
+    reach: &mut Reach<F>,
 ) -> Result<Progress, ExpandFault>
-    ensures added { GivesUsed result reach.new.used (add_item (scope_of (followed
-        scope.entry.at.calls (opens (F.files files.old) reach.old.home)) scope.entry.frame.now
-        scope.entry.at.region) one.node (with_chain Closed (with_count one.count progress))
-        reach.old.used) }
-    ensures files { F.files files.new ≡ F.files files.old }
-    ensures home { reach.new.home ≡ reach.old.home }
+    ensures added { GivesFrom F.files result reach.old reach.new (λ opens. add_item (scope_of
+        (followed scope.entry.at.calls opens) scope.entry.frame.now scope.entry.at.region) one.node
+        (with_chain Closed (with_count one.count progress))) }
 {
     let Counted { node, count } = one;
     let progress = progress.at(Chain::Closed, count);
-    add_item(alloc, scope, node, progress, files, reach)
+    add_item(alloc, scope, node, progress, reach)
 }
 
 /// What directives alone put in an item's place, behind the items that are there: items as they
@@ -87,21 +79,16 @@ pub fn splice<F: Files>(
     place: &Place,
     content: Content,
     progress: Progress,
-    files: &mut F,
-    reach: &mut Reach,
+    reach: &mut Reach<F>,
 ) -> Result<Progress, ExpandFault>
-    ensures added { GivesUsed result reach.new.used (splice (scope_of (followed scope.entry.at.calls
-        (opens (F.files files.old) reach.old.home)) scope.entry.frame.now scope.entry.at.region)
-        (literal_at scope.entry.frame.now place.now) content progress reach.old.used) }
-    ensures files { F.files files.new ≡ F.files files.old }
-    ensures home { reach.new.home ≡ reach.old.home }
+    ensures added { GivesFrom F.files result reach.old reach.new (λ opens. splice (scope_of
+        (followed scope.entry.at.calls opens) scope.entry.frame.now scope.entry.at.region)
+        (literal_at scope.entry.frame.now place.now) content progress) }
 {
     match content {
         Content::Unknown => Ok(progress),
         Content::Items(items) => add_items(alloc, place, items, progress),
-        Content::Pairs(pairs) => {
-            splice_pairs(alloc, scope, place, pairs, progress, files, reach)
-        }
+        Content::Pairs(pairs) => { splice_pairs(alloc, scope, place, pairs, progress, reach) }
     }
 }
 
@@ -112,21 +99,18 @@ fn splice_pairs<F: Files>(
     place: &Place,
     pairs: List<MarkedPair>,
     progress: Progress,
-    files: &mut F,
-    reach: &mut Reach,
+    reach: &mut Reach<F>,
 ) -> Result<Progress, ExpandFault>
-    ensures added { GivesUsed result reach.new.used (splice (scope_of (followed scope.entry.at.calls
-        (opens (F.files files.old) reach.old.home)) scope.entry.frame.now scope.entry.at.region)
-        (literal_at scope.entry.frame.now place.now) (Pairs pairs) progress reach.old.used) }
-    ensures files { F.files files.new ≡ F.files files.old }
-    ensures home { reach.new.home ≡ reach.old.home }
+    ensures added { GivesFrom F.files result reach.old reach.new (λ opens. splice (scope_of
+        (followed scope.entry.at.calls opens) scope.entry.frame.now scope.entry.at.region)
+        (literal_at scope.entry.frame.now place.now) (Pairs pairs) progress) }
 {
     if pairs.is_empty() {
         return Ok(progress);
     }
     let origin = literal_at(alloc, scope.frame, place)?;
     let item = object_of(alloc, origin, pairs)?;
-    add_item(alloc, scope, item, progress, files, reach)
+    add_item(alloc, scope, item, progress, reach)
 }
 
 /// An expression's value as an item: an array's items stand in its place.
@@ -137,21 +121,18 @@ pub fn spread<F: Files>(
     scope: Scope<'_>,
     node: MarkedNode,
     progress: Progress,
-    files: &mut F,
-    reach: &mut Reach,
+    reach: &mut Reach<F>,
 ) -> Result<Progress, ExpandFault>
-    ensures added { GivesUsed result reach.new.used (spread (scope_of (followed scope.entry.at.calls
-        (opens (F.files files.old) reach.old.home)) scope.entry.frame.now scope.entry.at.region)
-        node progress reach.old.used) }
-    ensures files { F.files files.new ≡ F.files files.old }
-    ensures home { reach.new.home ≡ reach.old.home }
+    ensures added { GivesFrom F.files result reach.old reach.new (λ opens. spread (scope_of
+        (followed scope.entry.at.calls opens) scope.entry.frame.now scope.entry.at.region) node
+        progress) }
 {
     let MarkedNode { origin, value } = node;
     match value {
         Value::Array(items) => add_items(alloc, &origin.source, items, progress),
         value => {
             let node = MarkedNode { origin, value };
-            add_item(alloc, scope, node, progress, files, reach)
+            add_item(alloc, scope, node, progress, reach)
         }
     }
 }

@@ -1,6 +1,5 @@
 ghost use Rattle.std.specs.Prelude.{◌≡◌, IfOk};
-ghost use Rattle.pl_calls.specs.Gives.{GivesUsed};
-ghost use Rattle.pl_calls.specs.Reaching.{opens};
+ghost use Rattle.pl_calls.specs.Gives.{GivesFrom};
 ghost use Rattle.pl_directives.specs.Gives.{Gives};
 ghost use Rattle.pl_frame.specs.Origins.{literal_at};
 ghost use Rattle.pl_template.specs.Forms.{form_of};
@@ -26,17 +25,14 @@ pub fn expand_scalar<F: Files>(
     scope: Scope<'_>,
     place: &Place,
     count: u32,
-    files: &mut F,
-    reach: &mut Reach,
+    reach: &mut Reach<F>,
 ) -> Result<Counted, ExpandFault>
-    ensures scalar { GivesUsed result reach.new.used (scalar_at text.now (scope_of (followed
-        scope.entry.at.calls (opens (F.files files.old) reach.old.home)) scope.entry.frame.now
-        scope.entry.at.region) place.now count reach.old.used) }
-    ensures files { F.files files.new ≡ F.files files.old }
-    ensures home { reach.new.home ≡ reach.old.home }
+    ensures scalar { GivesFrom F.files result reach.old reach.new (λ opens. scalar_at text.now
+        (scope_of (followed scope.entry.at.calls opens) scope.entry.frame.now scope.entry.at.region)
+        place.now count) }
 {
     let one = scalar_value(alloc, text, scope.frame, place, count)?;
-    settle(alloc, one, scope, files, reach)
+    settle(alloc, one, scope, reach)
 }
 
 /// The text that is written as a path.

@@ -2,6 +2,7 @@ ghost use Rattle.std.specs.Prelude.{◌≡◌, ◌+◌, IfOk};
 ghost use Rattle.pl_directives.specs.Regions.{under, inside, of_item};
 
 use pl_base::{Memory, Text};
+use pl_budgets::Budget;
 use pl_directives::Standing;
 use pl_frame::Frame;
 
@@ -59,7 +60,9 @@ impl<'f> Scope<'f> {
         ensures levels { IfOk result (λ scope. scope.at.levels + 1 ≡ self.entry.at.levels) }
         ensures calls { IfOk result (λ scope. scope.at.calls ≡ self.entry.at.calls) }
     {
-        let at = self.at.below()?;
+        let Ok(at) = self.at.below() else {
+            return Err(self.frame.meter().pass(Budget::Open));
+        };
         Ok(Scope {
             frame: self.frame,
             at,

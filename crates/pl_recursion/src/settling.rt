@@ -1,6 +1,5 @@
 ghost use Rattle.std.specs.Prelude.{◌≡◌, [], map};
-ghost use Rattle.pl_calls.specs.Gives.{GivesUsed};
-ghost use Rattle.pl_calls.specs.Reaching.{opens};
+ghost use Rattle.pl_calls.specs.Gives.{GivesFrom};
 ghost use Rattle.pl_recursion.specs.Following.{scope_of};
 ghost use Rattle.pl_recursion.specs.Levels.{followed};
 ghost use Rattle.pl_recursion.specs.Settling.{node_settling, value_seen, node_seen, pair_seen};
@@ -22,18 +21,15 @@ pub fn settle<F: Files>(
     alloc: Global,
     one: Counted,
     scope: Scope<'_>,
-    files: &mut F,
-    reach: &mut Reach,
+    reach: &mut Reach<F>,
 ) -> Result<Counted, ExpandFault>
-    ensures settled { GivesUsed result reach.new.used (node_settling one.node (scope_of (followed
-        scope.entry.at.calls (opens (F.files files.old) reach.old.home)) scope.entry.frame.now
-        scope.entry.at.region) one.count reach.old.used) }
-    ensures files { F.files files.new ≡ F.files files.old }
-    ensures home { reach.new.home ≡ reach.old.home }
+    ensures settled { GivesFrom F.files result reach.old reach.new (λ opens. node_settling one.node
+        (scope_of (followed scope.entry.at.calls opens) scope.entry.frame.now scope.entry.at.region)
+        one.count) }
 {
     match &one.node.value {
         Value::Array(_) | Value::Object(_) => {
-            settle_node(alloc, &one.node, scope, one.count, files, reach)
+            settle_node(alloc, &one.node, scope, one.count, reach)
         }
         _atom => Ok(one),
     }
@@ -46,16 +42,13 @@ pub fn settle_node<F: Files>(
     node: &MarkedNode,
     scope: Scope<'_>,
     count: u32,
-    files: &mut F,
-    reach: &mut Reach,
+    reach: &mut Reach<F>,
 ) -> Result<Counted, ExpandFault>
-    ensures settled { GivesUsed result reach.new.used (node_settling node.now (scope_of (followed
-        scope.entry.at.calls (opens (F.files files.old) reach.old.home)) scope.entry.frame.now
-        scope.entry.at.region) count reach.old.used) }
-    ensures files { F.files files.new ≡ F.files files.old }
-    ensures home { reach.new.home ≡ reach.old.home }
+    ensures settled { GivesFrom F.files result reach.old reach.new (λ opens. node_settling node.now
+        (scope_of (followed scope.entry.at.calls opens) scope.entry.frame.now scope.entry.at.region)
+        count) }
 {
-    let one = settle_value(alloc, &node.value, scope, count, files, reach)?;
+    let one = settle_value(alloc, &node.value, scope, count, reach)?;
     let origin = node.origin.copy(alloc)?;
     let node = MarkedNode {
         origin,
@@ -73,25 +66,22 @@ fn settle_value<F: Files>(
     value: &Value,
     scope: Scope<'_>,
     count: u32,
-    files: &mut F,
-    reach: &mut Reach,
+    reach: &mut Reach<F>,
 ) -> Result<SettledValue, ExpandFault>
-    ensures settled { GivesUsed result reach.new.used ((value_seen value.now).settled (scope_of
-        (followed scope.entry.at.calls (opens (F.files files.old) reach.old.home))
-        scope.entry.frame.now scope.entry.at.region) count reach.old.used) }
-    ensures files { F.files files.new ≡ F.files files.old }
-    ensures home { reach.new.home ≡ reach.old.home }
+    ensures settled { GivesFrom F.files result reach.old reach.new (λ opens. (value_seen
+        value.now).settled (scope_of (followed scope.entry.at.calls opens) scope.entry.frame.now
+        scope.entry.at.region) count) }
 {
     match value {
         Value::Array(items) => {
-            let all = settle_items(alloc, items, scope.below()?, count, files, reach)?;
+            let all = settle_items(alloc, items, scope.below()?, count, reach)?;
             Ok(SettledValue {
                 value: Value::Array(all.items),
                 count: all.count,
             })
         }
         Value::Object(pairs) => {
-            let all = settle_pairs(alloc, pairs, scope.below()?, count, files, reach)?;
+            let all = settle_pairs(alloc, pairs, scope.below()?, count, reach)?;
             Ok(SettledValue {
                 value: Value::Object(all.pairs),
                 count: all.count,
@@ -110,22 +100,18 @@ fn settle_items<F: Files>(
     items: &List<MarkedNode>,
     scope: Scope<'_>,
     count: u32,
-    files: &mut F,
-    reach: &mut Reach,
+    reach: &mut Reach<F>,
 ) -> Result<Followed, ExpandFault>
-    ensures settled { GivesUsed result reach.new.used (items_behind (map node_seen items.now)
-        (scope_of (followed scope.entry.at.calls (opens (F.files files.old) reach.old.home))
-        scope.entry.frame.now scope.entry.at.region) (record { items = []; count = count })
-        reach.old.used) }
-    ensures files { F.files files.new ≡ F.files files.old }
-    ensures home { reach.new.home ≡ reach.old.home }
+    ensures settled { GivesFrom F.files result reach.old reach.new (λ opens. items_behind (map
+        node_seen items.now) (scope_of (followed scope.entry.at.calls opens) scope.entry.frame.now
+        scope.entry.at.region) (record { items = []; count = count })) }
 {
     let mut all = Followed {
         items: List::new(alloc),
         count,
     };
     for item in items.as_slice() {
-        all = settle_item(alloc, item, scope, all, files, reach)?;
+        all = settle_item(alloc, item, scope, all, reach)?;
     }
     Ok(all)
 }
@@ -138,22 +124,19 @@ fn settle_item<F: Files>(
     item: &MarkedNode,
     scope: Scope<'_>,
     before: Followed,
-    files: &mut F,
-    reach: &mut Reach,
+    reach: &mut Reach<F>,
 ) -> Result<Followed, ExpandFault>
-    ensures settled { GivesUsed result reach.new.used (item_behind (node_seen item.now) (scope_of
-        (followed scope.entry.at.calls (opens (F.files files.old) reach.old.home))
-        scope.entry.frame.now scope.entry.at.region) before reach.old.used) }
-    ensures files { F.files files.new ≡ F.files files.old }
-    ensures home { reach.new.home ≡ reach.old.home }
+    ensures settled { GivesFrom F.files result reach.old reach.new (λ opens. item_behind (node_seen
+        item.now) (scope_of (followed scope.entry.at.calls opens) scope.entry.frame.now
+        scope.entry.at.region) before) }
 {
     match scope.at.region.call_form(item) {
         Some(form) => {
-            let more = follow(alloc, item, scope, form, before.count, files, reach)?;
+            let more = follow(alloc, item, scope, form, before.count, reach)?;
             Ok(items_with(before, more)?)
         }
         None => {
-            let one = settle_node(alloc, item, scope.inside(), before.count, files, reach)?;
+            let one = settle_node(alloc, item, scope.inside(), before.count, reach)?;
             Ok(items_and(before, one)?)
         }
     }
@@ -165,22 +148,18 @@ fn settle_pairs<F: Files>(
     pairs: &List<MarkedPair>,
     scope: Scope<'_>,
     count: u32,
-    files: &mut F,
-    reach: &mut Reach,
+    reach: &mut Reach<F>,
 ) -> Result<SettledPairs, ExpandFault>
-    ensures settled { GivesUsed result reach.new.used (pairs_behind (map pair_seen pairs.now)
-        (scope_of (followed scope.entry.at.calls (opens (F.files files.old) reach.old.home))
-        scope.entry.frame.now scope.entry.at.region) (record { pairs = []; count = count })
-        reach.old.used) }
-    ensures files { F.files files.new ≡ F.files files.old }
-    ensures home { reach.new.home ≡ reach.old.home }
+    ensures settled { GivesFrom F.files result reach.old reach.new (λ opens. pairs_behind (map
+        pair_seen pairs.now) (scope_of (followed scope.entry.at.calls opens) scope.entry.frame.now
+        scope.entry.at.region) (record { pairs = []; count = count })) }
 {
     let mut all = SettledPairs {
         pairs: List::new(alloc),
         count,
     };
     for pair in pairs.as_slice() {
-        all = settle_pair(alloc, pair, scope, all, files, reach)?;
+        all = settle_pair(alloc, pair, scope, all, reach)?;
     }
     Ok(all)
 }
@@ -192,16 +171,13 @@ fn settle_pair<F: Files>(
     pair: &MarkedPair,
     scope: Scope<'_>,
     before: SettledPairs,
-    files: &mut F,
-    reach: &mut Reach,
+    reach: &mut Reach<F>,
 ) -> Result<SettledPairs, ExpandFault>
-    ensures settled { GivesUsed result reach.new.used (pair_behind (pair_seen pair.now) (scope_of
-        (followed scope.entry.at.calls (opens (F.files files.old) reach.old.home))
-        scope.entry.frame.now scope.entry.at.region) before reach.old.used) }
-    ensures files { F.files files.new ≡ F.files files.old }
-    ensures home { reach.new.home ≡ reach.old.home }
+    ensures settled { GivesFrom F.files result reach.old reach.new (λ opens. pair_behind (pair_seen
+        pair.now) (scope_of (followed scope.entry.at.calls opens) scope.entry.frame.now
+        scope.entry.at.region) before) }
 {
     let scope = scope.under(&pair.key);
-    let one = settle_node(alloc, &pair.item, scope, before.count, files, reach)?;
+    let one = settle_node(alloc, &pair.item, scope, before.count, reach)?;
     Ok(pairs_and(alloc, before, pair, one)?)
 }

@@ -15,6 +15,7 @@ use pl_base::{
     Argument, ExactCopy, FileKey, List, MarkedNode, Memory, Node, Origin, Place, Shared,
     SharedList, Text, Value,
 };
+use pl_budgets::Meter;
 use pl_calls::{bound_to, declared_by};
 use pl_directives::{Complaint, ExpandFault, ExpandProblem};
 use pl_frame::{Parameter, parameters_of};
@@ -203,12 +204,13 @@ fn bound_by(
 /// read, Memory where memory is wanting (Microsoft Learn, Azure Pipelines, "Runtime parameters").
 pub fn parameters_by(
     alloc: Global,
+    meter: &Meter,
     node: Option<&Node>,
     arguments: &List<Argument>,
 ) -> Result<List<Parameter>, ExpandFault>
     ensures { Gives result (parameters_by (option_copied node.entry) arguments.now) }
 {
-    let declared = declared_by(alloc, node)?;
+    let declared = declared_by(alloc, meter, node)?;
     let bound = bound_by(alloc, &declared, arguments)?;
     let none = SharedList::new(alloc)?;
     Ok(parameters_of(alloc, &none, &declared, bound)?)

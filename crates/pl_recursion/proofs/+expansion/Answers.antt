@@ -2,7 +2,7 @@ use Rattle.std.proofs.Common.{◌≡◌, List, arith}
 use Rattle.pl_base.specs.declared.value.MarkedNode.{MarkedNode}
 use Rattle.pl_base.specs.declared.value.Value.TheVariants as value
 use Rattle.pl_calls.specs.Calls.{seen}
-use Rattle.pl_calls.specs.Reaching.{opens}
+use Rattle.pl_calls.specs.Gives.{ways}
 use Rattle.pl_recursion.specs.Levels.{Calling, call_in}
 use Rattle.pl_recursion.proofs.Levels.{descends}
 use Rattle.pl_recursion.proofs.Spread.{spread_alone}
@@ -10,13 +10,17 @@ use Rattle.pl_recursion.proofs.+expansion.Goals as goal
 
 pub following::descend-returns-clause-reached : goal.following::descend-returns-clause-reached
 following::descend-returns-clause-reached g t c =
-    let same : opens (g.F.Files.files c.open.new.files) c.open.new.reach.home
-    ≡ opens (g.F.Files.files c.args.files.now) c.args.reach.now.home
+    let same : ways g.F.Files.files c.open.new.reach ≡ ways g.F.Files.files c.args.reach.now
     = cc (c.in_ok-opened.ensures.files, c.in_ok-opened.ensures.home) in
     let calling : Calling = call_in c.args.calling.now.frame.now c.args.calling.now.form
     (seen c.args.calling.now.call.now) c.args.calling.now.count in
-    descends _ _ _ _ calling c.args.reach.now.used _ _ _ _ c.in-Some.ensures.0 c.in-Some.ensures.1
-    c.in_ok-opened.ensures.opened same c.enter_file.ensures.found
+    record {
+      given =
+          descends _ _ _ _ calling c.args.reach.now.used _ _ _ _ c.in-Some.ensures.0
+          c.in-Some.ensures.1 c.in_ok-opened.ensures.given same c.enter_file.ensures.found.given;
+      files = cc (c.enter_file.ensures.found.files, c.in_ok-opened.ensures.files);
+      home = cc (c.enter_file.ensures.found.home, c.in_ok-opened.ensures.home);
+    }
 
 pub putting::spread-returns-in_default : goal.putting::spread-returns-in_default
 putting::spread-returns-in_default g t c =
@@ -24,7 +28,9 @@ putting::spread-returns-in_default g t c =
     let other : (items : List MarkedNode) → c.args.node.value ≡ value.Array items → ⊥ =
     first_of (assumption (c.in_default.not-Array), grind (arith, c.in_default.not-Array, same)) in
     record {
-      added = spread_alone _ c.args.node _ _ other _ _ c.add_item.ensures.added;
-      files = c.add_item.ensures.files;
-      home = c.add_item.ensures.home;
+      added = record {
+        given = spread_alone _ c.args.node _ _ other _ _ c.add_item.ensures.added.given;
+        files = c.add_item.ensures.added.files;
+        home = c.add_item.ensures.added.home;
+      };
     }

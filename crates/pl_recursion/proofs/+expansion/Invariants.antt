@@ -1,5 +1,5 @@
 use Rattle.std.proofs.Common.{◌≡◌, ℕ, ◌+◌, ◌*◌, [], drop, map}
-use Rattle.pl_calls.specs.Reaching.{opens}
+use Rattle.pl_calls.specs.Gives.{ways}
 use Rattle.pl_recursion.specs.Expanding.{part_of, entry_of, turns, pairs_behind, items_behind}
 use Rattle.pl_recursion.specs.Following.{scope_of}
 use Rattle.pl_recursion.specs.Levels.{followed}
@@ -100,12 +100,12 @@ abbrev pub invariant-expanding::fill_items-loop-item :
 invariant-expanding::fill_items-loop-item g l = record {
   gives :
       items_behind (map part_of l.items)
-      (scope_of (followed l.scope.at.calls (opens (g.F.Files.files l.fn.files) l.fn.reach.home))
+      (scope_of (followed l.scope.at.calls (ways g.F.Files.files l.fn.reach))
       l.scope.frame.now l.scope.at.region) l.fn.progress l.fn.reach.used
       ≡ items_behind (map part_of (drop l.item-index l.item-items))
-      (scope_of (followed l.scope.at.calls (opens (g.F.Files.files l.fn.files) l.fn.reach.home))
+      (scope_of (followed l.scope.at.calls (ways g.F.Files.files l.fn.reach))
       l.scope.frame.now l.scope.at.region) l.after l.reach.used;
-  files : g.F.Files.files l.files ≡ g.F.Files.files l.fn.files;
+  files : g.F.Files.files l.reach.files ≡ g.F.Files.files l.fn.reach.files;
   home : l.reach.home ≡ l.fn.reach.home;
 }
 
@@ -114,12 +114,12 @@ abbrev pub invariant-expanding::fill_pairs-loop-pair :
 invariant-expanding::fill_pairs-loop-pair g l = record {
   gives :
       pairs_behind (map entry_of l.pairs)
-      (scope_of (followed l.scope.at.calls (opens (g.F.Files.files l.fn.files) l.fn.reach.home))
+      (scope_of (followed l.scope.at.calls (ways g.F.Files.files l.fn.reach))
       l.scope.frame.now l.scope.at.region) l.fn.progress l.fn.reach.used
       ≡ pairs_behind (map entry_of (drop l.pair-index l.pair-items))
-      (scope_of (followed l.scope.at.calls (opens (g.F.Files.files l.fn.files) l.fn.reach.home))
+      (scope_of (followed l.scope.at.calls (ways g.F.Files.files l.fn.reach))
       l.scope.frame.now l.scope.at.region) l.after l.reach.used;
-  files : g.F.Files.files l.files ≡ g.F.Files.files l.fn.files;
+  files : g.F.Files.files l.reach.files ≡ g.F.Files.files l.fn.reach.files;
   home : l.reach.home ≡ l.fn.reach.home;
 }
 
@@ -128,12 +128,12 @@ abbrev pub invariant-expanding::fill_turns-loop-item :
 invariant-expanding::fill_turns-loop-item g l = record {
   gives :
       turns l.steps.name (part_of l.node) l.steps.items
-      (scope_of (followed l.scope.at.calls (opens (g.F.Files.files l.fn.files) l.fn.reach.home))
+      (scope_of (followed l.scope.at.calls (ways g.F.Files.files l.fn.reach))
       l.scope.frame.now l.scope.at.region) l.fn.progress l.fn.reach.used
       ≡ turns l.steps.name (part_of l.node) (drop l.item-index l.item-items)
-      (scope_of (followed l.scope.at.calls (opens (g.F.Files.files l.fn.files) l.fn.reach.home))
+      (scope_of (followed l.scope.at.calls (ways g.F.Files.files l.fn.reach))
       l.scope.frame.now l.scope.at.region) l.after l.reach.used;
-  files : g.F.Files.files l.files ≡ g.F.Files.files l.fn.files;
+  files : g.F.Files.files l.reach.files ≡ g.F.Files.files l.fn.reach.files;
   home : l.reach.home ≡ l.fn.reach.home;
 }
 
@@ -142,12 +142,12 @@ abbrev pub invariant-settling::settle_items-loop-item :
 invariant-settling::settle_items-loop-item g l = record {
   gives :
       settling.items_behind (map node_seen l.items)
-      (scope_of (followed l.scope.at.calls (opens (g.F.Files.files l.fn.files) l.fn.reach.home))
+      (scope_of (followed l.scope.at.calls (ways g.F.Files.files l.fn.reach))
       l.scope.frame.now l.scope.at.region) (record { items = []; count = l.count }) l.fn.reach.used
       ≡ settling.items_behind (map node_seen (drop l.item-index l.item-items))
-      (scope_of (followed l.scope.at.calls (opens (g.F.Files.files l.fn.files) l.fn.reach.home))
+      (scope_of (followed l.scope.at.calls (ways g.F.Files.files l.fn.reach))
       l.scope.frame.now l.scope.at.region) l.all l.reach.used;
-  files : g.F.Files.files l.files ≡ g.F.Files.files l.fn.files;
+  files : g.F.Files.files l.reach.files ≡ g.F.Files.files l.fn.reach.files;
   home : l.reach.home ≡ l.fn.reach.home;
 }
 
@@ -156,11 +156,11 @@ abbrev pub invariant-settling::settle_pairs-loop-pair :
 invariant-settling::settle_pairs-loop-pair g l = record {
   gives :
       settling.pairs_behind (map pair_seen l.pairs)
-      (scope_of (followed l.scope.at.calls (opens (g.F.Files.files l.fn.files) l.fn.reach.home))
+      (scope_of (followed l.scope.at.calls (ways g.F.Files.files l.fn.reach))
       l.scope.frame.now l.scope.at.region) (record { pairs = []; count = l.count }) l.fn.reach.used
       ≡ settling.pairs_behind (map pair_seen (drop l.pair-index l.pair-items))
-      (scope_of (followed l.scope.at.calls (opens (g.F.Files.files l.fn.files) l.fn.reach.home))
+      (scope_of (followed l.scope.at.calls (ways g.F.Files.files l.fn.reach))
       l.scope.frame.now l.scope.at.region) l.all l.reach.used;
-  files : g.F.Files.files l.files ≡ g.F.Files.files l.fn.files;
+  files : g.F.Files.files l.reach.files ≡ g.F.Files.files l.fn.reach.files;
   home : l.reach.home ≡ l.fn.reach.home;
 }

@@ -1,15 +1,15 @@
 use Rattle.std.proofs.Common.{◌≡◌, drop}
-use Rattle.pl_calls.specs.Reaching.{opens}
+use Rattle.pl_calls.specs.Gives.{ways}
 use Rattle.pl_expand.specs.Tree.{root_pairs}
 use Rattle.pl_expand.proofs.filling.fill_root_pairs.Given as goal
 
 abbrev pub invariant-loop-pair : goal.invariant-loop-pair
 invariant-loop-pair g l = record {
   filled :
-      root_pairs l.fn.early l.pairs (opens (g.F.Files.files l.fn.files) l.fn.reach.home) l.frame
+      root_pairs l.fn.early l.pairs (ways g.F.Files.files l.fn.reach) l.frame
       l.fn.filling l.fn.reach.used
       ≡ root_pairs l.left (drop l.pair-index l.pair-items)
-      (opens (g.F.Files.files l.fn.files) l.fn.reach.home) l.frame l.after l.reach.used;
-  files : g.F.Files.files l.files ≡ g.F.Files.files l.fn.files;
+      (ways g.F.Files.files l.fn.reach) l.frame l.after l.reach.used;
+  files : g.F.Files.files l.reach.files ≡ g.F.Files.files l.fn.reach.files;
   home : l.reach.home ≡ l.fn.reach.home;
 }

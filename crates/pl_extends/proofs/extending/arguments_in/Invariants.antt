@@ -1,5 +1,5 @@
 use Rattle.std.proofs.Common.{◌≡◌, [], drop}
-use Rattle.pl_calls.specs.Reaching.{opens}
+use Rattle.pl_calls.specs.Gives.{ways}
 use Rattle.pl_recursion.specs.Levels.{followed}
 use Rattle.pl_extends.specs.Extending.{arguments_behind}
 use Rattle.pl_extends.proofs.extending.arguments_in.Given as goal
@@ -8,11 +8,11 @@ abbrev pub invariant-loop-pair : goal.invariant-loop-pair
 invariant-loop-pair g l = record {
   given :
       arguments_behind l.pairs
-      (followed 100 (opens (g.F.Files.files l.fn.files) l.fn.reach.home)) l.frame
+      (followed 100 (ways g.F.Files.files l.fn.reach)) l.frame
       (record { pairs = []; count = l.count }) l.fn.reach.used
       ≡ arguments_behind (drop l.pair-index l.pair-items)
-      (followed 100 (opens (g.F.Files.files l.fn.files) l.fn.reach.home))
+      (followed 100 (ways g.F.Files.files l.fn.reach))
       l.frame l.given l.reach.used;
-  files : g.F.Files.files l.files ≡ g.F.Files.files l.fn.files;
+  files : g.F.Files.files l.reach.files ≡ g.F.Files.files l.fn.reach.files;
   home : l.reach.home ≡ l.fn.reach.home;
 }

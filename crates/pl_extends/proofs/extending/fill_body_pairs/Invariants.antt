@@ -1,5 +1,5 @@
 use Rattle.std.proofs.Common.{◌≡◌, drop}
-use Rattle.pl_calls.specs.Reaching.{opens}
+use Rattle.pl_calls.specs.Gives.{ways}
 use Rattle.pl_directives.specs.declared.region.Region.TheVariants.{Free}
 use Rattle.pl_recursion.specs.Following.{scope_of}
 use Rattle.pl_recursion.specs.Levels.{followed}
@@ -10,11 +10,11 @@ abbrev pub invariant-loop-pair : goal.invariant-loop-pair
 invariant-loop-pair g l = record {
   filled :
       body_pairs l.pairs
-      (scope_of (followed 99 (opens (g.F.Files.files l.fn.files) l.fn.reach.home)) l.frame Free)
+      (scope_of (followed 99 (ways g.F.Files.files l.fn.reach)) l.frame Free)
       l.fn.progress l.fn.reach.used
       ≡ body_pairs (drop l.pair-index l.pair-items)
-      (scope_of (followed 99 (opens (g.F.Files.files l.fn.files) l.fn.reach.home)) l.frame Free)
+      (scope_of (followed 99 (ways g.F.Files.files l.fn.reach)) l.frame Free)
       l.after l.reach.used;
-  files : g.F.Files.files l.files ≡ g.F.Files.files l.fn.files;
+  files : g.F.Files.files l.reach.files ≡ g.F.Files.files l.fn.reach.files;
   home : l.reach.home ≡ l.fn.reach.home;
 }

@@ -1,5 +1,5 @@
 use Rattle.std.proofs.Common.{◌≡◌, ℕ, ◌+◌, ◌*◌, drop, map}
-use Rattle.pl_calls.specs.Reaching.{opens}
+use Rattle.pl_calls.specs.Gives.{ways}
 use Rattle.pl_extends.specs.Rooting.{node_seen, pair_seen, pairs_put, turns_put}
 use Rattle.pl_extends.proofs.rooting.+rooting.Given as goal
 
@@ -27,11 +27,11 @@ decreases-put_pairs g l = depth l.spot.levels 6
 abbrev pub invariant-put_pairs-loop-pair : goal.invariant-put_pairs-loop-pair
 invariant-put_pairs-loop-pair g l = record {
   filled :
-      pairs_put (map pair_seen l.pairs) (opens (g.F.Files.files l.fn.files) l.fn.reach.home)
+      pairs_put (map pair_seen l.pairs) (ways g.F.Files.files l.fn.reach)
       l.spot.frame.now l.fn.filling l.fn.reach.used
       ≡ pairs_put (map pair_seen (drop l.pair-index l.pair-items))
-      (opens (g.F.Files.files l.fn.files) l.fn.reach.home) l.spot.frame.now l.after l.reach.used;
-  files : g.F.Files.files l.files ≡ g.F.Files.files l.fn.files;
+      (ways g.F.Files.files l.fn.reach) l.spot.frame.now l.after l.reach.used;
+  files : g.F.Files.files l.reach.files ≡ g.F.Files.files l.fn.reach.files;
   home : l.reach.home ≡ l.fn.reach.home;
 }
 
@@ -39,10 +39,10 @@ abbrev pub invariant-put_turns-loop-item : goal.invariant-put_turns-loop-item
 invariant-put_turns-loop-item g l = record {
   filled :
       turns_put l.turns.name (node_seen l.node) l.turns.items
-      (opens (g.F.Files.files l.fn.files) l.fn.reach.home) l.spot.frame.now l.fn.filling
+      (ways g.F.Files.files l.fn.reach) l.spot.frame.now l.fn.filling
       l.fn.reach.used
       ≡ turns_put l.turns.name (node_seen l.node) (drop l.item-index l.item-items)
-      (opens (g.F.Files.files l.fn.files) l.fn.reach.home) l.spot.frame.now l.after l.reach.used;
-  files : g.F.Files.files l.files ≡ g.F.Files.files l.fn.files;
+      (ways g.F.Files.files l.fn.reach) l.spot.frame.now l.after l.reach.used;
+  files : g.F.Files.files l.reach.files ≡ g.F.Files.files l.fn.reach.files;
   home : l.reach.home ≡ l.fn.reach.home;
 }

@@ -1,15 +1,15 @@
 use Rattle.std.proofs.Common.{◌≡◌, drop}
-use Rattle.pl_calls.specs.Reaching.{opens}
+use Rattle.pl_calls.specs.Gives.{ways}
 use Rattle.pl_extends.specs.Rooting.{all_given_put}
 use Rattle.pl_extends.proofs.rooting.put_all_given.Given as goal
 
 abbrev pub invariant-loop-pair : goal.invariant-loop-pair
 invariant-loop-pair g l = record {
   filled :
-      all_given_put l.pairs (opens (g.F.Files.files l.fn.files) l.fn.reach.home) l.frame
+      all_given_put l.pairs (ways g.F.Files.files l.fn.reach) l.frame
       l.fn.filling l.fn.reach.used
       ≡ all_given_put (drop l.pair-index l.pair-items)
-      (opens (g.F.Files.files l.fn.files) l.fn.reach.home) l.frame l.after l.reach.used;
-  files : g.F.Files.files l.files ≡ g.F.Files.files l.fn.files;
+      (ways g.F.Files.files l.fn.reach) l.frame l.after l.reach.used;
+  files : g.F.Files.files l.reach.files ≡ g.F.Files.files l.fn.reach.files;
   home : l.reach.home ≡ l.fn.reach.home;
 }
