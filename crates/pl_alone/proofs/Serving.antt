@@ -3,12 +3,13 @@ use Rattle.std.proofs.Common.{◌≡◌, ◌+◌, ◌++◌, ℕ, List, [], ◌�
 use Rattle.std.proofs.Common.{sym}
 use Rattle.std.proofs.Common.{ap, subst, ◌∙◌}
 use Rattle.pl_alone.specs.Desk.{Parts, Serves, seen_with}
-use Rattle.pl_core.specs.Legal.{Legal}
-use Rattle.pl_core.specs.Made.{IsMadeFor}
 use Rattle.pl_core.specs.Prepared.{IsEntryOf, added_by, entries_with, installed, next_number}
-use Rattle.pl_core.specs.State.{Opening, State, held, held_of, log, log_of}
+use Rattle.pl_core.specs.State.{State, held, log}
 use Rattle.pl_facts.specs.declared.entry.Entry.{Entry}
 use Rattle.pl_facts.specs.declared.fact.Fact.{Fact}
+use Rattle.pl_history.specs.Legal.{Legal}
+use Rattle.pl_history.specs.Made.{IsMadeFor}
+use Rattle.pl_history.specs.History.{Opening, held_of, log_of}
 use Rattle.pl_queueing.specs.Queueing.{Made}
 use Rattle.pl_requests.specs.declared.call.Call.{Call}
 use Rattle.pl_requests.specs.declared.reply.Reply.{Reply}

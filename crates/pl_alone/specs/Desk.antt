@@ -4,11 +4,11 @@ use Rattle.pl_alone.specs.declared.alone.Alone.{Alone}
 use Rattle.pl_alone.specs.declared.alone.Answer.{Answer}
 use Rattle.pl_alone.specs.declared.alone.Answer.TheVariants.{Reply, Memory}
 use Rattle.pl_base.specs.declared.digest.Digest.{Digest}
-use Rattle.pl_core.specs.Legal.{Legal}
-use Rattle.pl_core.specs.Made.{IsMadeFor}
-use Rattle.pl_core.specs.State.{Opening, held_of, log_of}
 use Rattle.pl_facts.specs.declared.entry.Entry.{Entry}
 use Rattle.pl_facts.specs.declared.fact.Fact.{Fact}
+use Rattle.pl_history.specs.Legal.{Legal}
+use Rattle.pl_history.specs.Made.{IsMadeFor}
+use Rattle.pl_history.specs.History.{Opening, held_of, log_of}
 use Rattle.pl_journal.specs.Log.{Log, last_moment}
 use Rattle.pl_queueing.specs.Queueing.{Made}
 use Rattle.pl_requests.specs.WellFormed.{is_request}

@@ -1,15 +1,15 @@
 use Rattle.std.proofs.Common.{◌≡◌, ◌∙◌, sym, ap, refl, subst, ℕ, [], Option}
+use Rattle.pl_alone.specs.Desk.{Parts}
 use Rattle.pl_base.specs.declared.digest.Digest.{Digest}
-use Rattle.pl_core.specs.State.{opened}
 use Rattle.pl_commands.specs.declared.served.Served.{Served}
 use Rattle.pl_commands.specs.declared.served.Served.TheVariants as served
 use Rattle.pl_commands.specs.declared.status.Status.{Status}
 use Rattle.pl_commands.specs.declared.status.Status.TheVariants as status
-use Rattle.pl_alone.specs.Desk.{Parts}
 use Rattle.pl_commands.specs.Run.{Outside, Replays, start}
 use Rattle.pl_commands.specs.Session.{Point, Session}
 use Rattle.pl_commands.specs.Statuses.{status_of}
 use Rattle.pl_commands.specs.Told.{Told, told_by_ends}
+use Rattle.pl_history.specs.History.{opened}
 use Rattle.pl_commands.proofs.Endings.{ends_at_once}
 use Rattle.pl_commands.proofs.commands.replay.Goals as goal
 

@@ -16,6 +16,7 @@ use Rattle.pl_granting.specs.Grantable.{IsGrantable}
 use Rattle.pl_granting.specs.Named.{IsJobOf, JobOf, job_in, job_in_stage, job_labelled, job_named}
 use Rattle.pl_granting.specs.Named.{stage_named}
 use Rattle.pl_granting.specs.Rules.{is_held_by}
+use Rattle.pl_history.specs.Claims.{IsAnsweredExactly, MayBeGiven, taken_by}
 use Rattle.pl_jobs.specs.Granting.{give, give_named, job_reply}
 use Rattle.pl_journal.specs.Runs.{queueing, run_told}
 use Rattle.pl_journal.specs.Settings.{by}
@@ -26,7 +27,6 @@ use Rattle.pl_rules.specs.declared.rule.Rule.{Rule}
 use Rattle.pl_rules.specs.declared.rule.Rule.TheVariants as rules
 use Rattle.pl_step.specs.Step.{happened, stepped_with}
 use Rattle.pl_step.specs.declared.stepped.Stepped.{Stepped}
-use Rattle.pl_core_laws.specs.Claims.{IsAnsweredExactly, MayBeGiven, taken_by}
 
 -- ---- a job that is found by its name is there
 

@@ -3,14 +3,14 @@ use Rattle.std.proofs.Common.{◌≡◌, ◌≤◌, ℕ, false, List, [], ◌∷
 use Rattle.std.proofs.Common.{length, refl, sym, subst, ◌∙◌, arith}
 use Rattle.std.proofs.lemmas.List.{append-nil, append_assoc}
 use Rattle.pl_base.specs.declared.digest.Digest.{Digest}
-use Rattle.pl_core.proofs.Keeping.{made_last}
-use Rattle.pl_core.specs.Legal.{Legal, LegalFrom}
-use Rattle.pl_core.specs.State.{Opening, held_of, log_of, opened}
+use Rattle.pl_history.proofs.Longer.{made_last}
 use Rattle.pl_facts.specs.declared.entry.Entry.{Entry}
 use Rattle.pl_facts.specs.declared.fact.Event.{Event}
 use Rattle.pl_facts.specs.declared.fact.Event.TheVariants as event
 use Rattle.pl_facts.specs.declared.fact.Fact.{Fact}
 use Rattle.pl_granting_laws.specs.Histories.{AreOrderly, MayCome}
+use Rattle.pl_history.specs.Legal.{Legal, LegalFrom}
+use Rattle.pl_history.specs.History.{Opening, held_of, log_of, opened}
 use Rattle.pl_journal.specs.About.{second_of}
 use Rattle.pl_journal.specs.Log.{Log, last_run}
 use Rattle.pl_journal.specs.Runs.{queueing}
@@ -19,18 +19,18 @@ use Rattle.pl_queueing.specs.Queueing.{Made}
 use Rattle.pl_requests.specs.declared.call.Call.{Call}
 use Rattle.pl_settling.proofs.Adding.{kept_along}
 use Rattle.pl_settling.proofs.Occupying.{quiet_if}
+use Rattle.pl_history.specs.Claims.{IsOrderly}
 use Rattle.pl_settling.specs.Gives.{Gives}
 use Rattle.pl_settling.specs.Settles.{Adds}
 use Rattle.pl_step.specs.Full.{last_number, with_facts}
 use Rattle.pl_step.specs.Step.{happened}
 use Rattle.pl_step.specs.declared.held.Held.{Held}
-use Rattle.pl_core_laws.specs.Claims.{IsOrderly}
-use Rattle.pl_core_laws.proofs.Entering.{IsEntered}
-use Rattle.pl_core_laws.proofs.Happening.{Happens, MayHappen}
-use Rattle.pl_core_laws.proofs.Keeping.{AreBelow, no_start, numbers_stay, with_one}
-use Rattle.pl_core_laws.proofs.Requesting.{is_fresh, number_stays}
-use Rattle.pl_core_laws.proofs.Standing.{adds, all_with, along_last, entered, few_with, first_facts}
-use Rattle.pl_core_laws.proofs.Standing.{first_last, may, one_for}
+use Rattle.pl_history.proofs.Entering.{IsEntered}
+use Rattle.pl_history.proofs.Happening.{Happens, MayHappen}
+use Rattle.pl_history.proofs.Keeping.{AreBelow, no_start, numbers_stay, with_one}
+use Rattle.pl_history.proofs.Requesting.{is_fresh, number_stays}
+use Rattle.pl_history.proofs.Standing.{adds, all_with, along_last, entered, few_with, first_facts}
+use Rattle.pl_history.proofs.Standing.{first_last, may, one_for}
 
 -- ---- what stays: the facts are orderly, and no run's number is above the last
 

@@ -3,7 +3,6 @@
 use Rattle.std.specs.Prelude.{◌≡◌, ◌≤◌, ◌↔◌, ◌++◌, ℕ, true, List, [], Option, None, Some}
 use Rattle.std.specs.Prelude.{if◌then◌else◌}
 use Rattle.pl_answers.specs.Answers.{refused}
-use Rattle.pl_core.specs.State.{Opening}
 use Rattle.pl_facts.specs.declared.fact.Event.TheVariants as event
 use Rattle.pl_facts.specs.declared.fact.Fact.{Fact}
 use Rattle.pl_granting.specs.Broken.{NameBroken}
@@ -11,6 +10,7 @@ use Rattle.pl_granting.specs.Grantable.{IsGrantable}
 use Rattle.pl_granting.specs.Named.{JobOf, job_named}
 use Rattle.pl_granting.specs.Rules.{is_held_by}
 use Rattle.pl_granting_laws.specs.Histories.{AreOrderly}
+use Rattle.pl_history.specs.History.{Opening}
 use Rattle.pl_jobs.specs.Granting.{job_reply, why_answer}
 use Rattle.pl_journal.specs.Log.{Log}
 use Rattle.pl_journal.specs.Runs.{queueing}

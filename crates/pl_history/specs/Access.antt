@@ -1,7 +1,7 @@
 -- What a legal history makes sure of: which stages start, and who holds what is exclusive.
 use Rattle.std.specs.Prelude.{◌≡◌, ◌≤◌, ℕ, List, None}
-use Rattle.pl_core.specs.State.{Opening, facts_of}
 use Rattle.pl_facts.specs.declared.entry.Entry.{Entry}
+use Rattle.pl_history.specs.History.{Opening, facts_of}
 use Rattle.pl_journal.specs.Runs.{queueing, stage_start}
 use Rattle.pl_settling.specs.Laws.{Along, HasOneHolder, StartsAsNext, StillOneHolder}
 

@@ -2,11 +2,12 @@
 use Rattle.std.proofs.Common.{◌≡◌, ℕ, List, [], ◌∷◌, ◌++◌, None, sym, ap, subst, ◌∙◌}
 use Rattle.std.proofs.lemmas.List.{append-nil, append_assoc}
 use Rattle.pl_answers.specs.declared.answer.Answer.{Answer}
-use Rattle.pl_core.specs.Legal.{Legal, LegalFrom}
-use Rattle.pl_core.specs.State.{Opening, held_of, log_of}
 use Rattle.pl_due.specs.Due.{IsDue}
 use Rattle.pl_facts.specs.declared.entry.Entry.{Entry}
 use Rattle.pl_facts.specs.declared.fact.Fact.{Fact}
+use Rattle.pl_history.specs.Legal.{Legal, LegalFrom}
+use Rattle.pl_history.specs.History.{Opening, held_of, log_of}
+use Rattle.pl_history.specs.Settled.{EachSettles, IsSettled}
 use Rattle.pl_journal.specs.Log.{Log}
 use Rattle.pl_queueing.specs.Queueing.{Made}
 use Rattle.pl_requests.specs.declared.call.Call.{Call}
@@ -18,9 +19,8 @@ use Rattle.pl_step.specs.Answering.{Answers}
 use Rattle.pl_step.specs.Full.{with_facts}
 use Rattle.pl_step.specs.Step.{SettlesFor, happened}
 use Rattle.pl_step.specs.declared.held.Held.{Held}
-use Rattle.pl_core_laws.specs.Settled.{EachSettles, IsSettled}
-use Rattle.pl_core_laws.proofs.Entering.{IsEntered}
-use Rattle.pl_core_laws.proofs.Standing.{entered, facts_more, first_facts}
+use Rattle.pl_history.proofs.Entering.{IsEntered}
+use Rattle.pl_history.proofs.Standing.{entered, facts_more, first_facts}
 
 -- where nothing is due there is no gap
 abbrev pub NoGap : Type 0

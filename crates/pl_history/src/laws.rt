@@ -1,10 +1,10 @@
 ghost use Rattle.std.specs.Prelude.{List};
 ghost use Rattle.pl_base.specs.declared.digest.Digest.{Digest};
-ghost use Rattle.pl_core.specs.Legal.{Legal};
-ghost use Rattle.pl_core.specs.State.{Opening, opened};
-ghost use Rattle.pl_core_laws.specs.Access.{HoldAlone, IsSound, StartAsNext};
-ghost use Rattle.pl_core_laws.specs.Settled.{EachSettles};
 ghost use Rattle.pl_facts.specs.declared.entry.Entry.{Entry};
+ghost use Rattle.pl_history.specs.Access.{IsSound};
+ghost use Rattle.pl_history.specs.Guarded.{IsGuarded};
+ghost use Rattle.pl_history.specs.History.{Opening, opened};
+ghost use Rattle.pl_history.specs.Legal.{Legal};
 
 use pl_settling::settling_laws;
 
@@ -17,13 +17,9 @@ use pl_settling::settling_laws;
 /// is opened for the first time is. Each entry begins with all that was due, and leaves no gap
 /// there: something keeps each stage waiting that is neither started nor ended.
 pub fn access_laws()
-    ensures next { (opening : Opening) (entries : List Entry) → Legal opening entries →
-        StartAsNext opening entries }
-    ensures one_holder { (opening : Opening) (entries : List Entry) → IsSound opening →
-        Legal opening entries → HoldAlone opening entries }
+    ensures guarded { (opening : Opening) (entries : List Entry) → Legal opening entries →
+        IsGuarded opening entries }
     ensures sound { (admin : Digest) → IsSound (opened admin) }
-    ensures no_gap { (opening : Opening) (entries : List Entry) → Legal opening entries →
-        EachSettles opening.facts entries }
 {
     settling_laws();
 }

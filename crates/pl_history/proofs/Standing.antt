@@ -7,14 +7,14 @@ use Rattle.std.proofs.lemmas.Bool.{ltb-false, or_parts}
 use Rattle.std.proofs.lemmas.List.{append-nil, append_assoc, flat_map_more}
 use Rattle.std.proofs.lemmas.Option.{none-some}
 use Rattle.pl_base.specs.declared.digest.Digest.{Digest}
-use Rattle.pl_core.proofs.Keeping.{made_last}
-use Rattle.pl_core.specs.Legal.{Follows, Legal, LegalFrom}
-use Rattle.pl_core.specs.State.{Opening, facts_of, held_of, log_of, opened}
+use Rattle.pl_history.proofs.Longer.{made_last}
 use Rattle.pl_facts.specs.Sizes.{size_with}
 use Rattle.pl_facts.specs.declared.entry.Entry.{Entry}
 use Rattle.pl_facts.specs.declared.fact.Event.{Event}
 use Rattle.pl_facts.specs.declared.fact.Event.TheVariants as event
 use Rattle.pl_facts.specs.declared.fact.Fact.{Fact}
+use Rattle.pl_history.specs.Legal.{Follows, Legal, LegalFrom}
+use Rattle.pl_history.specs.History.{Opening, facts_of, held_of, log_of, opened}
 use Rattle.pl_journal.specs.About.{latest_also}
 use Rattle.pl_journal.specs.Log.{Log, last_run, version}
 use Rattle.pl_journal.specs.Runs.{number_told, queueing, stage_start}
@@ -25,16 +25,16 @@ use Rattle.pl_requests.specs.declared.call.Call.{Call}
 use Rattle.pl_requests.specs.declared.request.Request.{Request}
 use Rattle.pl_requests.specs.declared.request.Request.TheVariants as request
 use Rattle.pl_settling.proofs.Adding.{added_so, kept_along}
+use Rattle.pl_history.specs.Access.{HoldAlone, IsSound, StartAsNext}
 use Rattle.pl_settling.specs.Laws.{Along, HasOneHolder, NextIfStart, StartsAsNext, StillOneHolder}
 use Rattle.pl_settling.specs.Settles.{Adds}
 use Rattle.pl_step.specs.Full.{last_number, most_bytes, most_entries, with_facts}
 use Rattle.pl_step.specs.Step.{SettlesFor, happened}
 use Rattle.pl_step.specs.declared.held.Held.{Held}
-use Rattle.pl_core_laws.specs.Access.{HoldAlone, IsSound, StartAsNext}
-use Rattle.pl_core_laws.proofs.Entering.{IsEntered, entered_by}
-use Rattle.pl_core_laws.proofs.Happening.{Happens, MayHappen, happens}
-use Rattle.pl_core_laws.proofs.Keeping.{Sound, due_keeps, with_one}
-use Rattle.pl_core_laws.proofs.Requesting.{request_keeps}
+use Rattle.pl_history.proofs.Entering.{IsEntered, entered_by}
+use Rattle.pl_history.proofs.Happening.{Happens, MayHappen, happens}
+use Rattle.pl_history.proofs.Keeping.{Sound, due_keeps, with_one}
+use Rattle.pl_history.proofs.Requesting.{request_keeps}
 
 -- ---- along facts
 

@@ -5,12 +5,12 @@ use Rattle.std.proofs.Common.{refl, sym, ap, subst, inl, inr}
 use Rattle.pl_answers.specs.declared.answer.Answer.{Answer}
 use Rattle.pl_facts.specs.declared.fact.Fact.{Fact}
 use Rattle.pl_journal.specs.Log.{Log}
+use Rattle.pl_journal.specs.Settings.{principal_with}
 use Rattle.pl_queueing.specs.Queueing.{Made}
 use Rattle.pl_requests.specs.declared.call.Call.{Call}
 use Rattle.pl_requests.specs.declared.reply.Reply.{Reply}
 use Rattle.pl_requests.specs.declared.request.Request.{Request}
 use Rattle.pl_requests.specs.declared.settings.PrincipalSetting.{PrincipalSetting}
-use Rattle.pl_journal.specs.Settings.{principal_with}
 use Rattle.pl_step.specs.Answering.{Answers}
 use Rattle.pl_step.specs.Full.{is_full, with_facts}
 use Rattle.pl_step.specs.Step.{IsStep, Serves, SettlesFor, StepsAs, given, happened}

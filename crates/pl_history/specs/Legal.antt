@@ -1,8 +1,8 @@
 -- Which histories of a service are legal: each entry is what the step makes of its call.
 use Rattle.std.specs.Prelude.{◌≡◌, ◌≤◌, ◌+◌, ◌++◌, true, List, [], ◌∷◌, length}
-use Rattle.pl_core.specs.Made.{IsMadeFor}
-use Rattle.pl_core.specs.State.{Opening, held_of, log_of}
 use Rattle.pl_facts.specs.declared.entry.Entry.{Entry}
+use Rattle.pl_history.specs.Made.{IsMadeFor}
+use Rattle.pl_history.specs.History.{Opening, held_of, log_of}
 use Rattle.pl_journal.specs.Log.{last_moment}
 use Rattle.pl_queueing.specs.Queueing.{Made}
 use Rattle.pl_requests.specs.WellFormed.{is_well_formed}

@@ -1,4 +1,4 @@
-//! What a legal history makes sure of.
+//! Legal histories of a service, and what each makes sure of.
 #![tactic(auto)]
 
 mod claims;

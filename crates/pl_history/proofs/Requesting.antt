@@ -24,23 +24,23 @@ use Rattle.pl_journal.specs.Runs.{number_told, queueing, run_told, stage_end, st
 use Rattle.pl_journal.specs.Settings.{by}
 use Rattle.pl_log.proofs.Naming.{exact_key}
 use Rattle.pl_log.specs.Keys.{Queue, Resource, Run, Stage, resource_cmp, same_key}
+use Rattle.pl_open_runs.specs.Open.{queued_runs}
 use Rattle.pl_plan.specs.declared.plan.PlanStage.{PlanStage}
 use Rattle.pl_queueing.specs.Queueing.{next_run}
 use Rattle.pl_requests.specs.declared.settings.ResourceSetting.{ResourceSetting}
 use Rattle.pl_settings.specs.Running.{Stage as RunningStage, running_among, running_at, running_of}
-use Rattle.pl_open_runs.specs.Open.{queued_runs}
 use Rattle.pl_settings.specs.Running.{running_on, uses}
 use Rattle.pl_settings.specs.Running as running
 use Rattle.pl_settings.specs.Settings.{busy, busy_with}
 use Rattle.pl_settling.proofs.Behind.{none_before, touched, untouched}
 use Rattle.pl_settling.specs.Laws.{Occupies}
 use Rattle.pl_step.specs.Full.{last_number}
-use Rattle.pl_core_laws.proofs.Happening.{Happens}
-use Rattle.pl_core_laws.proofs.Keeping.{AreBelow, Sound, idle_keeps, no_start, numbers_stay}
-use Rattle.pl_core_laws.proofs.Keeping.{queued_stays, same_run, same_start, with_one}
-use Rattle.pl_core_laws.proofs.Members.{any_contains, each_within, in_filter, kept_in_filter}
-use Rattle.pl_core_laws.proofs.Members.{one_giver, some_in}
-use Rattle.pl_core_laws.proofs.Queued.{queued_contains}
+use Rattle.pl_history.proofs.Happening.{Happens}
+use Rattle.pl_history.proofs.Keeping.{AreBelow, Sound, idle_keeps, no_start, numbers_stay}
+use Rattle.pl_history.proofs.Keeping.{queued_stays, same_run, same_start, with_one}
+use Rattle.pl_history.proofs.Members.{any_contains, each_within, in_filter, kept_in_filter}
+use Rattle.pl_history.proofs.Members.{one_giver, some_in}
+use Rattle.pl_history.proofs.Queued.{queued_contains}
 
 -- ---- who holds a resource behind a fact that starts no stage of this run and doesn't queue it
 

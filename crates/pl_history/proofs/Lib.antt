@@ -3,6 +3,7 @@ pub mod Entering
 pub mod Granted
 pub mod Happening
 pub mod Keeping
+pub mod Longer
 pub mod Members
 pub mod Orderly
 pub mod Queued

@@ -4,14 +4,14 @@ use Rattle.std.proofs.Common.{refl, sym, ap, subst, ◌∙◌, inl, inr, if◌th
 use Rattle.std.proofs.lemmas.List.{append-nil}
 use Rattle.std.proofs.lemmas.Option.{none-some}
 use Rattle.pl_answers.specs.declared.answer.Answer.{Answer}
-use Rattle.pl_core.specs.Legal.{Legal}
-use Rattle.pl_core.specs.State.{Opening, held_of, log_of}
 use Rattle.pl_due.specs.Due.{IsDue}
 use Rattle.pl_facts.specs.declared.entry.Entry.{Entry}
 use Rattle.pl_facts.specs.declared.fact.Fact.{Fact}
 use Rattle.pl_granting.specs.Broken.{Broken}
 use Rattle.pl_granting.specs.Grantable.{AreDone, IsGrantable}
 use Rattle.pl_granting.specs.Named.{IsJobOf, JobOf, job_named}
+use Rattle.pl_history.specs.Legal.{Legal}
+use Rattle.pl_history.specs.History.{Opening, held_of, log_of}
 use Rattle.pl_jobs.specs.Granting.{AsAgent, AsksAs, ClaimsAs, why_answer}
 use Rattle.pl_journal.specs.Log.{Log}
 use Rattle.pl_journal.specs.Settings.{agent, principal_with}
@@ -25,6 +25,8 @@ use Rattle.pl_requests.specs.declared.settings.PrincipalSetting.{PrincipalSettin
 use Rattle.pl_rules.specs.declared.rule.Rule.{Rule}
 use Rattle.pl_rules.specs.declared.rule.Rule.TheVariants as rules
 use Rattle.pl_settling.proofs.Adding.{added_so}
+use Rattle.pl_history.specs.Claims.{IsAnsweredExactly, IsCallOf, IsClaim, IsFull, IsOrderly}
+use Rattle.pl_history.specs.Claims.{IsQuestion, IsToldExactly}
 use Rattle.pl_settling.specs.Settles.{Settles}
 use Rattle.pl_step.specs.Answering.{Answers}
 use Rattle.pl_step.specs.Callers.{may_call}
@@ -33,11 +35,9 @@ use Rattle.pl_step.specs.Step.{IsStep, Serves, SettlesFor, StepsAs, given, happe
 use Rattle.pl_step.specs.Step.{stepped_with}
 use Rattle.pl_step.specs.declared.held.Held.{Held}
 use Rattle.pl_step.specs.declared.stepped.Stepped.{Stepped}
-use Rattle.pl_core_laws.specs.Claims.{IsAnsweredExactly, IsCallOf, IsClaim, IsFull, IsOrderly}
-use Rattle.pl_core_laws.specs.Claims.{IsQuestion, IsToldExactly}
-use Rattle.pl_core_laws.proofs.Granted.{answered, named_there, only}
-use Rattle.pl_core_laws.proofs.Orderly.{Coming, Settling, orderly_all}
-use Rattle.pl_core_laws.proofs.Settled.{none_behind}
+use Rattle.pl_history.proofs.Granted.{answered, named_there, only}
+use Rattle.pl_history.proofs.Orderly.{Coming, Settling, orderly_all}
+use Rattle.pl_history.proofs.Settled.{none_behind}
 
 -- ---- the laws that it takes
 
