@@ -11,6 +11,8 @@ use Rattle.pl_commands.specs.Messages.{Spelled}
 use Rattle.pl_commands.specs.Session.{Point, Session}
 use Rattle.pl_commands.specs.Statuses.{compile_status, status_of}
 use Rattle.pl_commands.specs.Told.{Told, Writes, Begun}
+use Rattle.pl_history.specs.Access.{IsSound}
+use Rattle.pl_history.specs.Claims.{IsOrderly}
 use Rattle.pl_history.specs.History.{opened}
 use Rattle.pl_offline.specs.Running.{Runs as RunsOffline}
 use Rattle.pl_offline.specs.declared.ending.Ending.{Ending}
@@ -41,11 +43,14 @@ start admin outside = record {
   desk = record { opening = opened admin; seen = [] };
 }
 
--- one session from the source to the sink
+-- One session from the source to the sink. The service is opened for the first time, so that what
+-- is said of sound and of orderly openings holds of it.
 pub record Replays (admin : Digest) (old : Outside) (new : Told) (ending : Status) : Type 0 where
   pub served : Served
   pub later : Option (ℕ → ℕ)
   pub desk : Parts
+  pub sound : IsSound (opened admin)
+  pub orderly : IsOrderly (opened admin)
   pub ending_is : ending ≡ status_of served
   pub session :
       Session (start admin old) (record { link = new; coming = later; desk = desk }) served
