@@ -13,6 +13,6 @@ returns-clause-value c =
     let seconds = c.seconds.result in
     let same = c.seconds.ensures ∙ c.to_offset.ensures
     ∙ ap (offset_at clock) c.instant_of.ensures in
-    let is = clock_offset c.as_str.result c.args.moment clock seconds c.in-Some.ensures.some same in
+    let is = clock_offset c.as_str.result.now c.args.moment clock seconds c.in-Some.ensures.some same in
     let P : List ℕ → Type 0 = λ text. IsOffsetAt text c.args.moment seconds in
     simp to_z-of_z (subst P c.self.view_is (subst P c.as_str.ensures is))
