@@ -1,7 +1,6 @@
 //! The files of a run.
 
 use pl_base::{Argument, FileKey, FileSet, List, Memory, Text};
-use pl_budgets::Meter;
 use pl_compile::{CompileFault, compile};
 use pl_plan::Compiled;
 use std::alloc::Global;
@@ -61,6 +60,5 @@ pub fn compiled(alloc: Global, case: &str) -> Result<Compiled, CompileFault> {
     } else {
         List::new(alloc)
     };
-    let meter = Meter::new(alloc)?;
-    compile(alloc, &meter, &files, &root, &given)
+    compile(alloc, &files, &root, &given)
 }
