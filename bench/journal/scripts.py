@@ -1,4 +1,4 @@
-"""Scripts of facts for the programs of cases `cases_journal` and `cases_views`, whose form stands at the head of their cases."""
+"""Scripts of facts for the program of cases `cases_journal`, whose form stands at the head of its cases."""
 
 OPEN = 100
 FIRST_ENDED = 100_001
@@ -37,12 +37,13 @@ def standing(ended, plan):
     yield "install"
 
 
-def groups(look_ups, plan):
-    """Lines that are counted together: none, what asks for nothing, facts of two runs more, and each look-up once for each open run."""
+def groups(look_ups, plan, nothing):
+    """Lines that are counted together: none, what asks for nothing, by that word, facts of two runs more, and each look-up once for
+    each open run."""
     runs = range(FIRST_OPEN, FIRST_OPEN + OPEN)
     more = [list(ended_run(FIRST_OPEN + OPEN + at, plan)) for at in range(2)]
     yield "", []
-    yield "asks for nothing", ["view? 0 0 0"] * OPEN
+    yield "asks for nothing", [f"{nothing} 0 0 0"] * OPEN
     yield "a run is queued", [lines[0] for lines in more]
     yield "another fact", [line for lines in more for line in lines[1:]]
     yield "back", ["back"]

@@ -4,7 +4,6 @@ use crate::fields::field;
 use crate::scripts::play;
 use crate::shown::push_verdict;
 use crate::views::{moment_of, view_of};
-use pl_base::{Memory, Text};
 use pl_cases::{Answers, Questions};
 use pl_checks::{Check, matches};
 use std::alloc::Global;
@@ -41,18 +40,14 @@ fn answer_pairs(alloc: Global, out: &mut Answers, lines: &str) {
 
 /// Writes whether the pattern of a line matches its ref.
 fn answer_match(alloc: Global, out: &mut Answers, line: &str) {
-    match is_match(alloc, line) {
-        Ok(true) => out.push("|yes\n"),
-        Ok(false) => out.push("|no\n"),
-        Err(_) => out.fail(),
-    }
-}
-
-fn is_match(alloc: Global, line: &str) -> Result<bool, Memory> {
     let (pattern, git_ref) = line.split_once('|').unwrap_or((line, ""));
-    let pattern = Text::from_str(alloc, pattern)?;
-    let git_ref = Text::from_str(alloc, git_ref)?;
-    Ok(matches(&pattern, &git_ref))
+    let pattern = out.text_of(alloc, pattern);
+    let git_ref = out.text_of(alloc, git_ref);
+    out.push(if matches(&pattern, &git_ref) {
+        "|yes\n"
+    } else {
+        "|no\n"
+    })
 }
 
 fn answer_moments(alloc: Global, out: &mut Answers, lines: &str) {
@@ -66,10 +61,9 @@ fn answer_moments(alloc: Global, out: &mut Answers, lines: &str) {
 
 /// Answers what a check says, which is told once for all cases of a question.
 fn answer_check(alloc: Global, out: &mut Answers, world: &str, lines: &str) {
-    match check_of(alloc, world) {
-        Ok(Some(check)) => answer_views(alloc, out, world, &check, lines),
-        Ok(None) => out.line("%%% not read: ", field(world, "kind")),
-        Err(_) => out.fail(),
+    match check_of(alloc, out, world) {
+        Some(check) => answer_views(alloc, out, world, &check, lines),
+        None => out.line("%%% not read: ", field(world, "kind")),
     }
 }
 
@@ -82,8 +76,6 @@ fn answer_views(alloc: Global, out: &mut Answers, world: &str, check: &Check, li
 }
 
 fn answer_view(alloc: Global, out: &mut Answers, world: &str, check: &Check, line: &str) {
-    match view_of(alloc, world, check, line) {
-        Ok(view) => push_verdict(alloc, out, check, &view, moment_of(check, &view, line)),
-        Err(_) => out.fail(),
-    }
+    let view = view_of(alloc, out, world, check, line);
+    push_verdict(alloc, out, check, &view, moment_of(check, &view, line))
 }

@@ -1,5 +1,6 @@
 use crate::fields::{field, file, number, texts};
-use pl_base::{FileKey, List, Memory, Text};
+use pl_base::{FileKey, List};
+use pl_cases::Answers;
 use pl_checks::{
     Approval, Arguments, BranchControl, BusinessHours, Check, RequiredTemplate, Zone, ZoneFault,
     zone_of,
@@ -8,22 +9,23 @@ use pl_rules::Day;
 use std::alloc::Global;
 
 /// The check that a text tells, by its field `kind`; None where it tells none.
-pub fn check_of(alloc: Global, text: &str) -> Result<Option<Check>, Memory> {
+pub fn check_of(alloc: Global, out: &mut Answers, text: &str) -> Option<Check> {
     match field(text, "kind") {
-        "requiredTemplate" => required(alloc, text),
-        "branch" => branch(alloc, text),
-        "approval" => approval(alloc, text),
-        "hours" => hours(alloc, text),
-        _ => Ok(None),
+        "requiredTemplate" => required(alloc, out, text),
+        "branch" => Some(branch(alloc, out, text)),
+        "approval" => approval(alloc, out, text),
+        "hours" => hours(alloc, out, text),
+        _ => None,
     }
 }
 
-fn files(alloc: Global, paths: &str) -> Result<List<FileKey>, Memory> {
+fn files(alloc: Global, out: &mut Answers, paths: &str) -> List<FileKey> {
     let mut files = List::new(alloc);
     for path in paths.split_whitespace() {
-        files.push(file(alloc, path)?)?;
+        let key = file(alloc, out, path);
+        out.done(files.push(key));
     }
-    Ok(files)
+    files
 }
 
 fn arguments_of(word: &str) -> Option<Arguments> {
@@ -34,20 +36,17 @@ fn arguments_of(word: &str) -> Option<Arguments> {
     }
 }
 
-fn required(alloc: Global, text: &str) -> Result<Option<Check>, Memory> {
-    let Some(arguments) = arguments_of(field(text, "arguments")) else {
-        return Ok(None);
-    };
-    let templates = files(alloc, field(text, "templates"))?;
-    Ok(Some(Check::RequiredTemplate(RequiredTemplate {
-        templates,
+fn required(alloc: Global, out: &mut Answers, text: &str) -> Option<Check> {
+    let arguments = arguments_of(field(text, "arguments"))?;
+    Some(Check::RequiredTemplate(RequiredTemplate {
+        templates: files(alloc, out, field(text, "templates")),
         arguments,
-    })))
+    }))
 }
 
-fn branch(alloc: Global, text: &str) -> Result<Option<Check>, Memory> {
-    let patterns = texts(alloc, field(text, "patterns"))?;
-    Ok(Some(Check::Branch(BranchControl { patterns })))
+fn branch(alloc: Global, out: &mut Answers, text: &str) -> Check {
+    let patterns = texts(alloc, out, field(text, "patterns"));
+    Check::Branch(BranchControl { patterns })
 }
 
 fn is_true(word: &str) -> Option<bool> {
@@ -58,23 +57,16 @@ fn is_true(word: &str) -> Option<bool> {
     }
 }
 
-fn approval(alloc: Global, text: &str) -> Result<Option<Check>, Memory> {
-    let Some(least) = number(text, "least") else {
-        return Ok(None);
-    };
-    let Some(minutes) = number(text, "timeoutMinutes") else {
-        return Ok(None);
-    };
-    let Some(requester) = is_true(field(text, "requester")) else {
-        return Ok(None);
-    };
-    let approvers = texts(alloc, field(text, "approvers"))?;
-    Ok(Some(Check::Approval(Approval {
-        approvers,
+fn approval(alloc: Global, out: &mut Answers, text: &str) -> Option<Check> {
+    let least = number(text, "least")?;
+    let minutes = number(text, "timeoutMinutes")?;
+    let requester = is_true(field(text, "requester"))?;
+    Some(Check::Approval(Approval {
+        approvers: texts(alloc, out, field(text, "approvers")),
         least,
         requester,
         minutes,
-    })))
+    }))
 }
 
 fn day_of(word: &str) -> Option<Day> {
@@ -90,38 +82,38 @@ fn day_of(word: &str) -> Option<Day> {
     }
 }
 
-fn days_of(alloc: Global, words: &str) -> Result<List<Day>, Memory> {
+fn days_of(alloc: Global, out: &mut Answers, words: &str) -> List<Day> {
     let mut days = List::new(alloc);
     for word in words.split_whitespace() {
         if let Some(day) = day_of(word) {
-            days.push(day)?;
+            out.done(days.push(day));
         }
     }
-    Ok(days)
+    days
 }
 
-fn hours(alloc: Global, text: &str) -> Result<Option<Check>, Memory> {
-    let zone = Text::from_str(alloc, field(text, "zone"))?;
+/// Business hours in a zone; None where its text names none.
+fn hours(alloc: Global, out: &mut Answers, text: &str) -> Option<Check> {
+    let zone = out.text_of(alloc, field(text, "zone"));
     match zone_of(alloc, &zone) {
-        Ok(zone) => hours_in(alloc, text, zone),
-        Err(ZoneFault::Unreadable) => Ok(None),
-        Err(ZoneFault::Memory) => Err(Memory),
+        Ok(zone) => hours_in(alloc, out, text, zone),
+        Err(ZoneFault::Unreadable) => None,
+        Err(ZoneFault::Memory) => {
+            out.fail();
+            None
+        }
     }
 }
 
-fn hours_in(alloc: Global, text: &str, zone: Zone) -> Result<Option<Check>, Memory> {
-    let days = days_of(alloc, field(text, "days"))?;
-    let start = number(text, "start");
-    let end = number(text, "end");
-    let minutes = number(text, "timeoutMinutes");
-    match (start, end, minutes) {
-        (Some(start), Some(end), Some(minutes)) => Ok(Some(Check::Hours(BusinessHours {
-            days,
-            zone,
-            start,
-            end,
-            minutes,
-        }))),
-        _ => Ok(None),
-    }
+fn hours_in(alloc: Global, out: &mut Answers, text: &str, zone: Zone) -> Option<Check> {
+    let start = number(text, "start")?;
+    let end = number(text, "end")?;
+    let minutes = number(text, "timeoutMinutes")?;
+    Some(Check::Hours(BusinessHours {
+        days: days_of(alloc, out, field(text, "days")),
+        zone,
+        start,
+        end,
+        minutes,
+    }))
 }

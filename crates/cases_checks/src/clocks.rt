@@ -6,10 +6,12 @@ use std::alloc::Global;
 /// Writes what the clocks of a line's zone show at its moment, or `-` where the text names no zone.
 pub fn push_clock(alloc: Global, out: &mut Answers, line: &str) {
     let (zone, moment) = line.rsplit_once('|').unwrap_or((line, ""));
-    match (Text::from_str(alloc, zone), moment.parse::<u64>()) {
-        (Ok(zone), Ok(moment)) => push_clock_in(alloc, out, &zone, moment),
-        (Ok(_), Err(_)) => out.push("no moment"),
-        (Err(_), _) => out.fail(),
+    match moment.parse::<u64>() {
+        Ok(moment) => {
+            let zone = out.text_of(alloc, zone);
+            push_clock_in(alloc, out, &zone, moment)
+        }
+        Err(_) => out.push("no moment"),
     }
 }
 

@@ -1,10 +1,11 @@
-use pl_base::{Behaviour, Kind, List, Memory, ResourceKey, Text};
+use pl_base::{Behaviour, Kind, List, ResourceKey};
+use pl_cases::Answers;
 use pl_locks::Contender;
 use std::alloc::Global;
 
 /// The resources that a word spells: `a` and `b` are pools, `A` is an environment with the pool's
 /// name, and any other character is none.
-fn resources_of(alloc: Global, word: &str) -> Result<List<ResourceKey>, Memory> {
+fn resources_of(alloc: Global, out: &mut Answers, word: &str) -> List<ResourceKey> {
     let mut resources = List::new(alloc);
     for letter in word.bytes() {
         let (kind, name) = match letter {
@@ -13,10 +14,10 @@ fn resources_of(alloc: Global, word: &str) -> Result<List<ResourceKey>, Memory> 
             b'A' => (Kind::Environment, "a"),
             _ => continue,
         };
-        let name = Text::from_str(alloc, name)?;
-        resources.push(ResourceKey { kind, name })?;
+        let name = out.text_of(alloc, name);
+        out.done(resources.push(ResourceKey { kind, name }));
     }
-    Ok(resources)
+    resources
 }
 
 /// A number, or 0 where there is no word or the word is none.
@@ -28,23 +29,21 @@ pub fn number(word: Option<&str>) -> u32 {
 }
 
 /// The stage of a line `enter RUN POSITION PIPELINE NAME BEHAVIOUR RESOURCES`.
-pub fn contender_of(alloc: Global, line: &str) -> Result<Contender, Memory> {
+pub fn contender_of(alloc: Global, out: &mut Answers, line: &str) -> Contender {
     let mut words = line.split_whitespace().skip(1);
-    let run = number(words.next()) as u64;
-    let position = number(words.next());
-    let pipeline = Text::from_str(alloc, words.next().unwrap_or(""))?;
-    let name = Text::from_str(alloc, words.next().unwrap_or(""))?;
-    let behaviour = match words.next().unwrap_or("") {
+    Contender {
+        run: number(words.next()) as u64,
+        position: number(words.next()),
+        pipeline: out.text_of(alloc, words.next().unwrap_or("")),
+        name: out.text_of(alloc, words.next().unwrap_or("")),
+        behaviour: behaviour_of(words.next().unwrap_or("")),
+        resources: resources_of(alloc, out, words.next().unwrap_or("")),
+    }
+}
+
+fn behaviour_of(word: &str) -> Behaviour {
+    match word {
         "sequential" => Behaviour::Sequential,
         _ => Behaviour::RunLatest,
-    };
-    let resources = resources_of(alloc, words.next().unwrap_or(""))?;
-    Ok(Contender {
-        run,
-        position,
-        pipeline,
-        name,
-        behaviour,
-        resources,
-    })
+    }
 }

@@ -1,4 +1,5 @@
-use pl_base::{FileKey, List, Memory, Text};
+use pl_base::{FileKey, List, Text};
+use pl_cases::Answers;
 use std::alloc::Global;
 
 /// What stands behind a word at the front of a line, or the empty text where no line has the word.
@@ -19,22 +20,20 @@ pub fn number(text: &str, word: &str) -> Option<u32> {
 }
 
 /// The texts that spaces part.
-pub fn texts(alloc: Global, words: &str) -> Result<List<Text>, Memory> {
+pub fn texts(alloc: Global, out: &mut Answers, words: &str) -> List<Text> {
     let mut texts = List::new(alloc);
     for word in words.split_whitespace() {
-        texts.push(Text::from_str(alloc, word)?)?;
+        let text = out.text_of(alloc, word);
+        out.done(texts.push(text));
     }
-    Ok(texts)
+    texts
 }
 
 /// The file of this path in one repository.
-pub fn file(alloc: Global, path: &str) -> Result<FileKey, Memory> {
-    let repo = Text::from_str(alloc, "shared")?;
-    let git_ref = Text::from_str(alloc, "refs/heads/main")?;
-    let path = Text::from_str(alloc, path)?;
-    Ok(FileKey {
-        repo,
-        git_ref,
-        path,
-    })
+pub fn file(alloc: Global, out: &mut Answers, path: &str) -> FileKey {
+    FileKey {
+        repo: out.text_of(alloc, "shared"),
+        git_ref: out.text_of(alloc, "refs/heads/main"),
+        path: out.text_of(alloc, path),
+    }
 }

@@ -18,7 +18,10 @@ fn carry_out(alloc: Global, out: &mut Answers, lists: &mut Contenders, line: &st
     let run = number(words.next()) as u64;
     let position = number(words.next());
     match call {
-        "enter" => enter_line(alloc, out, lists, line),
+        "enter" => {
+            let stage = contender_of(alloc, out, line);
+            enter(out, lists, stage)
+        }
         "hold" => hold(out, lists, run, position),
         "leave" => lists.leave(run, position),
         "release" => lists.release(run, position),
@@ -38,19 +41,9 @@ fn copy(out: &mut Answers, lists: &mut Contenders) {
     }
 }
 
-fn enter_line(alloc: Global, out: &mut Answers, lists: &mut Contenders, line: &str) {
-    match contender_of(alloc, line) {
-        Ok(stage) => enter(out, lists, stage),
-        Err(_) => out.fail(),
-    }
-}
-
 fn enter(out: &mut Answers, lists: &mut Contenders, stage: Contender) {
     if lists.is_new(stage.run, stage.position) {
-        if lists.enter(stage).is_err() {
-            out.fail();
-        }
-        return;
+        return out.done(lists.enter(stage));
     }
     out.push(" is there")
 }

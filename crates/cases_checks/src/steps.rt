@@ -1,52 +1,83 @@
 use crate::fields::file;
-use pl_base::{Crossing, List, Memory, Origin, Place, Shared, SharedList, Text};
+use pl_base::{Crossing, FileKey, List, Origin, Place, Shared, SharedList};
+use pl_cases::Answers;
 use pl_checks::StepMark;
 use std::alloc::Global;
 
+fn shared_file(alloc: Global, out: &mut Answers, path: &str) -> Option<Shared<FileKey>> {
+    let key = file(alloc, out, path);
+    out.shared(alloc, key)
+}
+
 /// A place of the template.
-fn place(alloc: Global) -> Result<Place, Memory> {
-    let file = Shared::new(alloc, file(alloc, "/t.yml")?)?;
-    Place::at(alloc, &file, 5, 3)
+fn place(alloc: Global, out: &mut Answers) -> Option<Place> {
+    let file = shared_file(alloc, out, "/t.yml")?;
+    Some(Place {
+        file,
+        line: 5,
+        col: 3,
+    })
 }
 
-fn extending(alloc: Global, path: &str) -> Result<Crossing, Memory> {
-    Ok(Crossing::Extends(Shared::new(alloc, file(alloc, path)?)?))
+fn extending(alloc: Global, out: &mut Answers, path: &str) -> Option<Crossing> {
+    Some(Crossing::Extends(shared_file(alloc, out, path)?))
 }
 
-fn including(alloc: Global) -> Result<Crossing, Memory> {
-    let file = Shared::new(alloc, file(alloc, "/i.yml")?)?;
-    Ok(Crossing::Include(file, place(alloc)?))
+fn including(alloc: Global, out: &mut Answers) -> Option<Crossing> {
+    let place = place(alloc, out)?;
+    Some(Crossing::Include(shared_file(alloc, out, "/i.yml")?, place))
+}
+
+fn arguing(alloc: Global, out: &mut Answers) -> Option<Crossing> {
+    let place = place(alloc, out)?;
+    Some(Crossing::Argument(out.text_of(alloc, "steps"), place))
 }
 
 /// A crossing by a letter.
-fn crossing(alloc: Global, letter: char) -> Result<Crossing, Memory> {
+fn crossing(alloc: Global, out: &mut Answers, letter: char) -> Option<Crossing> {
     match letter {
-        'E' => extending(alloc, "/t.yml"),
-        'O' => extending(alloc, "/o.yml"),
-        'I' => including(alloc),
-        'A' => Ok(Crossing::Argument(Text::from_str(alloc, "steps")?, place(alloc)?)),
-        _ => Ok(Crossing::Made),
+        'E' => extending(alloc, out, "/t.yml"),
+        'O' => extending(alloc, out, "/o.yml"),
+        'I' => including(alloc, out),
+        'A' => arguing(alloc, out),
+        _ => Some(Crossing::Made),
     }
+}
+
+/// These crossings, and one more.
+fn crossed(
+    alloc: Global,
+    out: &mut Answers,
+    crossings: &SharedList<Crossing>,
+    letter: char,
+) -> Option<SharedList<Crossing>> {
+    let crossing = crossing(alloc, out, letter)?;
+    out.made(crossings.with(alloc, crossing))
+}
+
+/// The crossings of these letters.
+fn crossings_of(alloc: Global, out: &mut Answers, letters: &str) -> Option<SharedList<Crossing>> {
+    let mut crossings = out.made(SharedList::new(alloc))?;
+    for letter in letters.chars() {
+        crossings = crossed(alloc, out, &crossings, letter)?;
+    }
+    Some(crossings)
 }
 
 /// The origin of a node with these crossings.
-fn origin(alloc: Global, letters: &str) -> Result<Origin, Memory> {
-    let mut crossings = SharedList::new(alloc)?;
-    for letter in letters.chars() {
-        crossings = crossings.with(alloc, crossing(alloc, letter)?)?;
-    }
-    let source = place(alloc)?;
-    Ok(Origin { source, crossings })
+fn origin(alloc: Global, out: &mut Answers, letters: &str) -> Option<Origin> {
+    let crossings = crossings_of(alloc, out, letters)?;
+    let source = place(alloc, out)?;
+    Some(Origin { source, crossings })
 }
 
 /// A step by the crossings of its mapping and of its first key.
-fn step(alloc: Global, number: u32, word: &str) -> Result<StepMark, Memory> {
+fn step(alloc: Global, out: &mut Answers, number: u32, word: &str) -> Option<StepMark> {
     let (mapping, key) = word.split_once('/').unwrap_or((word, word));
-    let job = Text::from_str(alloc, "Job")?;
-    let mapping = origin(alloc, mapping)?;
-    let key = origin(alloc, key)?;
-    Ok(StepMark {
-        job,
+    let mapping = origin(alloc, out, mapping)?;
+    let key = origin(alloc, out, key)?;
+    Some(StepMark {
+        job: out.text_of(alloc, "Job"),
         number,
         mapping,
         key,
@@ -54,12 +85,14 @@ fn step(alloc: Global, number: u32, word: &str) -> Result<StepMark, Memory> {
 }
 
 /// Steps by the crossings of their mapping and their first key.
-pub fn steps_of(alloc: Global, words: &str) -> Result<List<StepMark>, Memory> {
+pub fn steps_of(alloc: Global, out: &mut Answers, words: &str) -> List<StepMark> {
     let mut steps = List::new(alloc);
     let mut number: u32 = 0;
     for word in words.split_whitespace() {
         number = number.saturating_add(1);
-        steps.push(step(alloc, number, word)?)?;
+        if let Some(step) = step(alloc, out, number, word) {
+            out.done(steps.push(step));
+        }
     }
-    Ok(steps)
+    steps
 }

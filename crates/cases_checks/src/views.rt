@@ -1,6 +1,7 @@
 use crate::fields::{field, file};
 use crate::steps::steps_of;
-use pl_base::{FileKey, LAST_MOMENT, List, Memory, Moment, RepoRef, Text};
+use pl_base::{FileKey, LAST_MOMENT, List, Moment, RepoRef, Text};
+use pl_cases::Answers;
 use pl_checks::{Check, CheckView};
 use std::alloc::Global;
 
@@ -27,102 +28,101 @@ pub fn moment_of(check: &Check, view: &CheckView, line: &str) -> Moment {
 
 /// What a line tells of a stage to a check of its kind: decisions, a moment at which it was ready,
 /// the file that its run extends and its steps, or the refs that its run is linked to.
-pub fn view_of(alloc: Global, world: &str, check: &Check, line: &str) -> Result<CheckView, Memory> {
+pub fn view_of(
+    alloc: Global,
+    out: &mut Answers,
+    world: &str,
+    check: &Check,
+    line: &str,
+) -> CheckView {
     let (front, behind) = parts(line);
     match check {
-        Check::Approval(_) => decided(alloc, world, front),
+        Check::Approval(_) => decided(alloc, out, world, front),
         Check::Hours(_) => ready_at(alloc, seconds(front)),
-        Check::RequiredTemplate(_) => extending(alloc, front, behind),
-        Check::Branch(_) => linked(alloc, line),
+        Check::RequiredTemplate(_) => extending(alloc, out, front, behind),
+        Check::Branch(_) => linked(alloc, out, line),
     }
 }
 
 /// A stage that was ready then.
-fn ready_at(alloc: Global, ready: Moment) -> Result<CheckView, Memory> {
-    Ok(CheckView {
+fn ready_at(alloc: Global, ready: Moment) -> CheckView {
+    CheckView {
         requester: Text::new(alloc),
         decisions: List::new(alloc),
         ready,
         linked: List::new(alloc),
         extends: None,
         steps: List::new(alloc),
-    })
+    }
 }
 
-fn decision(alloc: Global, word: &str) -> Result<(Text, bool), Memory> {
-    let (name, is_approval) = match word.strip_prefix('+') {
+/// Whether a word is an approval, and by whom.
+fn verdict_in(word: &str) -> (&str, bool) {
+    match word.strip_prefix('+') {
         Some(name) => (name, true),
         None => (word.strip_prefix('-').unwrap_or(word), false),
-    };
-    Ok((Text::from_str(alloc, name)?, is_approval))
+    }
 }
 
-fn decisions(alloc: Global, words: &str) -> Result<List<(Text, bool)>, Memory> {
+fn decisions(alloc: Global, out: &mut Answers, words: &str) -> List<(Text, bool)> {
     let mut decisions = List::new(alloc);
     for word in words.split_whitespace() {
-        decisions.push(decision(alloc, word)?)?;
+        let (name, is_approval) = verdict_in(word);
+        let name = out.text_of(alloc, name);
+        out.done(decisions.push((name, is_approval)));
     }
-    Ok(decisions)
+    decisions
 }
 
 /// A stage with these decisions.
-fn decided(alloc: Global, world: &str, words: &str) -> Result<CheckView, Memory> {
-    let requester = Text::from_str(alloc, field(world, "queuedBy"))?;
-    let decisions = decisions(alloc, words)?;
-    Ok(CheckView {
-        requester,
-        decisions,
+fn decided(alloc: Global, out: &mut Answers, world: &str, words: &str) -> CheckView {
+    CheckView {
+        requester: out.text_of(alloc, field(world, "queuedBy")),
+        decisions: decisions(alloc, out, words),
         ready: seconds(field(world, "ready")),
         linked: List::new(alloc),
         extends: None,
         steps: List::new(alloc),
-    })
+    }
 }
 
-fn repo_ref(alloc: Global, name: &str) -> Result<RepoRef, Memory> {
-    let repo = Text::from_str(alloc, "app")?;
-    let git_ref = Text::from_str(alloc, name)?;
-    Ok(RepoRef { repo, git_ref })
-}
-
-fn repo_refs(alloc: Global, refs: &str) -> Result<List<RepoRef>, Memory> {
+fn repo_refs(alloc: Global, out: &mut Answers, refs: &str) -> List<RepoRef> {
     let mut linked = List::new(alloc);
     for word in refs.split_whitespace() {
-        linked.push(repo_ref(alloc, word)?)?;
+        let repo = out.text_of(alloc, "app");
+        let git_ref = out.text_of(alloc, word);
+        out.done(linked.push(RepoRef { repo, git_ref }));
     }
-    Ok(linked)
+    linked
 }
 
 /// A stage whose run is linked to these refs.
-fn linked(alloc: Global, refs: &str) -> Result<CheckView, Memory> {
-    let linked = repo_refs(alloc, refs)?;
-    Ok(CheckView {
+fn linked(alloc: Global, out: &mut Answers, refs: &str) -> CheckView {
+    CheckView {
         requester: Text::new(alloc),
         decisions: List::new(alloc),
         ready: 0,
-        linked,
+        linked: repo_refs(alloc, out, refs),
         extends: None,
         steps: List::new(alloc),
-    })
+    }
 }
 
-fn named(alloc: Global, path: &str) -> Result<Option<FileKey>, Memory> {
-    if path.is_empty() {
-        return Ok(None);
+fn named(alloc: Global, out: &mut Answers, path: &str) -> Option<FileKey> {
+    match path {
+        "" => None,
+        _ => Some(file(alloc, out, path)),
     }
-    Ok(Some(file(alloc, path)?))
 }
 
 /// A stage with these steps, whose run extends this file.
-fn extending(alloc: Global, path: &str, words: &str) -> Result<CheckView, Memory> {
-    let steps = steps_of(alloc, words)?;
-    let extends = named(alloc, path)?;
-    Ok(CheckView {
+fn extending(alloc: Global, out: &mut Answers, path: &str, words: &str) -> CheckView {
+    CheckView {
         requester: Text::new(alloc),
         decisions: List::new(alloc),
         ready: 0,
         linked: List::new(alloc),
-        extends,
-        steps,
-    })
+        extends: named(alloc, out, path),
+        steps: steps_of(alloc, out, words),
+    }
 }

@@ -1,11 +1,14 @@
-//! Plays scripts of facts and look-ups, and writes what each look-up of the journal finds. The form
-//! of the scripts stands at their head.
+//! Plays scripts of facts and look-ups, and writes what each look-up finds: of the journal, of the
+//! open runs and how they stand, of what stages wait for, and of what checks look at. The form of
+//! the scripts stands at their head.
 #![tactic(auto)]
 
 mod jobs;
 mod looking;
 mod runs;
 mod settings;
+mod standing;
+mod views;
 
 use crate::looking::LookUps;
 use pl_scripts::{Answers, play_all};

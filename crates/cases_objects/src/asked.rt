@@ -1,13 +1,15 @@
+use crate::messages::answer_request;
+use crate::rules::answer_rule;
 use crate::runs::{answer_jobs, answer_run};
 use crate::sizes::answer_entry;
 use pl_cases::{Answers, Questions, first_line};
 use std::alloc::Global;
 
-/// Questions on runs and their files.
+/// Questions on rules, requests, and runs with their files.
 #[derive(Drop)]
-pub struct Runs;
+pub struct Objects;
 
-impl Questions for Runs {
+impl Questions for Objects {
     fn answer(
         &mut self,
         alloc: Global,
@@ -23,7 +25,25 @@ impl Questions for Runs {
                 answer_run(alloc, out, status, files)
             }
             "entries" => answer_entry(alloc, out, case),
-            _ => out.line("%%% not read: ", question),
+            _ => answer_lines(alloc, out, question, case),
         }
+    }
+}
+
+/// Answers each line of a case by itself.
+fn answer_lines(alloc: Global, out: &mut Answers, question: &str, case: &str) {
+    for line in case.split('\n') {
+        out.push(line);
+        out.push(" = ");
+        answer_line(alloc, out, question, line);
+        out.push("\n");
+    }
+}
+
+fn answer_line(alloc: Global, out: &mut Answers, question: &str, line: &str) {
+    match question {
+        "rules" => answer_rule(alloc, out, line),
+        "requests" => answer_request(alloc, out, line),
+        _ => out.push("%%% not read"),
     }
 }

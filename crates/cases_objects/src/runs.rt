@@ -3,13 +3,12 @@
 use crate::files::compiled;
 use crate::jsons::put_made;
 use crate::statuses::status_of;
-use pl_base::{List, Memory, Refusal, Shared, Text};
+use pl_base::{List, Refusal, Text};
 use pl_cases::Answers;
 use pl_compile::CompileFault;
 use pl_facts::QueuedRun;
-use pl_json::Json;
 use pl_objects::{job_object, run_object};
-use pl_plan::{Compiled, PlanStage};
+use pl_plan::{Compiled, PlanJob, PlanStage};
 use pl_refusals::rule_object;
 use pl_rules::Rule;
 use std::alloc::Global;
@@ -28,28 +27,35 @@ fn put_refusal(alloc: Global, out: &mut Answers, refusal: Refusal) {
     out.push("\n")
 }
 
-/// Two variables, of which one is empty.
-fn variables(alloc: Global) -> Result<List<(Text, Text)>, Memory> {
-    let mut all = List::new(alloc);
-    all.push((Text::from_str(alloc, "b")?, Text::from_str(alloc, "1")?))?;
-    all.push((Text::from_str(alloc, "a")?, Text::new(alloc)))?;
-    Ok(all)
+fn put_variable(
+    alloc: Global,
+    out: &mut Answers,
+    all: &mut List<(Text, Text)>,
+    name: &str,
+    value: &str,
+) {
+    let name = out.text_of(alloc, name);
+    let value = out.text_of(alloc, value);
+    out.done(all.push((name, value)))
 }
 
-fn job_json(alloc: Global, stage: &PlanStage, at: usize) -> Result<Json, Memory> {
-    match stage.jobs.get(at) {
-        Some(job) => {
-            let variables = variables(alloc)?;
-            job_object(alloc, 7, stage, job, &variables)
-        }
-        None => Ok(Json::Null),
-    }
+/// Two variables, of which one is empty.
+fn variables(alloc: Global, out: &mut Answers) -> List<(Text, Text)> {
+    let mut all = List::new(alloc);
+    put_variable(alloc, out, &mut all, "b", "1");
+    put_variable(alloc, out, &mut all, "a", "");
+    all
+}
+
+fn put_job(alloc: Global, out: &mut Answers, stage: &PlanStage, job: &PlanJob) {
+    let variables = variables(alloc, out);
+    put_made(alloc, out, job_object(alloc, 7, stage, job, &variables));
+    out.push("\n")
 }
 
 fn put_stage(alloc: Global, out: &mut Answers, stage: &PlanStage) {
-    for at in 0..stage.jobs.len() {
-        put_made(alloc, out, job_json(alloc, stage, at));
-        out.push("\n");
+    for job in stage.jobs.as_slice() {
+        put_job(alloc, out, stage, job);
     }
 }
 
@@ -61,38 +67,35 @@ fn put_stages(alloc: Global, out: &mut Answers, stages: &List<PlanStage>) {
 
 /// Writes the jobs of a run, a line each.
 pub fn answer_jobs(alloc: Global, out: &mut Answers, case: &str) {
-    match compiled(alloc, case) {
+    match compiled(alloc, out, case) {
         Ok(compiled) => put_stages(alloc, out, &compiled.plan.stages),
         Err(fault) => put_fault(alloc, out, fault),
     }
 }
 
-/// Run 7 of the pipeline `ci`, which `ann` queued.
-pub fn queued(alloc: Global, compiled: Compiled) -> Result<QueuedRun, Memory> {
-    let compiled = Shared::new(alloc, compiled)?;
-    let pipeline = Text::from_str(alloc, "ci")?;
-    let requester = Text::from_str(alloc, "ann")?;
-    Ok(QueuedRun {
+/// Run 7 of the pipeline `ci`, which `ann` queued; None where memory was wanting.
+pub fn queued(alloc: Global, out: &mut Answers, compiled: Compiled) -> Option<QueuedRun> {
+    let compiled = out.shared(alloc, compiled)?;
+    Some(QueuedRun {
         run: 7,
-        pipeline,
-        requester,
+        pipeline: out.text_of(alloc, "ci"),
+        requester: out.text_of(alloc, "ann"),
         compiled,
     })
 }
 
-fn run_json(alloc: Global, status: &str, compiled: Compiled) -> Result<Json, Memory> {
-    let run = queued(alloc, compiled)?;
-    let status = status_of(alloc, status)?;
-    run_object(alloc, &run, &status)
+fn put_run(alloc: Global, out: &mut Answers, status: &str, compiled: Compiled) {
+    if let Some(run) = queued(alloc, out, compiled) {
+        let status = status_of(alloc, out, status);
+        put_made(alloc, out, run_object(alloc, &run, &status));
+        out.push("\n")
+    }
 }
 
 /// Writes a run that stands so.
 pub fn answer_run(alloc: Global, out: &mut Answers, status: &str, files: &str) {
-    match compiled(alloc, files) {
-        Ok(compiled) => {
-            put_made(alloc, out, run_json(alloc, status, compiled));
-            out.push("\n")
-        }
+    match compiled(alloc, out, files) {
+        Ok(compiled) => put_run(alloc, out, status, compiled),
         Err(fault) => put_fault(alloc, out, fault),
     }
 }

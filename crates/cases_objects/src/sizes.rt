@@ -2,65 +2,81 @@
 
 use crate::files::compiled;
 use crate::runs::queued;
-use pl_base::{Digest, ExactCopy, List, Memory, Shared};
+use pl_base::{Digest, ExactCopy, List};
 use pl_cases::Answers;
 use pl_facts::{Entry, Event, Fact, facts_size, fits, size_of};
 use pl_plan::Compiled;
 use pl_requests::{Call, Request, is_well_formed};
 use std::alloc::Global;
 
-fn run_queued(alloc: Global, compiled: Compiled) -> Result<List<Fact>, Memory> {
-    let run = Shared::new(alloc, queued(alloc, compiled)?)?;
-    let mut facts = List::new(alloc);
-    facts.push(Fact {
-        moment: 5,
-        event: Event::RunQueued(run),
-    })?;
-    Ok(facts)
+/// The fact that the run was queued; None where memory was wanting.
+fn run_queued(alloc: Global, out: &mut Answers, compiled: Compiled) -> Option<Fact> {
+    let run = queued(alloc, out, compiled)?;
+    let event = Event::RunQueued(out.shared(alloc, run)?);
+    Some(Fact { moment: 5, event })
 }
 
-/// The entry of a text that was queued, which is what stands below the line of its key.
-fn entry_of(alloc: Global, case: &str, compiled: Compiled) -> Result<Entry, Memory> {
+fn facts_of(alloc: Global, out: &mut Answers, compiled: Compiled) -> List<Fact> {
+    let mut facts = List::new(alloc);
+    if let Some(fact) = run_queued(alloc, out, compiled) {
+        out.done(facts.push(fact));
+    }
+    facts
+}
+
+/// The request of a text that was queued, which is what stands below the line of its key.
+fn request_of(alloc: Global, out: &mut Answers, case: &str) -> Option<Request> {
     let (_key, text) = case.split_once('\n').unwrap_or(("", case));
-    let text = List::from_slice(alloc, text.as_bytes())?;
-    let request = Request::QueueText(Shared::new(alloc, text)?);
-    let facts = run_queued(alloc, compiled)?;
-    let call = Call {
-        moment: 5,
-        caller: Digest { bytes: [7; 32] },
-        request,
-    };
-    Ok(Entry {
+    let text = out.list_of(alloc, text.as_bytes());
+    Some(Request::QueueText(out.shared(alloc, text)?))
+}
+
+fn entry_of(request: Request, facts: List<Fact>) -> Entry {
+    Entry {
         number: 1,
         seat: 0,
-        call,
+        call: Call {
+            moment: 5,
+            caller: Digest { bytes: [7; 32] },
+            request,
+        },
         facts,
-    })
+    }
 }
 
-/// How large facts are that are copied.
-fn copied_size(alloc: Global, facts: &List<Fact>) -> Result<u64, Memory> {
+/// The facts once more.
+fn copied(alloc: Global, out: &mut Answers, facts: &[Fact]) -> List<Fact> {
     let mut copies = List::new(alloc);
-    for fact in facts.as_slice() {
-        copies.push(fact.copy(alloc)?)?;
+    for fact in facts {
+        if let Some(copy) = out.made(fact.copy(alloc)) {
+            out.done(copies.push(copy));
+        }
     }
-    Ok(facts_size(copies.as_slice()))
+    copies
 }
 
-fn put_copied(alloc: Global, out: &mut Answers, facts: &List<Fact>) {
-    match copied_size(alloc, facts) {
-        Ok(size) => out.number(alloc, size),
-        Err(_) => out.fail(),
-    }
-}
-
-fn is_well_formed_again(alloc: Global, call: &Call) -> Result<bool, Memory> {
-    let again = call.copy(alloc)?;
-    is_well_formed(alloc, &again)
+/// Writes how large facts are that are copied.
+fn put_copied(alloc: Global, out: &mut Answers, facts: &[Fact]) {
+    let copies = copied(alloc, out, facts);
+    out.number(alloc, facts_size(copies.as_slice()))
 }
 
 fn put_flag(out: &mut Answers, flag: bool) {
     out.push(if flag { " yes" } else { " no" });
+}
+
+fn put_well_formed(alloc: Global, out: &mut Answers, call: &Call) {
+    match is_well_formed(alloc, call) {
+        Ok(is) => put_flag(out, is),
+        Err(_) => out.fail(),
+    }
+}
+
+fn put_call_copied(alloc: Global, out: &mut Answers, call: &Call) {
+    match call.copy(alloc) {
+        Ok(again) => put_well_formed(alloc, out, &again),
+        Err(_) => out.fail(),
+    }
 }
 
 fn put_entry(alloc: Global, out: &mut Answers, entry: &Entry) {
@@ -75,26 +91,23 @@ fn put_entry(alloc: Global, out: &mut Answers, entry: &Entry) {
         fits(&entry.call.request, facts, most.saturating_sub(1)),
     );
     out.push(", its facts copied: ");
-    put_copied(alloc, out, &entry.facts);
+    put_copied(alloc, out, facts);
     out.push(", its call copied is well-formed:");
-    match is_well_formed_again(alloc, &entry.call) {
-        Ok(is) => put_flag(out, is),
-        Err(_) => out.fail(),
-    }
+    put_call_copied(alloc, out, &entry.call);
     out.push("\n");
 }
 
-fn put_made(alloc: Global, out: &mut Answers, made: Result<Entry, Memory>) {
-    match made {
-        Ok(entry) => put_entry(alloc, out, &entry),
-        Err(_) => out.fail(),
+fn put_queued(alloc: Global, out: &mut Answers, case: &str, compiled: Compiled) {
+    if let Some(request) = request_of(alloc, out, case) {
+        let facts = facts_of(alloc, out, compiled);
+        put_entry(alloc, out, &entry_of(request, facts))
     }
 }
 
 /// Writes how large the entry of a text is that was queued with its files.
 pub fn answer_entry(alloc: Global, out: &mut Answers, case: &str) {
-    match compiled(alloc, case) {
-        Ok(compiled) => put_made(alloc, out, entry_of(alloc, case, compiled)),
+    match compiled(alloc, out, case) {
+        Ok(compiled) => put_queued(alloc, out, case, compiled),
         Err(_fault) => out.push("refused\n"),
     }
 }

@@ -3,83 +3,84 @@
 //! `waiting`, `running`, or a result, `/`, and a rule or `-`.
 
 use crate::rules::rule_of;
-use pl_base::{List, Memory, Outcome, Shared, Text};
+use crate::words::outcome_of;
+use pl_base::{List, Shared, Text};
+use pl_cases::Answers;
 use pl_objects::{JobStatus, Progress, RunStatus, StageStatus};
 use pl_rules::Rule;
 use std::alloc::Global;
 
-/// A result; another word stands for `Skipped`.
-fn outcome_of(word: &str) -> Outcome {
-    match word {
-        "Succeeded" => Outcome::Succeeded,
-        "SucceededWithIssues" => Outcome::SucceededWithIssues,
-        "Failed" => Outcome::Failed,
-        "Canceled" => Outcome::Canceled,
-        _ => Outcome::Skipped,
-    }
-}
-
-fn rule_in(alloc: Global, words: &str) -> Result<Option<Shared<Rule>>, Memory> {
+/// The rule of these words, or None for a dash.
+fn rule_in(alloc: Global, out: &mut Answers, words: &str) -> Option<Shared<Rule>> {
     match words {
-        "-" => Ok(None),
-        _ => Ok(Some(Shared::new(alloc, rule_of(alloc, words)?)?)),
+        "-" => None,
+        _ => {
+            let rule = rule_of(alloc, out, words);
+            out.shared(alloc, rule)
+        }
     }
 }
 
-fn ended(alloc: Global, words: &str) -> Result<Progress, Memory> {
+fn ended(alloc: Global, out: &mut Answers, words: &str) -> Progress {
     let (result, rule) = words.split_once('/').unwrap_or((words, "-"));
-    let rule = rule_in(alloc, rule)?;
-    Ok(Progress::Ended {
+    Progress::Ended {
         outcome: outcome_of(result),
-        rule,
-    })
+        rule: rule_in(alloc, out, rule),
+    }
 }
 
-fn progress_of(alloc: Global, words: &str) -> Result<Progress, Memory> {
+fn progress_of(alloc: Global, out: &mut Answers, words: &str) -> Progress {
     match words {
-        "waiting" => Ok(Progress::Waiting),
-        "running" => Ok(Progress::Running),
-        _ => ended(alloc, words),
+        "waiting" => Progress::Waiting,
+        "running" => Progress::Running,
+        _ => ended(alloc, out, words),
     }
 }
 
-fn agent_in(alloc: Global, word: &str) -> Result<Option<Shared<Text>>, Memory> {
+fn agent_in(alloc: Global, out: &mut Answers, word: &str) -> Option<Shared<Text>> {
     match word {
-        "-" => Ok(None),
-        _ => Ok(Some(Shared::new(alloc, Text::from_str(alloc, word)?)?)),
+        "-" => None,
+        _ => {
+            let agent = out.text_of(alloc, word);
+            out.shared(alloc, agent)
+        }
     }
 }
 
-fn job_status(alloc: Global, words: &str) -> Result<JobStatus, Memory> {
+fn job_status(alloc: Global, out: &mut Answers, words: &str) -> JobStatus {
     let (told, agent) = words.split_once('@').unwrap_or((words, "-"));
-    let agent = agent_in(alloc, agent)?;
-    let progress = progress_of(alloc, told)?;
-    Ok(JobStatus { agent, progress })
-}
-
-fn job_statuses(alloc: Global, words: &str) -> Result<List<JobStatus>, Memory> {
-    let mut jobs = List::new(alloc);
-    for job in words.split(" , ").skip(1) {
-        jobs.push(job_status(alloc, job)?)?;
+    JobStatus {
+        agent: agent_in(alloc, out, agent),
+        progress: progress_of(alloc, out, told),
     }
-    Ok(jobs)
 }
 
-fn stage_status(alloc: Global, words: &str) -> Result<StageStatus, Memory> {
+fn job_statuses(alloc: Global, out: &mut Answers, words: &str) -> List<JobStatus> {
+    let mut jobs = List::new(alloc);
+    for words in words.split(" , ").skip(1) {
+        let job = job_status(alloc, out, words);
+        out.done(jobs.push(job));
+    }
+    jobs
+}
+
+fn stage_status(alloc: Global, out: &mut Answers, words: &str) -> StageStatus {
     let (told, _jobs) = words.split_once(" , ").unwrap_or((words, ""));
-    let progress = progress_of(alloc, told)?;
-    let jobs = job_statuses(alloc, words)?;
-    Ok(StageStatus { progress, jobs })
+    StageStatus {
+        progress: progress_of(alloc, out, told),
+        jobs: job_statuses(alloc, out, words),
+    }
 }
 
 /// How a run stands.
-pub fn status_of(alloc: Global, words: &str) -> Result<RunStatus, Memory> {
+pub fn status_of(alloc: Global, out: &mut Answers, words: &str) -> RunStatus {
     let mut stages = List::new(alloc);
-    for stage in words.split(" | ").skip(1) {
-        stages.push(stage_status(alloc, stage)?)?;
+    for words in words.split(" | ").skip(1) {
+        let stage = stage_status(alloc, out, words);
+        out.done(stages.push(stage));
     }
-    Ok(RunStatus {
+    RunStatus {
         canceled: words.starts_with("canceled"),
         stages,
-    })
+    }
 }

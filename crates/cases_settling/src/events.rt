@@ -1,4 +1,4 @@
-ghost use Rattle.std.specs.Prelude.{IfOk, IfSome};
+ghost use Rattle.std.specs.Prelude.{IfSome};
 ghost use Rattle.pl_due.specs.Fit.{CanRunIf};
 ghost use Rattle.pl_journal.specs.Runs.{run_told};
 ghost use Rattle.pl_results.specs.Nodes.{CanRun};
@@ -6,66 +6,87 @@ ghost use Rattle.pl_results.specs.Nodes.{CanRun};
 use crate::plans::plan_in;
 use crate::resources::resource_of;
 use crate::world::{below, job_at, run_at, stage_at, word};
-use pl_base::{FileKey, List, Memory, Outcome, Shared, Text};
+use pl_base::{FileKey, List, Outcome, Shared, Text};
+use pl_cases::Answers;
 use pl_facts::{Compiled, Event, QueuedRun};
 use pl_plan::{Plan, Sources};
 use std::alloc::Global;
 
-fn sources(alloc: Global) -> Result<Sources, Memory> {
-    let root = FileKey {
-        repo: Text::from_str(alloc, "app")?,
-        git_ref: Text::from_str(alloc, "refs/heads/main")?,
-        path: Text::from_str(alloc, "/ci.yml")?,
-    };
-    Ok(Sources {
-        root,
+fn sources(alloc: Global, out: &mut Answers) -> Sources {
+    Sources {
+        root: FileKey {
+            repo: out.text_of(alloc, "app"),
+            git_ref: out.text_of(alloc, "refs/heads/main"),
+            path: out.text_of(alloc, "/ci.yml"),
+        },
         arguments: List::new(alloc),
         files: List::new(alloc),
-    })
+    }
 }
 
+/// The event that a run is queued; None where memory was wanting.
 fn queued(
     alloc: Global,
+    out: &mut Answers,
     run: u64,
     pipeline: &str,
     requester: &str,
     plan: Plan,
-) -> Result<Event, Memory>
+) -> Option<Event>
     requires { CanRun plan }
-    ensures { IfOk result (λ event. CanRunIf (run_told event)) }
+    ensures { IfSome result (λ event. CanRunIf (run_told event)) }
 {
-    let pipeline = Text::from_str(alloc, pipeline)?;
-    let requester = Text::from_str(alloc, requester)?;
-    let sources = sources(alloc)?;
-    let compiled = Shared::new(alloc, Compiled { plan, sources })?;
-    let queued = QueuedRun {
-        run,
-        pipeline,
-        requester,
-        compiled,
-    };
-    Ok(Event::RunQueued(Shared::new(alloc, queued)?))
+    let sources = sources(alloc, out);
+    let pipeline = out.text_of(alloc, pipeline);
+    let requester = out.text_of(alloc, requester);
+    match Shared::new(alloc, Compiled { plan, sources }) {
+        Ok(compiled) => run_queued(
+            alloc,
+            out,
+            QueuedRun {
+                run,
+                pipeline,
+                requester,
+                compiled,
+            },
+        ),
+        Err(_) => {
+            out.fail();
+            None
+        }
+    }
+}
+
+fn run_queued(alloc: Global, out: &mut Answers, queued: QueuedRun) -> Option<Event>
+    requires { CanRun queued.compiled.plan }
+    ensures { IfSome result (λ event. CanRunIf (run_told event)) }
+{
+    match Shared::new(alloc, queued) {
+        Ok(queued) => Some(Event::RunQueued(queued)),
+        Err(_) => {
+            out.fail();
+            None
+        }
+    }
 }
 
 /// The queueing that `RUN PIPELINE WHO` tells, or None where there is no such pipeline.
-fn queue(alloc: Global, world: &str, rest: &str) -> Result<Option<Event>, Memory>
-    ensures { IfOk result (λ event. IfSome event (λ one. CanRunIf (run_told one))) }
+fn queue(alloc: Global, out: &mut Answers, world: &str, rest: &str) -> Option<Event>
+    ensures { IfSome result (λ event. CanRunIf (run_told event)) }
 {
     let (run, rest) = word(rest);
     let (pipeline, who) = word(rest);
-    match plan_in(alloc, below(world, "pipeline", pipeline))? {
-        Some(plan) => Ok(Some(queued(alloc, run_at(run), pipeline, who, plan)?)),
-        None => Ok(None),
+    match plan_in(alloc, out, below(world, "pipeline", pipeline)) {
+        Some(plan) => queued(alloc, out, run_at(run), pipeline, who, plan),
+        None => None,
     }
 }
 
-fn set(alloc: Global, world: &str, name: &str) -> Result<Option<Event>, Memory>
-    ensures { IfOk result (λ event. IfSome event (λ one. CanRunIf (run_told one))) }
+fn set(alloc: Global, out: &mut Answers, world: &str, name: &str) -> Option<Event>
+    ensures { IfSome result (λ event. CanRunIf (run_told event)) }
 {
-    match resource_of(alloc, below(world, "resource", name))? {
-        Some(resource) => Ok(Some(Event::ResourceSet(Shared::new(alloc, resource)?))),
-        None => Ok(None),
-    }
+    let resource = resource_of(alloc, out, below(world, "resource", name))?;
+    Some(Event::ResourceSet(out.shared(alloc, resource)?))
 }
 
 fn outcome_of(word: &str) -> Outcome {
@@ -78,72 +99,77 @@ fn outcome_of(word: &str) -> Outcome {
     }
 }
 
-fn outputs(alloc: Global, words: &str) -> Result<List<(Text, Text)>, Memory> {
+fn outputs(alloc: Global, out: &mut Answers, words: &str) -> List<(Text, Text)> {
     let mut outputs = List::new(alloc);
     for pair in words.split_whitespace() {
         let (key, value) = pair.split_once('=').unwrap_or((pair, ""));
-        outputs.push((Text::from_str(alloc, key)?, Text::from_str(alloc, value)?))?;
+        let key = out.text_of(alloc, key);
+        let value = out.text_of(alloc, value);
+        out.done(outputs.push((key, value)));
     }
-    Ok(outputs)
+    outputs
 }
 
-fn report(alloc: Global, rest: &str) -> Result<Event, Memory>
-    ensures { IfOk result (λ event. CanRunIf (run_told event)) }
+fn report(alloc: Global, out: &mut Answers, rest: &str) -> Option<Event>
+    ensures { IfSome result (λ event. CanRunIf (run_told event)) }
 {
     let (place, rest) = word(rest);
     let (outcome, words) = word(rest);
     let outcome = outcome_of(outcome);
-    let outputs = Shared::new(alloc, outputs(alloc, words)?)?;
-    Ok(Event::JobEnded {
+    let outputs = outputs(alloc, out, words);
+    Some(Event::JobEnded {
         run: run_at(place),
         stage: stage_at(place),
         job: job_at(place),
         outcome,
         rule: None,
         reported: Some(outcome),
-        outputs,
+        outputs: out.shared(alloc, outputs)?,
     })
 }
 
-fn taken(alloc: Global, rest: &str) -> Result<Event, Memory>
-    ensures { IfOk result (λ event. CanRunIf (run_told event)) }
+fn shared_text(alloc: Global, out: &mut Answers, word: &str) -> Option<Shared<Text>> {
+    let text = out.text_of(alloc, word);
+    out.shared(alloc, text)
+}
+
+fn taken(alloc: Global, out: &mut Answers, rest: &str) -> Option<Event>
+    ensures { IfSome result (λ event. CanRunIf (run_told event)) }
 {
     let (place, agent) = word(rest);
-    let agent = Shared::new(alloc, Text::from_str(alloc, agent)?)?;
-    Ok(Event::JobTaken {
+    Some(Event::JobTaken {
         run: run_at(place),
         stage: stage_at(place),
         job: job_at(place),
-        agent,
+        agent: shared_text(alloc, out, agent)?,
     })
 }
 
-fn decided(alloc: Global, rest: &str, approve: bool) -> Result<Event, Memory>
-    ensures { IfOk result (λ event. CanRunIf (run_told event)) }
+fn decided(alloc: Global, out: &mut Answers, rest: &str, approve: bool) -> Option<Event>
+    ensures { IfSome result (λ event. CanRunIf (run_told event)) }
 {
     let (place, who) = word(rest);
-    let approver = Shared::new(alloc, Text::from_str(alloc, who)?)?;
-    Ok(Event::DecisionMade {
+    Some(Event::DecisionMade {
         run: run_at(place),
         stage: stage_at(place),
-        approver,
+        approver: shared_text(alloc, out, who)?,
         approve,
     })
 }
 
 /// What a line tells, or None where it tells nothing.
-pub fn event_of(alloc: Global, world: &str, line: &str) -> Result<Option<Event>, Memory>
-    ensures { IfOk result (λ event. IfSome event (λ one. CanRunIf (run_told one))) }
+pub fn event_of(alloc: Global, out: &mut Answers, world: &str, line: &str) -> Option<Event>
+    ensures { IfSome result (λ event. CanRunIf (run_told event)) }
 {
     let (first, rest) = word(line);
     match first {
-        "set" => set(alloc, world, rest),
-        "queue" => queue(alloc, world, rest),
-        "take" => Ok(Some(taken(alloc, rest)?)),
-        "report" => Ok(Some(report(alloc, rest)?)),
-        "approve" => Ok(Some(decided(alloc, rest, true)?)),
-        "reject" => Ok(Some(decided(alloc, rest, false)?)),
-        "cancel" => Ok(Some(Event::RunCanceled { run: run_at(rest) })),
-        _ => Ok(None),
+        "set" => set(alloc, out, world, rest),
+        "queue" => queue(alloc, out, world, rest),
+        "take" => taken(alloc, out, rest),
+        "report" => report(alloc, out, rest),
+        "approve" => decided(alloc, out, rest, true),
+        "reject" => decided(alloc, out, rest, false),
+        "cancel" => Some(Event::RunCanceled { run: run_at(rest) }),
+        _ => None,
     }
 }

@@ -2,7 +2,6 @@
 //! head.
 #![tactic(auto)]
 
-mod answers;
 mod checks;
 mod events;
 mod fields;
@@ -12,17 +11,15 @@ mod script;
 mod shown;
 mod world;
 
-use crate::answers::Answers;
 use crate::script::run_script;
+use pl_cases::Answers;
 use std::alloc::Global;
 use std::io;
 
 /// Answers a case: the text behind its heading, whose first line is its name.
 fn answer(alloc: Global, out: &mut Answers, world: &str, case: &str) {
     let (name, lines) = case.split_once('\n').unwrap_or((case, ""));
-    out.push("%%% case ");
-    out.push(name);
-    out.push("\n");
+    out.line("%%% case ", name);
     run_script(alloc, out, world, lines)
 }
 

@@ -1,8 +1,9 @@
-ghost use Rattle.std.specs.Prelude.{IfOk, IfSome};
+ghost use Rattle.std.specs.Prelude.{IfSome};
 ghost use Rattle.pl_results.specs.Nodes.{CanRun};
 
 use crate::fields::file;
-use pl_base::{Expanded, FileKey, List, Memory, Node, SharedList, Text};
+use pl_base::{Expanded, FileKey, List, MarkedNode, Node, SharedList};
+use pl_cases::Answers;
 use pl_cond::each_plan_can_run;
 use pl_literal::literal;
 use pl_plan::{Plan, plan_of};
@@ -10,15 +11,11 @@ use pl_schema::{Pipeline, pipeline_of};
 use pl_yaml::read;
 use std::alloc::Global;
 
-/// The file that a pipeline's text says at its front that its root extends, and the rest.
-fn extends(alloc: Global, text: &str) -> Result<Option<FileKey>, Memory> {
-    match text.strip_prefix("extends ") {
-        Some(rest) => {
-            let (path, _) = rest.split_once('\n').unwrap_or((rest, ""));
-            Ok(Some(file(alloc, path)?))
-        }
-        None => Ok(None),
-    }
+/// The file that a pipeline's text says at its front that its root extends.
+fn extends(alloc: Global, out: &mut Answers, text: &str) -> Option<FileKey> {
+    let rest = text.strip_prefix("extends ")?;
+    let (path, _) = rest.split_once('\n').unwrap_or((rest, ""));
+    Some(file(alloc, out, path))
 }
 
 /// The text of a pipeline without what it says at its front.
@@ -32,26 +29,28 @@ fn written(text: &str) -> &str {
     }
 }
 
-fn root(alloc: Global) -> Result<FileKey, Memory> {
-    let repo = Text::from_str(alloc, "app")?;
-    let git_ref = Text::from_str(alloc, "refs/heads/main")?;
-    let path = Text::from_str(alloc, "/ci.yml")?;
-    Ok(FileKey {
-        repo,
-        git_ref,
-        path,
-    })
+fn root(alloc: Global, out: &mut Answers) -> FileKey {
+    FileKey {
+        repo: out.text_of(alloc, "app"),
+        git_ref: out.text_of(alloc, "refs/heads/main"),
+        path: out.text_of(alloc, "/ci.yml"),
+    }
 }
 
-fn expanded(alloc: Global, node: &Node, text: &str) -> Result<Expanded, Memory> {
-    let tree = literal(alloc, node, &SharedList::new(alloc)?)?;
-    Ok(Expanded {
+/// The tree of a node that was read, across no border; None where memory was wanting.
+fn tree_of(alloc: Global, out: &mut Answers, node: &Node) -> Option<MarkedNode> {
+    let crossings = out.made(SharedList::new(alloc))?;
+    out.made(literal(alloc, node, &crossings))
+}
+
+fn expanded(alloc: Global, out: &mut Answers, tree: MarkedNode, text: &str) -> Expanded {
+    Expanded {
         tree,
-        root: root(alloc)?,
-        extends: extends(alloc, text)?,
+        root: root(alloc, out),
+        extends: extends(alloc, out, text),
         repositories: List::new(alloc),
         used: List::new(alloc),
-    })
+    }
 }
 
 fn plan_from(alloc: Global, pipeline: &Pipeline) -> Option<Plan>
@@ -66,21 +65,37 @@ fn plan_from(alloc: Global, pipeline: &Pipeline) -> Option<Plan>
     }
 }
 
-fn planned(alloc: Global, node: &Node, text: &str) -> Result<Option<Plan>, Memory>
-    ensures { IfOk result (λ plan. IfSome plan (λ one. CanRun one)) }
+fn planned(alloc: Global, expanded: &Expanded) -> Option<Plan>
+    ensures { IfSome result (λ plan. CanRun plan) }
 {
-    match pipeline_of(alloc, &expanded(alloc, node, text)?) {
-        Ok(pipeline) => Ok(plan_from(alloc, &pipeline)),
-        Err(_) => Ok(None),
+    match pipeline_of(alloc, expanded) {
+        Ok(pipeline) => plan_from(alloc, &pipeline),
+        Err(_) => None,
+    }
+}
+
+fn plan_of_tree(alloc: Global, out: &mut Answers, tree: MarkedNode, text: &str) -> Option<Plan>
+    ensures { IfSome result (λ plan. CanRun plan) }
+{
+    planned(alloc, &expanded(alloc, out, tree, text))
+}
+
+fn plan_of_node(alloc: Global, out: &mut Answers, node: &Node, text: &str) -> Option<Plan>
+    ensures { IfSome result (λ plan. CanRun plan) }
+{
+    match tree_of(alloc, out, node) {
+        Some(tree) => plan_of_tree(alloc, out, tree, text),
+        None => None,
     }
 }
 
 /// The plan of a pipeline's text, or None where it is none.
-pub fn plan_in(alloc: Global, text: &str) -> Result<Option<Plan>, Memory>
-    ensures { IfOk result (λ plan. IfSome plan (λ one. CanRun one)) }
+pub fn plan_in(alloc: Global, out: &mut Answers, text: &str) -> Option<Plan>
+    ensures { IfSome result (λ plan. CanRun plan) }
 {
-    match read(alloc, written(text).as_bytes(), &root(alloc)?) {
-        Ok(node) => planned(alloc, &node, text),
-        Err(_) => Ok(None),
+    let root = root(alloc, out);
+    match read(alloc, written(text).as_bytes(), &root) {
+        Ok(node) => plan_of_node(alloc, out, &node, text),
+        Err(_) => None,
     }
 }

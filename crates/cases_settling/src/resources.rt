@@ -1,6 +1,7 @@
 use crate::checks::check_of;
 use crate::fields::{field, texts};
-use pl_base::{Kind, List, Memory, ResourceKey, Text};
+use pl_base::{Kind, List, ResourceKey, Text};
+use pl_cases::Answers;
 use pl_checks::Check;
 use pl_facts::ResourceSetting;
 use std::alloc::Global;
@@ -16,35 +17,31 @@ fn kind_of(word: &str) -> Option<Kind> {
     }
 }
 
-fn pipelines(alloc: Global, words: &str) -> Result<Option<List<Text>>, Memory> {
-    if words == "*" {
-        return Ok(None);
+fn pipelines(alloc: Global, out: &mut Answers, words: &str) -> Option<List<Text>> {
+    match words {
+        "*" => None,
+        _ => Some(texts(alloc, out, words)),
     }
-    Ok(Some(texts(alloc, words)?))
 }
 
-fn checks(alloc: Global, text: &str) -> Result<List<Check>, Memory> {
+fn checks(alloc: Global, out: &mut Answers, text: &str) -> List<Check> {
     let mut checks = List::new(alloc);
     for part in text.split("\ncheck\n").skip(1) {
-        if let Some(check) = check_of(alloc, part)? {
-            checks.push(check)?;
+        if let Some(check) = check_of(alloc, out, part) {
+            out.done(checks.push(check));
         }
     }
-    Ok(checks)
+    checks
 }
 
 /// The resource that a text tells, or None where it tells none.
-pub fn resource_of(alloc: Global, text: &str) -> Result<Option<ResourceSetting>, Memory> {
-    let Some(kind) = kind_of(field(text, "kind")) else {
-        return Ok(None);
-    };
-    let name = Text::from_str(alloc, field(text, "name"))?;
-    let pipelines = pipelines(alloc, field(text, "pipelines"))?;
-    let checks = checks(alloc, text)?;
-    Ok(Some(ResourceSetting {
+pub fn resource_of(alloc: Global, out: &mut Answers, text: &str) -> Option<ResourceSetting> {
+    let kind = kind_of(field(text, "kind"))?;
+    let name = out.text_of(alloc, field(text, "name"));
+    Some(ResourceSetting {
         key: ResourceKey { kind, name },
-        pipelines,
+        pipelines: pipelines(alloc, out, field(text, "pipelines")),
         exclusive: field(text, "exclusive") == "true",
-        checks,
-    }))
+        checks: checks(alloc, out, text),
+    })
 }

@@ -2,11 +2,11 @@ ghost use Rattle.std.specs.Prelude.{◌≤◌, IfSome};
 ghost use Rattle.pl_due.specs.Fit.{AreFit, CanRunIf, last_moment};
 ghost use Rattle.pl_journal.specs.Runs.{run_told};
 
-use crate::answers::Answers;
 use crate::events::event_of;
 use crate::shown::put_fact;
 use crate::world::word;
 use pl_base::{Digest, LAST_MOMENT, Moment};
+use pl_cases::Answers;
 use pl_facts::{Event, Fact};
 use pl_open_runs::IndexedJournal;
 use pl_settling::settle;
@@ -60,14 +60,9 @@ fn put_line(
     requires fit { AreFit journal.old.facts }
     ensures { AreFit journal.new.facts }
 {
-    match event_of(alloc, world, line) {
-        Ok(Some(event)) => put(out, journal, moment, event),
-        Ok(None) => {
-            out.push("not read: ");
-            out.push(line);
-            out.push("\n")
-        }
-        Err(_) => out.fail(),
+    match event_of(alloc, out, world, line) {
+        Some(event) => put(out, journal, moment, event),
+        None => out.line("not read: ", line),
     }
 }
 

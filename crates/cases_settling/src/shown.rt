@@ -1,22 +1,15 @@
 //! Facts that settling adds, as the answers write them.
 
-use crate::answers::Answers;
 use pl_base::Outcome;
+use pl_cases::Answers;
 use pl_facts::{Event, Fact, Rule};
 use pl_journal::rule_told;
 use std::alloc::Global;
 
-fn put_number(alloc: Global, out: &mut Answers, number: u64) {
-    match number.to_string(alloc) {
-        Ok(digits) => out.push(digits.as_str()),
-        Err(_) => out.fail(),
-    }
-}
-
 fn put_stage(alloc: Global, out: &mut Answers, run: u64, stage: u32) {
-    put_number(alloc, out, run);
+    out.number(alloc, run);
     out.push(".");
-    put_number(alloc, out, stage as u64)
+    out.number(alloc, stage as u64)
 }
 
 fn outcome_name(outcome: Outcome) -> &'static str {
@@ -40,7 +33,7 @@ fn put_rule(alloc: Global, out: &mut Answers, rule: &Rule) {
             out.push("template.argument ");
             out.push(job.as_str());
             out.push(" ");
-            put_number(alloc, out, *step as u64)
+            out.number(alloc, *step as u64)
         }
         Rule::BranchRefused { git_ref } => {
             out.push("branch.refused ");
@@ -54,7 +47,7 @@ fn put_rule(alloc: Global, out: &mut Answers, rule: &Rule) {
         Rule::HoursTimeout => out.push("hours.timeout"),
         Rule::LockSuperseded { run } => {
             out.push("lock.superseded ");
-            put_number(alloc, out, *run)
+            out.number(alloc, *run)
         }
         _ => out.push("another rule"),
     }
@@ -94,7 +87,7 @@ fn put_event(alloc: Global, out: &mut Answers, event: &Event) {
             out.push("end ");
             put_stage(alloc, out, *run, *stage);
             out.push(".");
-            put_number(alloc, out, *job as u64);
+            out.number(alloc, *job as u64);
             put_end(alloc, out, *outcome, rule_told(event))
         }
         _ => out.push("another fact"),

@@ -1,8 +1,9 @@
-use pl_base::{Memory, Text};
+use pl_base::{List, Memory, Shared, Text};
 use std::alloc::Global;
 
 /// The answers so far. Where memory was wanting they aren't whole, and what stands in them counts
-/// for nothing.
+/// for nothing: so what writes answers, or makes a value for them, need not answer want of memory
+/// itself.
 #[derive(Drop)]
 pub struct Answers {
     text: Text,
@@ -49,6 +50,52 @@ impl Answers {
     /// Says that memory was wanting.
     pub fn fail(&mut self) {
         self.whole = false;
+    }
+
+    /// What was made, or None where memory was wanting, which it notes.
+    pub fn made<T>(&mut self, made: Result<T, Memory>) -> Option<T> {
+        match made {
+            Ok(made) => Some(made),
+            Err(_) => {
+                self.fail();
+                None
+            }
+        }
+    }
+
+    /// Notes whether what was done had memory.
+    pub fn done(&mut self, done: Result<(), Memory>) {
+        if done.is_err() {
+            self.fail();
+        }
+    }
+
+    /// A word as a text of its own; the empty one where memory was wanting, which it notes.
+    pub fn text_of(&mut self, alloc: Global, word: &str) -> Text {
+        match Text::from_str(alloc, word) {
+            Ok(text) => text,
+            Err(_) => {
+                self.fail();
+                Text::new(alloc)
+            }
+        }
+    }
+
+    /// The same of a list.
+    pub fn list_of<T: Copy>(&mut self, alloc: Global, items: &[T]) -> List<T> {
+        match List::from_slice(alloc, items) {
+            Ok(list) => list,
+            Err(_) => {
+                self.fail();
+                List::new(alloc)
+            }
+        }
+    }
+
+    /// A value that may be shared, or None where memory was wanting, which it notes.
+    pub fn shared<T: Drop>(&mut self, alloc: Global, value: T) -> Option<Shared<T>> {
+        let shared = Shared::new(alloc, value);
+        self.made(shared)
     }
 
     /// All answers.

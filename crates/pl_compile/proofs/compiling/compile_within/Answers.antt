@@ -3,7 +3,7 @@ use Rattle.pl_plan.specs.declared.plan.Sources.{Sources}
 use Rattle.pl_compile.proofs.Tracing.{are_known, are_said, are_written, come_from_closure}
 use Rattle.pl_compile.proofs.Tracing.{come_through}
 use Rattle.pl_compile.proofs.Whole.{unplanned}
-use Rattle.pl_compile.proofs.compiling.compile.Goals as goal
+use Rattle.pl_compile.proofs.compiling.compile_within.Goals as goal
 
 pub returns-in-Ok-clause-steps : goal.returns-in-Ok-clause-steps
 returns-in-Ok-clause-steps c file =
