@@ -96,7 +96,8 @@ fn push_text(
     files: &FileSet,
     key: &FileKey,
 ) -> Result<(), Memory>
-    ensures { OnOk result (texts.new ≡ texts.old ++ text_at key.now (finite.get files.now key.now)) }
+    ensures { OnOk result
+        (texts.new ≡ texts.old ++ text_at key.now (finite.get files.now key.now)) }
 {
     match files.get(key) {
         Some(text) => {
@@ -144,9 +145,9 @@ fn sources_of(
     })
 }
 
-/// The plan of a pipeline and what it was compiled from, as `compile` gives them, where what is made
-/// and done counts in a meter. Memory where a budget is passed, of which the meter tells the first
-/// one.
+/// The plan of a pipeline and what it was compiled from, as `compile` gives them, where what is
+/// made and done counts in a meter. Memory where a budget is passed, of which the meter tells the
+/// first one.
 pub fn compile_within(
     alloc: Global,
     meter: &Meter,

@@ -130,8 +130,9 @@ impl Core {
     /// state stays as it is, and all memory is taken that `install` needs. What was prepared before
     /// and wasn't installed is gone. Memory where memory is wanting; then nothing is prepared.
     ///
-    /// A claim is answered with the job exactly where its agent may have it, and else refused by the
-    /// first rule that it breaks; and with the entry the history is one that `entries` promises.
+    /// A claim is answered with the job exactly where its agent may have it, and else refused by
+    /// the first rule that it breaks; and with the entry the history is one that `entries`
+    /// promises.
     ///
     /// `made` is what `wanted` was compiled to, and is there exactly where that is.
     pub fn prepare(

@@ -115,10 +115,10 @@ still_runs facts _ = false
 
 -- The taking by which an agent holds a job. An agent takes a job only where it holds none, and
 -- moments never fall along the facts: what it took before the moment of its last taking has ended.
--- Of the takings of that moment, though, the one whose job still runs needn't be the last: a service
--- that is opened again has the facts of one moment in the order of its rows. So from its last taking
--- back the first one counts whose job still runs, or which is older; and it holds the job where that
--- still runs.
+-- Of the takings of that moment, though, the one whose job still runs needn't be the last: a
+-- service that is opened again has the facts of one moment in the order of its rows. So from its
+-- last taking back the first one counts whose job still runs, or which is older; and it holds the
+-- job where that still runs.
 abbrev pub decides : List Fact → ℕ → Fact → Bool
 decides facts last fact = still_runs facts fact.event || nat_lt fact.moment last
 

@@ -17,8 +17,8 @@ use pl_calls::Files;
 use pl_directives::ExpandFault;
 use std::alloc::Global;
 
-/// The expansion of a root file with run arguments under a meter, as `pl_expand::expand_within` gives
-/// it, and what the laws of this crate say of it, in words that don't speak of expansion.
+/// The expansion of a root file with run arguments under a meter, as `pl_expand::expand_within`
+/// gives it, and what the laws of this crate say of it, in words that don't speak of expansion.
 ///
 /// Where the root extends a template, each key `stages`, `jobs` and `steps` of the tree and each
 /// node and key under it crossed the border `extends` just once, and into that template; and what
@@ -28,8 +28,8 @@ use std::alloc::Global;
 /// into used files that are there, and what no argument and no expression gave stands where its
 /// borders lead from the root file, along the paths under `template` of the items that call; and
 /// each scalar and key of it says what is written where it stands (Microsoft Learn, Azure
-/// Pipelines, "Security through templates"). The files stay as they are, and a fault is the one that
-/// `pl_expand::expand_within` gives.
+/// Pipelines, "Security through templates"). The files stay as they are, and a fault is the one
+/// that `pl_expand::expand_within` gives.
 pub fn expand<F: Files>(
     alloc: Global,
     meter: &Meter,

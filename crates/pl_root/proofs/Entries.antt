@@ -2,7 +2,8 @@
 use Rattle.std.proofs.Common.{◌≡◌, List, Option, [], ◌∷◌, cond, Some, refl, ap, sym, ◌∙◌}
 use Rattle.std.specs.BTreeMap.{is_at}
 use Rattle.std.specs.Cmp.{eq_by_cmp_equiv}
-use Rattle.std.specs.FinMap.{get, insert, from_entries, find, get-from_entries, get-insert, same_map}
+use Rattle.std.specs.FinMap.{get, insert, from_entries, find, get-from_entries, get-insert}
+use Rattle.std.specs.FinMap.{same_map}
 use Rattle.std.specs.Map.{lookup}
 use Rattle.pl_base.proofs.FileKeys.{exact_files, files_total}
 use Rattle.pl_base.specs.Files.{file_cmp}

@@ -22,8 +22,8 @@ const MOST_NODES: u32 = 1_000_000;
 /// How many bytes all files have that are read together. More are want of memory.
 const MOST_BYTES: usize = 8_388_608;
 
-/// Files in memory, each read as YAML once, when it is put, and how many nodes and bytes more may be
-/// read.
+/// Files in memory, each read as YAML once, when it is put, and how many nodes and bytes more may
+/// be read.
 #[derive(Drop)]
 pub struct MemFiles {
     files: BTreeMap<FileKey, Shared<Parsed>>,

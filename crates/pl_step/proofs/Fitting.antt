@@ -1,5 +1,6 @@
 -- Where a request adds that a run was queued, the run's plan can run: no other request adds that.
-use Rattle.std.proofs.Common.{◌&&◌, ℕ, Bool, true, false, List, Option, Some, None, Ok, Err, is_some}
+use Rattle.std.proofs.Common.{◌&&◌, ℕ, Bool, true, false, List, Option, Some, None, Ok, Err}
+use Rattle.std.proofs.Common.{is_some}
 use Rattle.std.proofs.Common.{slice_get, sym, subst, inl, inr}
 use Rattle.std.specs.Option.{option_map_or}
 use Rattle.std.specs.Prelude.{codes, if◌then◌else◌}

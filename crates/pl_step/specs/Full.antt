@@ -26,8 +26,8 @@ back log = record log { facts = take log.installed log.facts }
 abbrev pub has_long_number : Log → Bool
 has_long_number log = nat_lt last_number (last_run log) || nat_lt last_number (version log)
 
--- behind these facts, which are one entry more: it would be one too many, the texts of all too long,
--- or a number too great
+-- behind these facts, which are one entry more: it would be one too many, the texts of all too
+-- long, or a number too great
 abbrev pub is_full : Held → Log → Request → List Fact → Bool
 is_full held log asked added =
     nat_le most_entries held.entries

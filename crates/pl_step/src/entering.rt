@@ -27,7 +27,8 @@ pub(crate) fn settle_for(
 ) -> Result<(), Memory>
     requires moment { moment ≤ last_moment }
     requires fit { AreFit journal.old.facts }
-    ensures ok { OnOk result ((due : list Told) × SettlesFor request.now moment journal.old.facts due
+    ensures ok { OnOk result ((due : list Told)
+        × SettlesFor request.now moment journal.old.facts due
         × (journal.new ≡ with_facts journal.old due)) }
     ensures err { OnErr result ((due : list Told) × (journal.new ≡ with_facts journal.old due)) }
     ensures fit { AreFit journal.new.facts }

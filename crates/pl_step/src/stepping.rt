@@ -63,14 +63,14 @@ fn forbidden(alloc: Global, request: &Request) -> Result<Stepped, Memory>
 /// where the caller has none of the route's roles; what is due is settled, but for a shutdown; the
 /// request is answered on the settled facts. Where facts come of it they are one entry: 409
 /// `journal.full` where it would be one too many since the opening, the texts of all entries too
-/// long, or a number has more than 18 digits, and then nothing is added, nor what was due. `made` is
-/// what the request's pipeline was compiled to, if the request queues a run and the pipeline is
+/// long, or a number has more than 18 digits, and then nothing is added, nor what was due. `made`
+/// is what the request's pipeline was compiled to, if the request queues a run and the pipeline is
 /// there.
 ///
 /// All facts are installed before. Their moments are those that a clock tells and their runs' plans
 /// can run, as `pl_due::due` asks, and so is the call's moment and the plan that was made; the same
-/// holds of all facts afterwards. The number of the next change of rows isn't judged here: who keeps
-/// rows does that.
+/// holds of all facts afterwards. The number of the next change of rows isn't judged here: who
+/// keeps rows does that.
 pub fn step(
     alloc: Global,
     journal: &mut IndexedJournal,

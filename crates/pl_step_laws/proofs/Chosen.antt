@@ -1,6 +1,7 @@
 -- That a step leaves no choice: what is due doesn't, what a request is answered doesn't, and so
 -- neither does what is given.
-use Rattle.std.proofs.Common.{◌≡◌, ◌++◌, ℕ, true, false, List, Option, Some, None, inl, inr, sym, ap}
+use Rattle.std.proofs.Common.{◌≡◌, ◌++◌, ℕ, true, false, List, Option, Some, None, inl, inr, sym}
+use Rattle.std.proofs.Common.{ap}
 use Rattle.std.proofs.Common.{subst, ◌∙◌}
 use Rattle.std.proofs.lemmas.Option.{none-some}
 use Rattle.pl_answers.specs.declared.answer.Answer.{Answer}

@@ -149,7 +149,8 @@ invariant-settling::settle_items-loop-item g l = record {
   gives :
       settling.items_behind (map node_seen l.items)
       (scope_of (followed l.scope.at.calls (ways g.F.Files.files l.fn.reach))
-      l.scope.frame.now l.scope.at.region) (record { items = []; count = l.count }) l.fn.reach.used.now
+      l.scope.frame.now l.scope.at.region) (record { items = []; count = l.count })
+      l.fn.reach.used.now
       ≡ settling.items_behind (map node_seen (drop l.item-index l.item-items))
       (scope_of (followed l.scope.at.calls (ways g.F.Files.files l.fn.reach))
       l.scope.frame.now l.scope.at.region) l.all l.reach.used.now;
@@ -165,7 +166,8 @@ invariant-settling::settle_pairs-loop-pair g l = record {
   gives :
       settling.pairs_behind (map pair_seen l.pairs)
       (scope_of (followed l.scope.at.calls (ways g.F.Files.files l.fn.reach))
-      l.scope.frame.now l.scope.at.region) (record { pairs = []; count = l.count }) l.fn.reach.used.now
+      l.scope.frame.now l.scope.at.region) (record { pairs = []; count = l.count })
+      l.fn.reach.used.now
       ≡ settling.pairs_behind (map pair_seen (drop l.pair-index l.pair-items))
       (scope_of (followed l.scope.at.calls (ways g.F.Files.files l.fn.reach))
       l.scope.frame.now l.scope.at.region) l.all l.reach.used.now;

@@ -89,8 +89,8 @@ pub returns-in-Decide : goal.returns-in-Decide
 returns-in-Decide c =
     as_seen c.args.moment c.args.who.now c.args.made c.decide.result
     c.journal-journal.result.now c.args.indexed.now c.args.request.now
-    (request.Decide c.in-Decide.run' c.in-Decide.stage c.in-Decide.approve) c.journal-journal.ensures
-    c.in-Decide.is c.decide.ensures
+    (request.Decide c.in-Decide.run' c.in-Decide.stage c.in-Decide.approve)
+    c.journal-journal.ensures c.in-Decide.is c.decide.ensures
 
 pub returns-in-Draw : goal.returns-in-Draw
 returns-in-Draw c =
@@ -115,7 +115,8 @@ returns-in-Report c =
     as_seen c.args.moment c.args.who.now c.args.made c.report.result
     c.journal-journal.result.now c.args.indexed.now c.args.request.now
     (request.Report c.in-Report.job c.deref-in-Report.result.now) c.journal-journal.ensures
-    (c.in-Report.is ∙ ap (request.Report c.in-Report.job) (sym c.deref-in-Report.ensures)) c.report.ensures
+    (c.in-Report.is ∙ ap (request.Report c.in-Report.job) (sym c.deref-in-Report.ensures))
+    c.report.ensures
 
 pub returns-in-Shutdown : goal.returns-in-Shutdown
 returns-in-Shutdown c =
