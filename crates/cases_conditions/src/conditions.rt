@@ -58,9 +58,9 @@ fn ask(alloc: Global, out: &mut Answers, plan: &Plan, place: &str, view: &RunVie
 }
 
 /// The pipeline's text with a condition in place of the word `CONDITION`.
-fn with_condition(alloc: Global, out: &mut Answers, pipeline: &str, condition: &str) -> Text {
+fn with_condition(out: &mut Answers, pipeline: &str, condition: &str) -> Text {
     let (before, behind) = pipeline.split_once("CONDITION").unwrap_or((pipeline, ""));
-    let mut text = out.text_of(alloc, before);
+    let mut text = out.text_of(before);
     out.done(text.push_str(condition));
     out.done(text.push_str(behind));
     text
@@ -76,7 +76,7 @@ pub fn answer_condition(
     view: &RunView,
     condition: &str,
 ) {
-    let text = with_condition(alloc, out, pipeline, condition);
+    let text = with_condition(out, pipeline, condition);
     match plan_in(alloc, out, text.as_str()) {
         Some(plan) => ask(alloc, out, &plan, place, view),
         None => out.push("None"),

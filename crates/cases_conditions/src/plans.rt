@@ -10,11 +10,11 @@ use pl_schema::{Pipeline, pipeline_of};
 use pl_yaml::read;
 use std::alloc::Global;
 
-fn file(alloc: Global, out: &mut Answers) -> FileKey {
+fn file(out: &mut Answers) -> FileKey {
     FileKey {
-        repo: out.text_of(alloc, "app"),
-        git_ref: out.text_of(alloc, "refs/heads/main"),
-        path: out.text_of(alloc, "/ci.yml"),
+        repo: out.text_of("app"),
+        git_ref: out.text_of("refs/heads/main"),
+        path: out.text_of("/ci.yml"),
     }
 }
 
@@ -27,7 +27,7 @@ fn tree_of(alloc: Global, out: &mut Answers, node: &Node) -> Option<MarkedNode> 
 fn expanded(alloc: Global, out: &mut Answers, tree: MarkedNode) -> Expanded {
     Expanded {
         tree,
-        root: file(alloc, out),
+        root: file(out),
         extends: None,
         repositories: List::new(alloc),
         used: List::new(alloc),
@@ -68,7 +68,7 @@ fn plan_of_node(alloc: Global, out: &mut Answers, node: &Node) -> Option<Plan>
 pub fn plan_in(alloc: Global, out: &mut Answers, text: &str) -> Option<Plan>
     ensures { IfSome result (λ plan. CanRun plan) }
 {
-    let file = file(alloc, out);
+    let file = file(out);
     match read(alloc, text.as_bytes(), &file) {
         Ok(node) => plan_of_node(alloc, out, &node),
         Err(_) => None,

@@ -15,10 +15,10 @@ fn outcome_of(word: &str) -> Option<Outcome> {
     }
 }
 
-fn push_output(alloc: Global, out: &mut Answers, outputs: &mut List<(Text, Text)>, word: &str) {
+fn push_output(out: &mut Answers, outputs: &mut List<(Text, Text)>, word: &str) {
     if let Some((name, value)) = word.split_once('=') {
-        let name = out.text_of(alloc, name);
-        let value = out.text_of(alloc, value);
+        let name = out.text_of(name);
+        let value = out.text_of(value);
         out.done(outputs.push((name, value)));
     }
 }
@@ -27,7 +27,7 @@ fn push_output(alloc: Global, out: &mut Answers, outputs: &mut List<(Text, Text)
 fn outputs_of(alloc: Global, out: &mut Answers, words: &str) -> List<(Text, Text)> {
     let mut outputs = List::new(alloc);
     for word in words.split(' ') {
-        push_output(alloc, out, &mut outputs, word);
+        push_output(out, &mut outputs, word);
     }
     outputs
 }
@@ -38,7 +38,7 @@ fn job_of(alloc: Global, out: &mut Answers, words: &str) -> Option<JobView> {
     let outputs = outputs_of(alloc, out, outputs);
     Some(JobView {
         result: outcome_of(result),
-        outputs: out.shared(alloc, outputs)?,
+        outputs: out.shared(outputs)?,
     })
 }
 

@@ -36,17 +36,17 @@ fn push_call(alloc: Global, out: &mut Answers, world: &World, function: Function
 fn arguments(alloc: Global, out: &mut Answers, count: u32) -> List<Expr> {
     let mut arguments = List::new(alloc);
     for number in 0..count {
-        let value = argument(alloc, out, number);
+        let value = argument(out, number);
         out.done(arguments.push(Expr::Lit(value)));
     }
     arguments
 }
 
-fn argument(alloc: Global, out: &mut Answers, number: u32) -> Value {
+fn argument(out: &mut Answers, number: u32) -> Value {
     match number {
         0 => Value::Bool(true),
         1 => Value::Number(1),
-        _ => Value::Str(out.text_of(alloc, "x")),
+        _ => Value::Str(out.text_of("x")),
     }
 }
 

@@ -21,7 +21,7 @@ fn parts_of(alloc: Global, out: &mut Answers, text: Option<&str>) -> List<Text> 
     let mut parts = List::new(alloc);
     if let Some(text) = text {
         for part in text.split('|') {
-            let part = out.text_of(alloc, part);
+            let part = out.text_of(part);
             out.done(parts.push(part));
         }
     }
@@ -131,7 +131,7 @@ fn push_counted(alloc: Global, out: &mut Answers, pieces: &List<Text>) {
 }
 
 fn push_joined_by(alloc: Global, out: &mut Answers, separator: &str, pieces: &List<Text>) {
-    let separator = out.text_of(alloc, separator);
+    let separator = out.text_of(separator);
     push_made(alloc, out, join(alloc, &separator, pieces))
 }
 
@@ -150,6 +150,6 @@ pub fn push_filled(alloc: Global, out: &mut Answers, text: &str) {
 }
 
 fn push_filled_with(alloc: Global, out: &mut Answers, pattern: &str, arguments: &List<Text>) {
-    let pattern = out.text_of(alloc, pattern);
+    let pattern = out.text_of(pattern);
     push_made(alloc, out, format(alloc, &pattern, arguments))
 }

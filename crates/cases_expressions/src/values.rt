@@ -33,7 +33,7 @@ fn letters(alloc: Global, out: &mut Answers, count: u32) -> Value {
 }
 
 fn literal(alloc: Global, out: &mut Answers, text: &str) -> Value {
-    let text = out.text_of(alloc, text);
+    let text = out.text_of(text);
     match parse(alloc, &text, Mode::Condition) {
         Ok(Expr::Lit(value)) => value,
         _ => Value::Null,

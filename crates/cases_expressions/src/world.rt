@@ -78,15 +78,15 @@ fn here(alloc: Global, out: &mut Answers) -> Option<Origin> {
 fn results_by_name(alloc: Global, out: &mut Answers, lines: &str) -> List<Named> {
     let mut named = List::new(alloc);
     for line in lines.lines() {
-        put_result(alloc, out, &mut named, line);
+        put_result(out, &mut named, line);
     }
     named
 }
 
-fn put_result(alloc: Global, out: &mut Answers, named: &mut List<Named>, line: &str) {
+fn put_result(out: &mut Answers, named: &mut List<Named>, line: &str) {
     let (name, word) = line.split_once(' ').unwrap_or((line, ""));
     if let Some(outcome) = outcome_of(word) {
-        let name = out.text_of(alloc, name);
+        let name = out.text_of(name);
         out.done(named.push(Named { name, outcome }))
     }
 }
@@ -96,9 +96,9 @@ fn file_at(alloc: Global, out: &mut Answers, path: &str) -> Option<Shared<FileKe
     let key = FileKey {
         repo: Text::new(alloc),
         git_ref: Text::new(alloc),
-        path: out.text_of(alloc, path),
+        path: out.text_of(path),
     };
-    out.shared(alloc, key)
+    out.shared(key)
 }
 
 /// The origin in the first column of a line, across these borders.
@@ -135,7 +135,7 @@ fn under(
 ) -> Option<MarkedPair> {
     let key_origin = origin_at(alloc, out, line)?;
     Some(MarkedPair {
-        key: out.text_of(alloc, key),
+        key: out.text_of(key),
         key_origin,
         item,
     })

@@ -131,6 +131,6 @@ fn put_read(alloc: Global, out: &mut Answers, asked: Asked, case: &str, file: &F
 
 /// Puts what is asked of a pipeline.
 pub fn put_pipeline_in(alloc: Global, out: &mut Answers, asked: Asked, case: &str) {
-    let file = file(alloc, out);
+    let file = file(out);
     put_read(alloc, out, asked, case, &file)
 }

@@ -4,29 +4,29 @@ use pl_literal::literal;
 use std::alloc::Global;
 
 /// The root file.
-pub fn file(alloc: Global, out: &mut Answers) -> FileKey {
+pub fn file(out: &mut Answers) -> FileKey {
     FileKey {
-        repo: out.text_of(alloc, "r"),
-        git_ref: out.text_of(alloc, "m"),
-        path: out.text_of(alloc, "/ci.yml"),
+        repo: out.text_of("r"),
+        git_ref: out.text_of("m"),
+        path: out.text_of("/ci.yml"),
     }
 }
 
-fn repository(alloc: Global, out: &mut Answers, alias: &str, name: &str) -> Repository {
+fn repository(out: &mut Answers, alias: &str, name: &str) -> Repository {
     Repository {
-        alias: out.text_of(alloc, alias),
-        name: out.text_of(alloc, name),
-        git_ref: out.text_of(alloc, "t"),
+        alias: out.text_of(alias),
+        name: out.text_of(name),
+        git_ref: out.text_of("t"),
     }
 }
 
 /// The alias `s` of `n`, and where both are wanted the alias `Self` of `other`.
 fn repositories(alloc: Global, out: &mut Answers, both: bool) -> List<Repository> {
     let mut all = List::new(alloc);
-    let first = repository(alloc, out, "s", "n");
+    let first = repository(out, "s", "n");
     out.done(all.push(first));
     if both {
-        let second = repository(alloc, out, "Self", "other");
+        let second = repository(out, "Self", "other");
         out.done(all.push(second));
     }
     all
@@ -42,8 +42,8 @@ pub fn tree_of(alloc: Global, out: &mut Answers, node: &Node) -> Option<MarkedNo
 pub fn expanded(alloc: Global, out: &mut Answers, tree: MarkedNode, both: bool) -> Expanded {
     Expanded {
         tree,
-        root: file(alloc, out),
-        extends: Some(file(alloc, out)),
+        root: file(out),
+        extends: Some(file(out)),
         repositories: repositories(alloc, out, both),
         used: List::new(alloc),
     }
