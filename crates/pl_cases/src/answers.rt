@@ -63,8 +63,9 @@ impl Answers {
 
     /// Writes a space and a number.
     pub fn push_number(&mut self, number: u64) {
+        let alloc = self.alloc;
         self.push(" ");
-        self.number(self.alloc, number)
+        self.number(alloc, number)
     }
 
     /// Says that memory was wanting.
