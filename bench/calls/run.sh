@@ -14,7 +14,7 @@ for crate in $("$top/tools/below" pl_expand); do
     cp -r "$top/crates/$crate" "$work/crates/"
     grep "^$crate[: ]" "$top/crates.txt" >>"$work/crates.txt"
 done
-echo "calls: pl_base pl_budgets pl_expand" >>"$work/crates.txt"
+echo "calls: pl_base pl_expand" >>"$work/crates.txt"
 cp "$top/HANDLES" "$work/"
 cp "$here/calls.rt.in" "$work/crates/calls/src/main.rt"
 (cd "$work/crates/calls" && echo 'a: b' | rt run -- expand >"$work/log" 2>&1) || { cat "$work/log" >&2; exit 1; }

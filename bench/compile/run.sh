@@ -14,7 +14,7 @@ for crate in $("$top/tools/below" pl_expand); do
     cp -r "$top/crates/$crate" "$work/crates/"
     grep "^$crate[: ]" "$top/crates.txt" >>"$work/crates.txt"
 done
-echo "calls: pl_base pl_budgets pl_expand" >>"$work/crates.txt"
+echo "calls: pl_base pl_expand" >>"$work/crates.txt"
 cp "$top/HANDLES" "$work/"
 # the program that reads is that of the bench of calls
 cp "$top/bench/calls/calls.rt.in" "$work/crates/calls/src/main.rt"

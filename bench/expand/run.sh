@@ -16,7 +16,7 @@ for crate in $("$top/tools/below" pl_expand); do
     cp -r "$top/crates/$crate" "$work/crates/"
     grep "^$crate[: ]" "$top/crates.txt" >>"$work/crates.txt"
 done
-echo "calls: pl_base pl_budgets pl_expand" >>"$work/crates.txt"
+echo "calls: pl_base pl_expand" >>"$work/crates.txt"
 cp "$top/HANDLES" "$work/"
 # the program is that of the bench of calls, which reads a root file alone too
 cp "$top/bench/calls/calls.rt.in" "$work/crates/calls/src/main.rt"

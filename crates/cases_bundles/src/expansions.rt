@@ -6,7 +6,6 @@ use crate::origins::put_files_of;
 use crate::repeats::repeated;
 use crate::trees::put_node;
 use pl_base::{Argument, FileKey, List};
-use pl_budgets::Meter;
 use pl_bundle::bundle_of;
 use pl_cases::Answers;
 use pl_expand::{MemFiles, RootTree, expand_counted};
@@ -41,14 +40,11 @@ fn put_expansion(
     alloc: Global,
     out: &mut Answers,
     shown: Shown,
-    files: MemFiles,
+    files: &mut MemFiles,
     root: &FileKey,
     arguments: &List<Argument>,
 ) {
-    let Ok(meter) = Meter::new(alloc) else {
-        return out.fail();
-    };
-    match expand_counted(alloc, &meter, files, root, arguments) {
+    match expand_counted(alloc, files, root, arguments) {
         Ok(whole) => put_whole(alloc, out, shown, &whole),
         Err(fault) => put_fault(alloc, out, &fault),
     }
@@ -58,7 +54,7 @@ fn put_with(
     alloc: Global,
     out: &mut Answers,
     shown: Shown,
-    files: MemFiles,
+    files: &mut MemFiles,
     root: &FileKey,
     case: &str,
 ) {
@@ -68,7 +64,7 @@ fn put_with(
     }
 }
 
-fn put_from(alloc: Global, out: &mut Answers, shown: Shown, files: MemFiles, case: &str) {
+fn put_from(alloc: Global, out: &mut Answers, shown: Shown, files: &mut MemFiles, case: &str) {
     match first_key(alloc, behind(case)) {
         Ok(root) => put_with(alloc, out, shown, files, &root, case),
         Err(_) => out.fail(),
@@ -79,7 +75,7 @@ fn put_from(alloc: Global, out: &mut Answers, shown: Shown, files: MemFiles, cas
 pub fn put_file(alloc: Global, out: &mut Answers, shown: Shown, case: &str) {
     let mut files = MemFiles::new(alloc);
     match read_root(alloc, &mut files, behind(case)) {
-        Ok(()) => put_from(alloc, out, shown, files, case),
+        Ok(()) => put_from(alloc, out, shown, &mut files, case),
         Err(_) => out.fail(),
     }
 }
@@ -96,7 +92,7 @@ pub fn put_count(alloc: Global, out: &mut Answers, case: &str) {
 pub fn put_files(alloc: Global, out: &mut Answers, case: &str) {
     let mut files = MemFiles::new(alloc);
     match read_files(alloc, &mut files, behind(case)) {
-        Ok(()) => put_from(alloc, out, Shown::Whole, files, case),
+        Ok(()) => put_from(alloc, out, Shown::Whole, &mut files, case),
         Err(_) => out.fail(),
     }
 }

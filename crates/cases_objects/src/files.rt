@@ -1,7 +1,6 @@
 //! The files of a run.
 
 use pl_base::{Argument, FileKey, FileSet, List};
-use pl_budgets::Meter;
 use pl_cases::Answers;
 use pl_compile::{CompileFault, compile};
 use pl_plan::Compiled;
@@ -57,8 +56,5 @@ pub fn compiled(alloc: Global, out: &mut Answers, case: &str) -> Result<Compiled
     let files = files_of(alloc, out, case);
     let root = root_of(out, case);
     let given = arguments(alloc, out, case);
-    match Meter::new(alloc) {
-        Ok(meter) => compile(alloc, &meter, &files, &root, &given),
-        Err(_) => Err(CompileFault::Memory),
-    }
+    compile(alloc, &files, &root, &given)
 }

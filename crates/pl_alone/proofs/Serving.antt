@@ -3,12 +3,15 @@ use Rattle.std.proofs.Common.{◌≡◌, ◌+◌, ◌++◌, ℕ, List, [], ◌�
 use Rattle.std.proofs.Common.{sym}
 use Rattle.std.proofs.Common.{ap, subst, ◌∙◌}
 use Rattle.pl_alone.specs.Desk.{Parts, Serves, seen_with}
-use Rattle.pl_core.specs.Legal.{Legal}
-use Rattle.pl_core.specs.Made.{IsMadeFor}
 use Rattle.pl_core.specs.Prepared.{IsEntryOf, added_by, entries_with, installed, next_number}
-use Rattle.pl_core.specs.State.{Opening, State, held, held_of, log, log_of}
+use Rattle.pl_core.specs.State.{State, held, log}
 use Rattle.pl_facts.specs.declared.entry.Entry.{Entry}
 use Rattle.pl_facts.specs.declared.fact.Fact.{Fact}
+use Rattle.pl_history.specs.Claims.{IsOrderly}
+use Rattle.pl_history.specs.Guarded.{IsAnswered, IsGuarded}
+use Rattle.pl_history.specs.Legal.{Legal}
+use Rattle.pl_history.specs.Made.{IsMadeFor}
+use Rattle.pl_history.specs.History.{Opening, held_of, log_of}
 use Rattle.pl_queueing.specs.Queueing.{Made}
 use Rattle.pl_requests.specs.declared.call.Call.{Call}
 use Rattle.pl_requests.specs.declared.reply.Reply.{Reply}
@@ -66,11 +69,13 @@ module _ (first back prepared last : State) (call : Call) (made : Made) (entry :
   pub serves : IsMadeFor (log back) call made →
       IsStep (held back) (log back) call made (stepped_with given (added_by entry)) →
       IsEntryOf (next_number back) 0 call entry → reply ≡ given →
-      Legal last.opening last.entries →
+      Legal last.opening last.entries → IsGuarded last.opening last.entries →
+      (IsOrderly back.opening →
+      IsAnswered back.opening back.entries call (stepped_with given (added_by entry))) →
       let old : Parts = record { opening = first.opening; seen = first.entries } in
       let new : Parts = record { opening = last.opening; seen = last.entries } in
       Serves old call reply new
-  serves made_is steps is reply_is legal = record {
+  serves made_is steps is reply_is legal guarded answers = record {
     made = made;
     is = carried (λ opening entries. IsMadeFor (log_of opening entries) call made) made_is;
     added = added_by entry;
@@ -87,4 +92,11 @@ module _ (first back prepared last : State) (call : Call) (made : Made) (entry :
         ∙ seen_is first.entries call entry
         (carried (λ opening entries. IsEntryOf (length entries + 1) 0 call entry) is);
     legal = legal;
+    guarded = guarded;
+    answered =
+        subst (λ (told : Reply). IsOrderly first.opening →
+        IsAnswered first.opening first.entries call (stepped_with told (added_by entry)))
+        (sym reply_is)
+        (carried (λ opening entries. IsOrderly opening →
+        IsAnswered opening entries call (stepped_with given (added_by entry))) answers);
   }

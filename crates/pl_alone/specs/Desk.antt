@@ -4,11 +4,13 @@ use Rattle.pl_alone.specs.declared.alone.Alone.{Alone}
 use Rattle.pl_alone.specs.declared.alone.Answer.{Answer}
 use Rattle.pl_alone.specs.declared.alone.Answer.TheVariants.{Reply, Memory}
 use Rattle.pl_base.specs.declared.digest.Digest.{Digest}
-use Rattle.pl_core.specs.Legal.{Legal}
-use Rattle.pl_core.specs.Made.{IsMadeFor}
-use Rattle.pl_core.specs.State.{Opening, held_of, log_of}
 use Rattle.pl_facts.specs.declared.entry.Entry.{Entry}
 use Rattle.pl_facts.specs.declared.fact.Fact.{Fact}
+use Rattle.pl_history.specs.Claims.{IsOrderly}
+use Rattle.pl_history.specs.Guarded.{IsAnswered, IsGuarded}
+use Rattle.pl_history.specs.Legal.{Legal}
+use Rattle.pl_history.specs.Made.{IsMadeFor}
+use Rattle.pl_history.specs.History.{Opening, held_of, log_of}
 use Rattle.pl_journal.specs.Log.{Log, last_moment}
 use Rattle.pl_queueing.specs.Queueing.{Made}
 use Rattle.pl_requests.specs.WellFormed.{is_request}
@@ -50,8 +52,10 @@ seen_with seen call [] = seen
 seen_with seen call (fact ∷ more) =
     seen ++ record { number = length seen + 1; seat = 0; call = call; facts = fact ∷ more } ∷ []
 
--- the reply is the step's, and the call is an entry where it adds facts; all entries are a legal
--- history
+-- The reply is the step's, and the call is an entry where it adds facts; all entries are a legal
+-- history. So a claim is answered with the job exactly where its agent may have it, and else with
+-- the first rule that it breaks; each stage was started as the next one, and what is exclusive has
+-- one holder at most.
 pub record Serves (old : Parts) (call : Call) (reply : Replied) (new : Parts) : Type 0 where
   pub made : Made
   pub is : IsMadeFor (log old) call made
@@ -60,6 +64,9 @@ pub record Serves (old : Parts) (call : Call) (reply : Replied) (new : Parts) : 
   pub opening : new.opening ≡ old.opening
   pub seen : new.seen ≡ seen_with old.seen call added
   pub legal : Legal new.opening new.seen
+  pub guarded : IsGuarded new.opening new.seen
+  pub answered :
+      IsOrderly old.opening → IsAnswered old.opening old.seen call (stepped_with reply added)
 
 -- The answer is the step's reply, and the call an entry where it adds facts; or memory was wanting,
 -- and the desk is as before. A message that is no request gets the reply of its fault, and leaves

@@ -14,7 +14,7 @@ pub enum Parsed {
 }
 
 /// The files of repositories, read as YAML.
-pub trait Files: Drop {
+pub trait Files {
     ghost use Rattle.std.specs.FinMap as finite;
     ghost use Rattle.pl_base.specs.Files.{file_cmp};
     ghost use Rattle.pl_calls.specs.declared.files.Parsed.{Parsed};

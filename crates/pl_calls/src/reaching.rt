@@ -31,10 +31,10 @@ pub struct Home {
 /// The files of repositories, where paths lead among them, and the files that were called so far,
 /// each once, in the order in which they were reached first.
 #[derive(Drop)]
-pub struct Reach<F> {
-    pub files: F,
-    pub home: Home,
-    pub used: List<FileKey>,
+pub struct Reach<'r, F> {
+    pub files: &'r mut F,
+    pub home: &'r Home,
+    pub used: &'r mut List<FileKey>,
 }
 
 /// A file that a path leads to, and its key.
@@ -183,15 +183,17 @@ fn open_key<F: Files>(
     alloc: Global,
     at: &Place,
     key: FileKey,
-    reach: &mut Reach<F>,
+    reach: &mut Reach<'_, F>,
 ) -> Result<Opened, ExpandFault>
-    ensures opened { GivesUsed result reach.new.used (opened_at (F.files reach.old.files) at.now
-        (Some key) reach.old.used) }
-    ensures files { F.files reach.new.files ≡ F.files reach.old.files }
+    ensures opened { GivesUsed result reach.new.used.now (opened_at
+        (F.files reach.old.files.now) at.now (Some key) reach.old.used.now) }
+    ensures files { F.files reach.new.files.now ≡ F.files reach.old.files.now }
     ensures home { reach.new.home ≡ reach.old.home }
+    ensures files_lent { reach.new.files.ghost_name ≡ reach.old.files.ghost_name }
+    ensures used_lent { reach.new.used.ghost_name ≡ reach.old.used.ghost_name }
 {
     match reach.files.node(alloc, &key)? {
-        Some(file) => open_found(alloc, at, key, file, &mut reach.used),
+        Some(file) => open_found(alloc, at, key, file, reach.used),
         None => missing(alloc, at),
     }
 }
@@ -204,12 +206,12 @@ pub fn open<F: Files>(
     alloc: Global,
     at: &Place,
     path: &Text,
-    reach: &mut Reach<F>,
+    reach: &mut Reach<'_, F>,
 ) -> Result<Opened, ExpandFault>
     ensures { GivesFrom F.files result reach.old reach.new (λ opens. opens at.now path.now) }
 {
     let cut = cut_path(alloc, path)?;
-    match target(alloc, at, &cut, &reach.home)? {
+    match target(alloc, at, &cut, reach.home)? {
         Some(key) => open_key(alloc, at, key, reach),
         None => missing(alloc, at),
     }

@@ -1,23 +1,25 @@
 -- What a run of the program does, by its words and by what it has of the outside.
 use Rattle.std.specs.Prelude.{◌≡◌, ◌<◌, ℕ, List, [], length, ◌⊎◌, Option, Some, None, codes}
+use Rattle.pl_alone.specs.Desk.{Parts}
 use Rattle.pl_base.specs.Counts.{one_more}
 use Rattle.pl_base.specs.declared.digest.Digest.{Digest}
-use Rattle.pl_core.specs.State.{opened}
-use Rattle.pl_wire.specs.declared.message.Message.{Message}
+use Rattle.pl_base.specs.declared.expanded.Argument.{Argument}
 use Rattle.pl_commands.specs.declared.served.Served.{Served}
 use Rattle.pl_commands.specs.declared.status.Status.{Status}
 use Rattle.pl_commands.specs.declared.status.Status.TheVariants as status
-use Rattle.pl_base.specs.declared.expanded.Argument.{Argument}
-use Rattle.pl_offline.specs.Running.{Runs as RunsOffline}
-use Rattle.pl_offline.specs.declared.ending.Ending.{Ending}
-use Rattle.pl_streams.specs.Whole.{Inflow, Outflow, taken_limit}
-use Rattle.pl_words.specs.declared.command.Command.{Command}
-use Rattle.pl_words.specs.declared.command.Command.TheVariants.{Compile, Replay}
-use Rattle.pl_alone.specs.Desk.{Parts}
 use Rattle.pl_commands.specs.Messages.{Spelled}
 use Rattle.pl_commands.specs.Session.{Point, Session}
 use Rattle.pl_commands.specs.Statuses.{compile_status, status_of}
 use Rattle.pl_commands.specs.Told.{Told, Writes, Begun}
+use Rattle.pl_history.specs.Access.{IsSound}
+use Rattle.pl_history.specs.Claims.{IsOrderly}
+use Rattle.pl_history.specs.History.{opened}
+use Rattle.pl_offline.specs.Running.{Runs as RunsOffline}
+use Rattle.pl_offline.specs.declared.ending.Ending.{Ending}
+use Rattle.pl_streams.specs.Whole.{Inflow, Outflow, taken_limit}
+use Rattle.pl_wire.specs.declared.message.Message.{Message}
+use Rattle.pl_words.specs.declared.command.Command.{Command}
+use Rattle.pl_words.specs.declared.command.Command.TheVariants.{Compile, Replay}
 
 -- what the outside of a run tells: its source and sink, and the moments of the next clock
 pub record Outside : Type 0 where
@@ -41,11 +43,14 @@ start admin outside = record {
   desk = record { opening = opened admin; seen = [] };
 }
 
--- one session from the source to the sink
+-- One session from the source to the sink. The service is opened for the first time, so that what
+-- is said of sound and of orderly openings holds of it.
 pub record Replays (admin : Digest) (old : Outside) (new : Told) (ending : Status) : Type 0 where
   pub served : Served
   pub later : Option (ℕ → ℕ)
   pub desk : Parts
+  pub sound : IsSound (opened admin)
+  pub orderly : IsOrderly (opened admin)
   pub ending_is : ending ≡ status_of served
   pub session :
       Session (start admin old) (record { link = new; coming = later; desk = desk }) served

@@ -16,6 +16,7 @@ use crate::status::Status;
 use pl_alone::Alone;
 use pl_base::{Argument, Digest, List, Memory};
 use pl_budgets::Budget;
+use pl_history::{access_laws, claim_laws};
 use pl_offline::{Ending, compile_bundle};
 use pl_words::{Command, parse};
 use std::alloc::Global;
@@ -59,6 +60,8 @@ fn replay<O: Outfit>(alloc: Global, admin: Digest, outfit: &mut O) -> Status
     ensures { Replays admin (outside O.In.Source O.Out.Sink (O.view outfit.old))
         (outside O.In.Source O.Out.Sink (O.view outfit.new)).link result }
 {
+    access_laws();
+    claim_laws();
     let mut desk = match Alone::open(alloc, admin) {
         Ok(desk) => desk,
         Err(Memory) => return Status::Memory,

@@ -2,7 +2,6 @@ ghost use Rattle.std.specs.Prelude.{IfOk};
 ghost use Rattle.pl_compilation.specs.Made.{IsMadeOf};
 
 use pl_base::{Memory, Refusal, Shared};
-use pl_budgets::Meter;
 use pl_compile::{CompileFault, compile};
 use pl_plan::Compiled;
 use pl_snapshots::Snapshot;
@@ -16,14 +15,7 @@ pub fn compiled(
 ) -> Result<Result<Shared<Compiled>, Refusal>, Memory>
     ensures { IfOk result (IsMadeOf snapshot.now) }
 {
-    let meter = Meter::new(alloc)?;
-    match compile(
-        alloc,
-        &meter,
-        &snapshot.files,
-        &snapshot.root,
-        &snapshot.arguments,
-    ) {
+    match compile(alloc, &snapshot.files, &snapshot.root, &snapshot.arguments) {
         Ok(compiled) => Ok(Ok(Shared::new(alloc, compiled)?)),
         Err(CompileFault::Refused(refusal)) => Ok(Err(refusal)),
         Err(CompileFault::Memory) => Err(Memory),

@@ -144,27 +144,10 @@ fn sources_of(
     })
 }
 
-/// The plan of a pipeline whose files are texts, with what it was compiled from: the root file's
-/// key, the arguments, and the texts of the files that were used, in the order in which they were.
-///
-/// `root` is the key of the pipeline's file, `arguments` are the run's, as texts. The pipeline is
-/// expanded, read by the schema and planned. Refused with the first code of the expansion (X1 to
-/// X16), else of the schema (S1 to S9), else of the plan (L1 to L6), at its place; details are the
-/// inner code for X12, X13, X14 and X16, and the names of a cycle for L2. Memory where memory was
-/// wanting, which comes too where a budget is passed: `meter` counts what is made and done, and
-/// tells the first one.
-///
-/// Where the plan extends a template, the mapping of each step and each node and key in it crossed
-/// the border `extends` just once, and into that template (clause `steps`); and what of these no
-/// argument and no expression gave is written in the file of the last border that its origin tells
-/// (clause `written`), which is the template or one that it calls, itself or by files that it calls
-/// (clause `closure`). Each origin in a step tells places of used files or of run arguments, its
-/// borders lead into files among the sources, and what no argument and no expression gave stands
-/// where its borders lead from the root file, along the paths under `template` of the items that
-/// call (clause `known`). And each scalar and key in a step that no argument gave and no expression
-/// made says what is written where it stands (clause `texts`; Microsoft Learn, Azure Pipelines,
-/// "Security through templates").
-pub fn compile(
+/// The plan of a pipeline and what it was compiled from, as `compile` gives them, where what is made
+/// and done counts in a meter. Memory where a budget is passed, of which the meter tells the first
+/// one.
+pub fn compile_within(
     alloc: Global,
     meter: &Meter,
     files: &FileSet,
@@ -187,4 +170,41 @@ pub fn compile(
         }
         Err(fault) => Err(fault),
     }
+}
+
+/// The plan of a pipeline whose files are texts, with what it was compiled from: the root file's
+/// key, the arguments, and the texts of the files that were used, in the order in which they were.
+///
+/// `root` is the key of the pipeline's file, `arguments` are the run's, as texts. The pipeline is
+/// expanded, read by the schema and planned. Refused with the first code of the expansion (X1 to
+/// X16), else of the schema (S1 to S9), else of the plan (L1 to L6), at its place; details are the
+/// inner code for X12, X13, X14 and X16, and the names of a cycle for L2. Memory where memory was
+/// wanting.
+///
+/// Where the plan extends a template, the mapping of each step and each node and key in it crossed
+/// the border `extends` just once, and into that template (clause `steps`); and what of these no
+/// argument and no expression gave is written in the file of the last border that its origin tells
+/// (clause `written`), which is the template or one that it calls, itself or by files that it calls
+/// (clause `closure`). Each origin in a step tells places of used files or of run arguments, its
+/// borders lead into files among the sources, and what no argument and no expression gave stands
+/// where its borders lead from the root file, along the paths under `template` of the items that
+/// call (clause `known`). And each scalar and key in a step that no argument gave and no expression
+/// made says what is written where it stands (clause `texts`; Microsoft Learn, Azure Pipelines,
+/// "Security through templates").
+pub fn compile(
+    alloc: Global,
+    files: &FileSet,
+    root: &FileKey,
+    arguments: &List<Argument>,
+) -> Result<Compiled, CompileFault>
+    ensures compiled { Compiles files.now root.now arguments.now result }
+    ensures steps { (file : Key) → IfOk result (ComeThrough file) }
+    ensures written { (file : Key) → IfOk result (AreWritten files.now file) }
+    ensures closure { (file : Key) →
+        IfOk result (ComeFromClosure files.now root.now arguments.now file) }
+    ensures known { IfOk result (AreKnown files.now root.now arguments.now) }
+    ensures texts { IfOk result (AreSaid files.now) }
+{
+    let meter = Meter::new(alloc)?;
+    compile_within(alloc, &meter, files, root, arguments)
 }

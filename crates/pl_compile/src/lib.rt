@@ -11,7 +11,7 @@ mod laws;
 mod refusing;
 mod text_files;
 
-pub use compiling::compile;
+pub use compiling::{compile, compile_within};
 pub use expanding::expanded;
 pub use fault::CompileFault;
 pub use laws::places_name_their_file;

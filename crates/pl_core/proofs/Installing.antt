@@ -7,17 +7,18 @@ use Rattle.std.specs.Option.{option_map_or, option_or}
 use Rattle.std.proofs.lemmas.List.Elements.{All-from_recursion, All-take, recursion_from_All}
 use Rattle.pl_base.specs.declared.digest.Digest.{Digest}
 use Rattle.pl_core.specs.Kept.{AreNumbers, IsKept, opening_of, pending_of}
-use Rattle.pl_core.specs.Legal.{Follows}
-use Rattle.pl_core.specs.State.{Opening, log_of, opened}
 use Rattle.pl_due.specs.Fit.{AreFit, IsFit, last_moment}
 use Rattle.pl_facts.specs.Sizes.{counted, size_of, total}
 use Rattle.pl_facts.specs.declared.entry.Entry.{Entry}
 use Rattle.pl_facts.specs.declared.fact.Fact.{Fact}
+use Rattle.pl_history.specs.Legal.{Follows}
+use Rattle.pl_history.specs.History.{Opening, log_of, opened}
+use Rattle.pl_history.proofs.Longer.{legal_more, made_last}
 use Rattle.pl_journal.specs.Log.{Log, empty, version}
 use Rattle.pl_journal.specs.Log as journal
 use Rattle.pl_log.specs.Latest.{latest}
 use Rattle.pl_step.specs.Full.{back, with_facts}
-use Rattle.pl_core.proofs.Keeping.{kept_behind, legal_more, made_last, nothing_behind}
+use Rattle.pl_core.proofs.Keeping.{kept_behind, nothing_behind}
 use Rattle.pl_core.proofs.Keeping.{opening_behind}
 use Rattle.pl_core.proofs.Keeping.{pending_behind, went_back}
 

@@ -1,16 +1,16 @@
 -- How the state stays kept while facts are prepared, taken back and installed.
-use Rattle.std.proofs.Common.{◌≡◌, ℕ, ◌+◌, ◌≤◌, List, [], ◌∷◌, ◌++◌, length, refl, sym}
+use Rattle.std.proofs.Common.{◌≡◌, ℕ, ◌+◌, ◌≤◌, List, [], ◌++◌, length, refl, sym}
 use Rattle.std.proofs.Common.{ap, subst, ◌∙◌, arith}
 use Rattle.std.proofs.Math.Seq.{take-append_seam, drop-append_seam}
-use Rattle.std.proofs.lemmas.List.{append_assoc, flat_map_more, length-append, take-append-le}
-use Rattle.std.proofs.lemmas.List.{append-nil}
+use Rattle.std.proofs.lemmas.List.{append-nil, length-append, take-append-le}
 use Rattle.std.proofs.lemmas.List.Elements.{All-take}
 use Rattle.pl_core.specs.Kept.{AreNumbers, IsKept, opening_of, pending_of}
-use Rattle.pl_core.specs.Legal.{Follows, Legal, LegalFrom}
-use Rattle.pl_core.specs.State.{Opening, State, facts_of, log_of}
+use Rattle.pl_core.specs.State.{State}
 use Rattle.pl_due.specs.Fit.{AreFit, IsFit, last_moment}
 use Rattle.pl_facts.specs.declared.entry.Entry.{Entry}
 use Rattle.pl_facts.specs.declared.fact.Fact.{Fact}
+use Rattle.pl_history.specs.Legal.{Legal}
+use Rattle.pl_history.specs.History.{Opening, facts_of, log_of}
 use Rattle.pl_journal.specs.Log.{Log}
 use Rattle.pl_step.specs.Full.{back, with_facts}
 
@@ -46,33 +46,8 @@ taken_back opening entries more =
     ap (λ (facts : List Fact). record (log_of opening entries) { facts = facts })
     (take-append_seam (opening.facts ++ facts_of entries) more)
 
-pub made_last : (opening : Opening) (entries : List Entry) (entry : Entry) →
-    record (with_facts (log_of opening entries) entry.facts) {
-      installed = length (with_facts (log_of opening entries) entry.facts).facts;
-    } ≡ log_of opening (entries ++ entry ∷ [])
-unfolding log_of
-made_last opening entries entry =
-    ap (λ (facts : List Fact). record (log_of opening entries) {
-      facts = facts;
-      installed = length facts;
-    }) (flat_map_more (λ (one : Entry). one.facts) opening.facts entries entry)
-
 pub nothing_behind : (log : Log) → with_facts log [] ≡ log
 nothing_behind log = ap (λ (facts : List Fact). record log { facts = facts }) (append-nil log.facts)
-
--- ---- one entry more is legal
-
-pub legal_more : (opening : Opening) (before entries : List Entry) (entry : Entry) →
-    LegalFrom opening before entries → Follows opening (before ++ entries) entry →
-    LegalFrom opening before (entries ++ entry ∷ [])
-legal_more opening before [] entry legal follows =
-    (subst (λ (es : List Entry). Follows opening es entry) (append-nil before) follows, tt)
-legal_more opening before (one ∷ entries) entry legal follows = (
-  legal.0,
-  legal_more opening (before ++ one ∷ []) entries entry legal.1
-      (subst (λ (es : List Entry). Follows opening es entry)
-      (sym (append_assoc before (one ∷ []) entries)) follows),
-)
 
 -- ---- a journal that is one of entries, and of facts behind theirs
 

@@ -3,13 +3,16 @@ use Rattle.std.proofs.Common.{◌≡◌, ◌≤◌, ℕ, true, List, [], Option,
 use Rattle.std.proofs.Common.{Result, Ok, Err, IfOk, OnErr, sym, subst, ◌∙◌}
 use Rattle.pl_base.specs.declared.memory.Memory.{Memory}
 use Rattle.pl_compilation.specs.Made.{IsMade, IsMadeOf}
-use Rattle.pl_core.specs.Legal.{Follows}
-use Rattle.pl_core.specs.Made.{IsMadeFor}
-use Rattle.pl_core.specs.Prepared.{IsEntryOf, IsPrepared, added_by, next_number}
+use Rattle.pl_core.specs.Prepared.{IsEntryOf, IsPrepared, added_by, entries_with, next_number}
 use Rattle.pl_core.specs.State.{State, held, log}
 use Rattle.pl_core.specs.declared.prepared.Prepared.{Prepared}
 use Rattle.pl_facts.specs.declared.entry.Entry.{Entry}
 use Rattle.pl_facts.specs.declared.fact.Fact.{Fact}
+use Rattle.pl_history.specs.Guarded.{IsGuarded}
+use Rattle.pl_history.specs.History.{Opening}
+use Rattle.pl_history.specs.Legal.{Follows, Legal}
+use Rattle.pl_history.specs.Made.{IsMadeFor}
+use Rattle.pl_history.proofs.Longer.{legal_more}
 use Rattle.pl_journal.specs.Log.{Log, last_moment}
 use Rattle.pl_plan.specs.declared.plan.Compiled.{Compiled}
 use Rattle.pl_queueing.specs.Queueing.{Made}
@@ -105,6 +108,27 @@ module _ (now new : State) (seat : ℕ) (call : Call) (made : Made)
         (follows reply entry steps is)),
     pending,
   )
+
+  legal_with : (reply : Reply) (entry : Option Entry) → Legal now.opening now.entries →
+      IsStep (held now) (log now) call made (stepped_with reply (added_by entry)) →
+      IsEntryOf (next_number now) seat call entry →
+      Legal now.opening (entries_with now.entries entry)
+  legal_with reply None legal steps is = legal
+  legal_with reply (Some entry) legal steps is =
+      legal_more now.opening [] now.entries entry legal (follows reply entry steps is)
+
+  pub guarded_by : ((opening : Opening) (entries : List Entry) → Legal opening entries →
+      IsGuarded opening entries) → Legal now.opening now.entries →
+      (result : Result Prepared Memory) →
+      IfOk result (λ prepared. IsStep (held now) (log now) call made
+      (stepped_with prepared.reply (added_by prepared.entry))) →
+      IfOk result (λ prepared. IsEntryOf (next_number now) seat call prepared.entry) →
+      IfOk result (λ prepared.
+      IsGuarded now.opening (entries_with now.entries prepared.entry))
+  guarded_by laws legal (Ok prepared) steps is =
+      laws now.opening (entries_with now.entries prepared.entry)
+      (legal_with prepared.reply prepared.entry legal steps is)
+  guarded_by laws legal (Err memory) steps is = tt
 
   pub prepared_by : (result : Result Prepared Memory) →
       IfOk result (λ prepared. new.pending ≡ added_by prepared.entry) →

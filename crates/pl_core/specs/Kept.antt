@@ -1,11 +1,11 @@
 -- How the state is kept: in a journal, beside a list of the entries.
 use Rattle.std.specs.Prelude.{◌≡◌, ◌≤◌, ℕ, List, drop, take}
-use Rattle.pl_core.specs.Legal.{Legal}
-use Rattle.pl_core.specs.State.{Opening, log_of}
 use Rattle.pl_due.specs.Fit.{AreFit, last_moment}
 use Rattle.pl_facts.specs.Sizes.{counted, size_of, total}
 use Rattle.pl_facts.specs.declared.entry.Entry.{Entry}
 use Rattle.pl_facts.specs.declared.fact.Fact.{Fact}
+use Rattle.pl_history.specs.Legal.{Legal}
+use Rattle.pl_history.specs.History.{Opening, log_of}
 use Rattle.pl_journal.specs.Log.{Log, version}
 use Rattle.pl_journal.specs.Log as journal
 use Rattle.pl_step.specs.Full.{with_facts}

@@ -1,5 +1,3 @@
 pub mod Kept
-pub mod Legal
-pub mod Made
 pub mod Prepared
 pub mod State

@@ -1,9 +1,9 @@
 -- What is prepared for a call, and what installing it leaves.
 use Rattle.std.specs.Prelude.{◌≡◌, ◌+◌, ◌++◌, ℕ, List, [], ◌∷◌, length, Option, Some, None}
-use Rattle.pl_core.specs.Legal.{Follows}
 use Rattle.pl_core.specs.State.{State}
 use Rattle.pl_facts.specs.declared.entry.Entry.{Entry}
 use Rattle.pl_facts.specs.declared.fact.Fact.{Fact}
+use Rattle.pl_history.specs.Legal.{Follows}
 use Rattle.pl_requests.specs.declared.call.Call.{Call}
 
 -- the facts that a call adds

@@ -1,10 +1,13 @@
 ghost use Rattle.std.specs.Prelude.{◌≡◌, ◌≤◌, [], true, Some, IfOk, OnErr};
-ghost use Rattle.pl_core.specs.Legal.{Legal};
-ghost use Rattle.pl_core.specs.Made.{IsMadeFor, WantsFor};
-ghost use Rattle.pl_core.specs.Prepared.{IsEntryOf, IsPrepared, added_by, installed, next_number};
+ghost use Rattle.pl_core.specs.Prepared.{IsEntryOf, IsPrepared, added_by, entries_with, installed};
+ghost use Rattle.pl_core.specs.Prepared.{next_number};
 ghost use Rattle.pl_core.specs.State.{held, log, new_state};
 ghost use Rattle.pl_due.specs.Fit.{last_moment as last_of_all};
 ghost use Rattle.pl_facts.specs.Sizes.{counted};
+ghost use Rattle.pl_history.specs.Claims.{IsOrderly};
+ghost use Rattle.pl_history.specs.Guarded.{IsAnswered, IsGuarded};
+ghost use Rattle.pl_history.specs.Legal.{Legal};
+ghost use Rattle.pl_history.specs.Made.{IsMadeFor, WantsFor};
 ghost use Rattle.pl_journal.specs.Log.{last_moment, version};
 ghost use Rattle.pl_requests.specs.WellFormed.{is_well_formed};
 ghost use Rattle.pl_step.specs.Step.{IsStep, stepped_with};
@@ -14,6 +17,7 @@ use crate::wanting::wanted_for;
 use pl_base::{Digest, Memory, Moment, Refusal, Shared};
 use pl_compilation::compilations_can_run;
 use pl_facts::{Compiled, Entry, size_of};
+use pl_history::{access_laws, claim_laws};
 use pl_open_runs::IndexedJournal;
 use pl_requests::{Call, Reply};
 use pl_snapshots::Snapshot;
@@ -94,12 +98,23 @@ impl Core {
         self.version
     }
 
-    /// The entries since the service was opened, in order: a legal history.
+    /// The entries since the service was opened, in order: a legal history, in which each stage was
+    /// started as the next one, an exclusive resource has one holder at most, and nothing was left
+    /// that was due.
     pub fn entries(&self) -> &[Entry]
         ensures entries { result.now ≡ self.now.entries }
         ensures legal { Legal self.now.opening self.now.entries }
+        ensures guarded { IsGuarded self.now.opening self.now.entries }
     {
+        self.guarded();
         self.entries.as_slice()
+    }
+
+    /// What a legal history makes sure of.
+    fn guarded(&self)
+        ensures { IsGuarded self.now.opening self.now.entries }
+    {
+        access_laws();
     }
 
     /// What a call wants to be compiled, or None where it queues no run, where its caller isn't
@@ -114,6 +129,9 @@ impl Core {
     /// The reply to a call at a seat, and the entry that the call makes: what the step gives. The
     /// state stays as it is, and all memory is taken that `install` needs. What was prepared before
     /// and wasn't installed is gone. Memory where memory is wanting; then nothing is prepared.
+    ///
+    /// A claim is answered with the job exactly where its agent may have it, and else refused by the
+    /// first rule that it breaks; and with the entry the history is one that `entries` promises.
     ///
     /// `made` is what `wanted` was compiled to, and is there exactly where that is.
     pub fn prepare(
@@ -133,9 +151,16 @@ impl Core {
         ensures entry { IfOk result (λ prepared.
             IsEntryOf (next_number self.old) seat call.now prepared.entry) }
         ensures prepared { IfOk result (λ prepared. IsPrepared self.new prepared.entry) }
+        ensures guarded { IfOk result (λ prepared.
+            IsGuarded self.old.opening (entries_with self.old.entries prepared.entry)) }
+        ensures answered { IfOk result (λ prepared. IsOrderly self.old.opening →
+            IsAnswered self.old.opening self.old.entries call.now
+            (stepped_with prepared.reply (added_by prepared.entry))) }
         ensures err { OnErr result (self.new.pending ≡ []) }
     {
         compilations_can_run();
+        access_laws();
+        claim_laws();
         self.journal.back_to_installed();
         self.entries.reserve(1)?;
         let held = Held {
@@ -145,16 +170,19 @@ impl Core {
         prepare(alloc, &mut self.journal, &held, seat, call, made)
     }
 
-    /// Makes what was prepared last true, and gives its reply. It takes no memory.
+    /// Makes what was prepared last true, and gives its reply. It takes no memory. The history is
+    /// one that `entries` promises.
     pub fn install(&mut self, prepared: Prepared) -> Reply
         requires { IsPrepared self.old prepared.entry }
         ensures reply { result ≡ prepared.reply }
         ensures state { self.new ≡ installed prepared.entry self.old }
+        ensures guarded { IsGuarded self.new.opening self.new.entries }
     {
         let Prepared { reply, entry } = prepared;
         if let Some(entry) = entry {
             self.add(entry);
         }
+        self.guarded();
         reply
     }
 

@@ -1,7 +1,7 @@
 //! What a call wants to be compiled.
 
 ghost use Rattle.std.specs.Prelude.{◌≡◌, IfOk};
-ghost use Rattle.pl_core.specs.Made.{WantsFor};
+ghost use Rattle.pl_history.specs.Made.{WantsFor};
 
 use pl_base::Memory;
 use pl_journal::Journal;

@@ -42,14 +42,9 @@ fn used_files(alloc: Global, root: &FileKey, used: List<FileKey>) -> Result<List
 }
 
 /// The whole of an expansion.
-fn whole<F: Files>(alloc: Global, one: RootNode, reach: Reach<F>) -> Result<RootTree, Memory>
-    ensures { IfOk result (λ tree. tree ≡ whole reach.home one reach.used) }
+fn whole(alloc: Global, one: RootNode, home: Home, used: List<FileKey>) -> Result<RootTree, Memory>
+    ensures { IfOk result (λ tree. tree ≡ whole home one used) }
 {
-    let Reach {
-        files: _,
-        home,
-        used,
-    } = reach;
     let Home { root, repositories } = home;
     let used = used_files(alloc, &root, used)?;
     let RootNode {
@@ -71,9 +66,9 @@ fn whole<F: Files>(alloc: Global, one: RootNode, reach: Reach<F>) -> Result<Root
 fn expand_pairs<F: Files>(
     alloc: Global,
     root: &RootMapping<'_>,
-    reach: &mut Reach<F>,
+    reach: &mut Reach<'_, F>,
 ) -> Result<RootNode, ExpandFault>
-    requires { reach.old.used ≡ [] }
+    requires { reach.old.used.now ≡ [] }
     ensures { GivesFrom F.files result reach.old reach.new (λ opens used. pairs_expanded
         (root_mapping root.now.file.now root.now.place.now root.now.pairs.now
         root.now.parameters.now) opens) }
@@ -96,26 +91,19 @@ fn judge_repositories(meter: &Meter, repositories: &List<Repository>) -> Result<
     Ok(())
 }
 
-/// Where paths lead from a root of these pairs. Nothing is called yet.
-fn reach_from<F: Files>(
+/// Where paths lead from a root of these pairs.
+fn home_of(
     alloc: Global,
     meter: &Meter,
-    files: F,
     root: &FileKey,
     pairs: &List<NodePair>,
-) -> Result<Reach<F>, Memory>
-    ensures files { IfOk result (λ reach. reach.files ≡ files) }
-    ensures home { IfOk result (λ reach. reach.home ≡ home_of root.now pairs.now) }
-    ensures used { IfOk result (λ reach. reach.used ≡ []) }
+) -> Result<Home, Memory>
+    ensures { IfOk result (λ home. home ≡ home_of root.now pairs.now) }
 {
     let repositories = repositories_of(alloc, under("resources", pairs))?;
     judge_repositories(meter, &repositories)?;
     let root = root.copy(alloc)?;
-    Ok(Reach {
-        files,
-        home: Home { root, repositories },
-        used: List::new(alloc),
-    })
+    Ok(Home { root, repositories })
 }
 
 /// A root that is a mapping.
@@ -126,10 +114,11 @@ fn expand_mapping<F: Files>(
     place: &Place,
     pairs: &List<NodePair>,
     arguments: &List<Argument>,
-    files: F,
+    files: &mut F,
 ) -> Result<RootTree, ExpandFault>
-    ensures { Gives result (mapping_expanded (F.files files) root.now place.now
+    ensures expanded { Gives result (mapping_expanded (F.files files.old) root.now place.now
         pairs.now arguments.now) }
+    ensures files { F.files files.new ≡ F.files files.old }
 {
     if let Some(first) = first_complaint(alloc, pairs)? {
         return Err(ExpandFault::Refused(first));
@@ -143,25 +132,25 @@ fn expand_mapping<F: Files>(
         parameters: &parameters,
         meter,
     };
-    let mut reach = reach_from(alloc, meter, files, root, pairs)?;
+    let home = home_of(alloc, meter, root, pairs)?;
+    let mut used = List::new(alloc);
+    let mut reach = Reach {
+        files,
+        home: &home,
+        used: &mut used,
+    };
     let one = expand_pairs(alloc, &mapping, &mut reach)?;
-    Ok(whole(alloc, one, reach)?)
+    Ok(whole(alloc, one, home, used)?)
 }
 
-/// Where paths lead from a root without resources. Nothing is called yet.
-fn bare_reach<F: Files>(alloc: Global, files: F, root: &FileKey) -> Result<Reach<F>, Memory>
-    ensures files { IfOk result (λ reach. reach.files ≡ files) }
-    ensures home { IfOk result (λ reach. reach.home ≡ bare_home root.now) }
-    ensures used { IfOk result (λ reach. reach.used ≡ []) }
+/// Where paths lead from a root without resources.
+fn bare_home(alloc: Global, root: &FileKey) -> Result<Home, Memory>
+    ensures { IfOk result (λ home. home ≡ bare_home root.now) }
 {
     let root = root.copy(alloc)?;
-    Ok(Reach {
-        files,
-        home: Home {
-            root,
-            repositories: List::new(alloc),
-        },
-        used: List::new(alloc),
+    Ok(Home {
+        root,
+        repositories: List::new(alloc),
     })
 }
 
@@ -183,15 +172,22 @@ fn expand_bare<F: Files>(
     root: &FileKey,
     node: &Node,
     frame: &Frame,
-    files: F,
+    files: &mut F,
 ) -> Result<RootTree, ExpandFault>
-    ensures { Gives result (bare_expanded (F.files files) root.now node.now
+    ensures expanded { Gives result (bare_expanded (F.files files.old) root.now node.now
         frame.now) }
+    ensures files { F.files files.new ≡ F.files files.old }
 {
-    let mut reach = bare_reach(alloc, files, root)?;
+    let home = bare_home(alloc, root)?;
+    let mut used = List::new(alloc);
+    let mut reach = Reach {
+        files,
+        home: &home,
+        used: &mut used,
+    };
     let scope = Scope { frame, at: ROOT };
     let one = expand_node(alloc, node, scope, 0, &mut reach)?;
-    Ok(whole(alloc, bare_node(one), reach)?)
+    Ok(whole(alloc, bare_node(one), home, used)?)
 }
 
 /// A root that is no mapping.
@@ -201,10 +197,11 @@ fn expand_other<F: Files>(
     root: &FileKey,
     node: &Node,
     arguments: &List<Argument>,
-    files: F,
+    files: &mut F,
 ) -> Result<RootTree, ExpandFault>
-    ensures { Gives result (other_expanded (F.files files) root.now node.now
+    ensures expanded { Gives result (other_expanded (F.files files.old) root.now node.now
         arguments.now) }
+    ensures files { F.files files.new ≡ F.files files.old }
 {
     let parameters = Shared::new(alloc, parameters_by(alloc, meter, None, arguments)?)?;
     let frame = first_frame(alloc, root, &parameters, meter)?;
@@ -218,10 +215,11 @@ fn expand_root<F: Files>(
     root: &FileKey,
     node: &Node,
     arguments: &List<Argument>,
-    files: F,
+    files: &mut F,
 ) -> Result<RootTree, ExpandFault>
-    ensures { Gives result (body_expanded (F.files files) root.now node.now
+    ensures expanded { Gives result (body_expanded (F.files files.old) root.now node.now
         arguments.now) }
+    ensures files { F.files files.new ≡ F.files files.old }
 {
     match &node.body {
         NodeBody::Map(pairs) => {
@@ -242,16 +240,16 @@ fn missing(alloc: Global, root: &FileKey) -> Result<RootTree, ExpandFault>
 }
 
 /// The expansion of a root file with run arguments under a meter, and the count of its nodes.
-pub fn expand_counted<F: Files>(
+fn counted_within<F: Files>(
     alloc: Global,
     meter: &Meter,
-    files: F,
+    files: &mut F,
     root: &FileKey,
     arguments: &List<Argument>,
 ) -> Result<RootTree, ExpandFault>
-    ensures tree { Gives result (tree_of (F.files files) root.now arguments.now) }
+    ensures tree { Gives result (tree_of (F.files files.old) root.now arguments.now) }
+    ensures same { F.files files.new ≡ F.files files.old }
 {
-    let mut files = files;
     match files.node(alloc, root)? {
         Some(file) => {
             let node = node_in(alloc, &file)?;
@@ -261,16 +259,46 @@ pub fn expand_counted<F: Files>(
     }
 }
 
+/// The expansion of a root file with run arguments, and the count of its nodes.
+pub fn expand_counted<F: Files>(
+    alloc: Global,
+    files: &mut F,
+    root: &FileKey,
+    arguments: &List<Argument>,
+) -> Result<RootTree, ExpandFault>
+    ensures tree { Gives result (tree_of (F.files files.old) root.now arguments.now) }
+    ensures same { F.files files.new ≡ F.files files.old }
+{
+    let meter = Meter::new(alloc)?;
+    counted_within(alloc, &meter, files, root, arguments)
+}
+
+/// The expansion of a root file with run arguments, as `expand` gives it, where what is made and
+/// done counts in a meter. Memory where a budget of the meter is passed, which it tells then.
+pub fn expand_within<F: Files>(
+    alloc: Global,
+    meter: &Meter,
+    files: &mut F,
+    root: &FileKey,
+    arguments: &List<Argument>,
+) -> Result<Expanded, ExpandFault>
+    ensures tree { Gives result (expansion (F.files files.old) root.now arguments.now) }
+    ensures same { F.files files.new ≡ F.files files.old }
+{
+    let whole = counted_within(alloc, meter, files, root, arguments)?;
+    Ok(whole.expanded)
+}
+
 /// A pipeline whose templates and expressions are expanded (Microsoft Learn, Azure Pipelines,
 /// "Templates", "Template expressions", "YAML schema reference").
 ///
 /// `root` is the pipeline's file; its ref is the run's ref. `arguments` are the run's arguments, as
-/// texts. What is made and done counts in `meter`. An item whose first key is `template`, directly
-/// in a list under `stages`, `jobs`, `steps` or `variables`, calls the template that its path leads
-/// to, and stands for what that gives; `extends` of the root puts what a template gives behind the
-/// root's own pairs. What comes out is the tree, the root's key, that of the template which it
-/// extends, its repositories, and the files that were used: the root, and each other one once, in
-/// the order in which they were reached.
+/// texts. An item whose first key is `template`, directly in a list under `stages`, `jobs`, `steps`
+/// or `variables`, calls the template that its path leads to, and stands for what that gives;
+/// `extends` of the root puts what a template gives behind the root's own pairs. What comes out is
+/// the tree, the root's key, that of the template which it extends, its repositories, and the files
+/// that were used: the root, and each other one once, in the order in which they were reached. The
+/// files stay as they are.
 ///
 /// The first fault that is met is the answer, each with its place: X1 where the root file isn't
 /// there, X16 where it or an argument isn't in the profile of YAML that is read; X5 and X9 where
@@ -286,16 +314,17 @@ pub fn expand_counted<F: Files>(
 /// out of the repository or no file is there, X2 where it is the 101st file, X16 where that isn't
 /// in the profile, X10 where that extends a template itself, X9 where it isn't of the form that is
 /// called, X14 where its declarations are wrong or the arguments don't fit. Memory may come at any
-/// time, also where a budget of the meter is passed, which it tells then.
+/// time, also where a budget is passed, as where more than `MOST_OPEN` nodes are open at once, over
+/// all calls.
 pub fn expand<F: Files>(
     alloc: Global,
-    meter: &Meter,
-    files: F,
+    files: &mut F,
     root: &FileKey,
     arguments: &List<Argument>,
 ) -> Result<Expanded, ExpandFault>
-    ensures tree { Gives result (expansion (F.files files) root.now arguments.now) }
+    ensures tree { Gives result (expansion (F.files files.old) root.now arguments.now) }
+    ensures same { F.files files.new ≡ F.files files.old }
 {
-    let whole = expand_counted(alloc, meter, files, root, arguments)?;
-    Ok(whole.expanded)
+    let meter = Meter::new(alloc)?;
+    expand_within(alloc, &meter, files, root, arguments)
 }

@@ -38,7 +38,7 @@ pub fn early_by<F: Files>(
     node: Option<&Node>,
     frame: &Frame,
     count: u32,
-    reach: &mut Reach<F>,
+    reach: &mut Reach<'_, F>,
 ) -> Result<Early, ExpandFault>
     ensures early { GivesFrom F.files result reach.old reach.new (λ opens. early_by (option_copied
         node.entry) (followed 100 opens) frame.now count) }
@@ -119,7 +119,7 @@ fn fill_root_pair<F: Files>(
     early: Option<MarkedNode>,
     frame: &Frame,
     filling: RootFilling,
-    reach: &mut Reach<F>,
+    reach: &mut Reach<'_, F>,
 ) -> Result<RootFilling, ExpandFault>
     ensures filled { GivesFrom F.files result reach.old reach.new (λ opens. root_pair (root_key
         pair.now.key) early pair.now opens frame.now filling) }
@@ -145,7 +145,7 @@ fn fill_root_pairs<F: Files>(
     pairs: &List<NodePair>,
     frame: &Frame,
     filling: RootFilling,
-    reach: &mut Reach<F>,
+    reach: &mut Reach<'_, F>,
 ) -> Result<RootFilling, ExpandFault>
     ensures filled { GivesFrom F.files result reach.old reach.new (λ opens. root_pairs early
         pairs.now opens frame.now filling) }
@@ -258,7 +258,7 @@ fn fill_in<F: Files>(
     pairs: &List<NodePair>,
     frame: &Frame,
     early: Early,
-    reach: &mut Reach<F>,
+    reach: &mut Reach<'_, F>,
 ) -> Result<RootNode, ExpandFault>
     ensures filled { GivesFrom F.files result reach.old reach.new (λ opens. filled_in place.now
         pairs.now frame.now opens early) }
@@ -278,7 +278,7 @@ pub fn fill_root<F: Files>(
     alloc: Global,
     root: &RootMapping<'_>,
     early: Early,
-    reach: &mut Reach<F>,
+    reach: &mut Reach<'_, F>,
 ) -> Result<RootNode, ExpandFault>
     ensures filled { GivesFrom F.files result reach.old reach.new (λ opens. filled_root
         (root_mapping root.now.file.now root.now.place.now root.now.pairs.now

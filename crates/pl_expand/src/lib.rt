@@ -8,7 +8,7 @@ mod filling;
 mod merging;
 mod root;
 
-pub use expansion::{expand, expand_counted};
+pub use expansion::{expand, expand_counted, expand_within};
 pub use pl_calls::{Files, Parsed};
 pub use pl_directives::{Complaint, ExpandFault, ExpandProblem};
 pub use pl_root::MemFiles;

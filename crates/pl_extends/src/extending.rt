@@ -111,7 +111,7 @@ fn value_from<F: Files>(
     node: &Node,
     frame: &Frame,
     count: u32,
-    reach: &mut Reach<F>,
+    reach: &mut Reach<'_, F>,
 ) -> Result<SettledPairs, ExpandFault>
     ensures given { GivesFrom F.files result reach.old reach.new (λ opens. value_from node.now
         (followed 100 opens) frame.now count) }
@@ -131,7 +131,7 @@ fn argument_behind<F: Files>(
     pair: &NodePair,
     frame: &Frame,
     before: SettledPairs,
-    reach: &mut Reach<F>,
+    reach: &mut Reach<'_, F>,
 ) -> Result<SettledPairs, ExpandFault>
     ensures given { GivesFrom F.files result reach.old reach.new (λ opens. argument_behind pair.now
         (followed 100 opens) frame.now before) }
@@ -149,7 +149,7 @@ fn arguments_in<F: Files>(
     pairs: &List<NodePair>,
     frame: &Frame,
     count: u32,
-    reach: &mut Reach<F>,
+    reach: &mut Reach<'_, F>,
 ) -> Result<SettledPairs, ExpandFault>
     ensures given { GivesFrom F.files result reach.old reach.new (λ opens. arguments_behind
         pairs.now (followed 100 opens) frame.now (record { pairs = []; count = count })) }
@@ -204,7 +204,7 @@ fn fill_body_pair<F: Files>(
     pair: &NodePair,
     frame: &Frame,
     progress: Progress,
-    reach: &mut Reach<F>,
+    reach: &mut Reach<'_, F>,
 ) -> Result<Progress, ExpandFault>
     ensures filled { GivesFrom F.files result reach.old reach.new (λ opens. body_pair pair.now
         (scope_of (followed 99 opens) frame.now Free) progress) }
@@ -225,7 +225,7 @@ fn fill_body_pairs<F: Files>(
     pairs: &List<NodePair>,
     frame: &Frame,
     progress: Progress,
-    reach: &mut Reach<F>,
+    reach: &mut Reach<'_, F>,
 ) -> Result<Progress, ExpandFault>
     ensures filled { GivesFrom F.files result reach.old reach.new (λ opens. body_pairs pairs.now
         (scope_of (followed 99 opens) frame.now Free) progress) }
@@ -282,7 +282,7 @@ fn fill_extension<F: Files>(
     place: &Place,
     inner: &Frame,
     count: u32,
-    reach: &mut Reach<F>,
+    reach: &mut Reach<'_, F>,
 ) -> Result<Extension, ExpandFault>
     ensures filled { GivesFrom F.files result reach.old reach.new (λ opens. body_filled
         template.now.file.now place.now template.now.pairs.now (scope_of (followed 99 opens)
@@ -302,7 +302,7 @@ fn fill_opened<F: Files>(
     arguments: Option<&List<MarkedPair>>,
     frame: &Frame,
     count: u32,
-    reach: &mut Reach<F>,
+    reach: &mut Reach<'_, F>,
 ) -> Result<Extension, ExpandFault>
     ensures filled { GivesFrom F.files result reach.old reach.new (λ opens. opened_filled opened.now
         shown.now (given_of arguments.entry) (followed 99 opens) frame.now count) }
@@ -355,7 +355,7 @@ fn reach_file<F: Files>(
     arguments: Option<&List<MarkedPair>>,
     frame: &Frame,
     count: u32,
-    reach: &mut Reach<F>,
+    reach: &mut Reach<'_, F>,
 ) -> Result<Extension, ExpandFault>
     ensures filled { GivesFrom F.files result reach.old reach.new (λ opens. reached_filled opens
         (asking at.now path.now shown.now (given_of arguments.entry)) frame.now count) }
@@ -385,7 +385,7 @@ fn extend_mapping<F: Files>(
     pairs: &List<NodePair>,
     frame: &Frame,
     count: u32,
-    reach: &mut Reach<F>,
+    reach: &mut Reach<'_, F>,
 ) -> Result<Extension, ExpandFault>
     ensures extended { GivesFrom F.files result reach.old reach.new (λ opens. mapping_extended opens
         key.now place.now pairs.now frame.now count) }
@@ -449,7 +449,7 @@ fn extend_given<F: Files>(
     pairs: &List<MarkedPair>,
     frame: &Frame,
     count: u32,
-    reach: &mut Reach<F>,
+    reach: &mut Reach<'_, F>,
 ) -> Result<Extension, ExpandFault>
     ensures extended { GivesFrom F.files result reach.old reach.new (λ opens. given_extended opens
         key.now at.now pairs.now frame.now count) }
@@ -474,7 +474,7 @@ pub fn extend_value<F: Files>(
     node: &MarkedNode,
     frame: &Frame,
     count: u32,
-    reach: &mut Reach<F>,
+    reach: &mut Reach<'_, F>,
 ) -> Result<Extension, ExpandFault>
     ensures extended { GivesFrom F.files result reach.old reach.new (λ opens. value_extended opens
         key.now place.now node.now frame.now count) }
@@ -529,7 +529,7 @@ fn extend_pairs<F: Files>(
     pairs: &List<NodePair>,
     frame: &Frame,
     count: u32,
-    reach: &mut Reach<F>,
+    reach: &mut Reach<'_, F>,
 ) -> Result<Extension, ExpandFault>
     ensures extended { GivesFrom F.files result reach.old reach.new (λ opens. pairs_extended
         (are_plain pairs.now) opens key.now node.now pairs.now frame.now count) }
@@ -555,7 +555,7 @@ fn extend_text<F: Files>(
     text: &Text,
     frame: &Frame,
     count: u32,
-    reach: &mut Reach<F>,
+    reach: &mut Reach<'_, F>,
 ) -> Result<Extension, ExpandFault>
     ensures extended { GivesFrom F.files result reach.old reach.new (λ opens. text_extended
         (may_give (form_of text.now)) opens key.now place.now text.now frame.now count) }
@@ -577,7 +577,7 @@ pub fn extend<F: Files>(
     node: &Node,
     frame: &Frame,
     count: u32,
-    reach: &mut Reach<F>,
+    reach: &mut Reach<'_, F>,
 ) -> Result<Extension, ExpandFault>
     ensures extended { GivesFrom F.files result reach.old reach.new (λ opens. extended opens key.now
         node.now frame.now count) }

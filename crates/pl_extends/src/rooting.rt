@@ -146,7 +146,7 @@ fn put_ordinary<F: Files>(
     node: &Node,
     frame: &Frame,
     filling: RootFilling,
-    reach: &mut Reach<F>,
+    reach: &mut Reach<'_, F>,
 ) -> Result<RootFilling, ExpandFault>
     ensures filled { GivesFrom F.files result reach.old reach.new (λ opens. key_put false made.key
         made.origin node.now opens frame.now filling) }
@@ -170,7 +170,7 @@ fn put_key<F: Files>(
     node: &Node,
     frame: &Frame,
     filling: RootFilling,
-    reach: &mut Reach<F>,
+    reach: &mut Reach<'_, F>,
 ) -> Result<RootFilling, ExpandFault>
     ensures filled { GivesFrom F.files result reach.old reach.new (λ opens. key_put (is made.key
         (codes "extends")) made.key made.origin node.now opens frame.now filling) }
@@ -191,7 +191,7 @@ fn put_named<F: Files>(
     node: &Node,
     frame: &Frame,
     filling: RootFilling,
-    reach: &mut Reach<F>,
+    reach: &mut Reach<'_, F>,
 ) -> Result<RootFilling, ExpandFault>
     ensures filled { GivesFrom F.files result reach.old reach.new (λ opens. named_put made.key
         made.origin node.now opens frame.now filling) }
@@ -242,7 +242,7 @@ fn put_given_by<F: Files>(
     pair: &MarkedPair,
     frame: &Frame,
     filling: RootFilling,
-    reach: &mut Reach<F>,
+    reach: &mut Reach<'_, F>,
 ) -> Result<RootFilling, ExpandFault>
     ensures filled { GivesFrom F.files result reach.old reach.new (λ opens. given_by (is
         pair.now.key (codes "extends")) pair.now opens frame.now filling) }
@@ -266,7 +266,7 @@ fn put_given<F: Files>(
     pair: &MarkedPair,
     frame: &Frame,
     filling: RootFilling,
-    reach: &mut Reach<F>,
+    reach: &mut Reach<'_, F>,
 ) -> Result<RootFilling, ExpandFault>
     ensures filled { GivesFrom F.files result reach.old reach.new (λ opens. given_put pair.now opens
         frame.now filling) }
@@ -285,7 +285,7 @@ fn put_all_given<F: Files>(
     pairs: &List<MarkedPair>,
     frame: &Frame,
     filling: RootFilling,
-    reach: &mut Reach<F>,
+    reach: &mut Reach<'_, F>,
 ) -> Result<RootFilling, ExpandFault>
     ensures filled { GivesFrom F.files result reach.old reach.new (λ opens. all_given_put pairs.now
         opens frame.now filling) }
@@ -314,7 +314,7 @@ fn put_value<F: Files>(
     place: &Place,
     frame: &Frame,
     filling: RootFilling,
-    reach: &mut Reach<F>,
+    reach: &mut Reach<'_, F>,
 ) -> Result<RootFilling, ExpandFault>
     ensures filled { GivesFrom F.files result reach.old reach.new (λ opens. value_put (out-Value
         value.now) (problem_of misfit) place.now opens frame.now filling) }
@@ -333,7 +333,7 @@ fn put_text<F: Files>(
     place: &Place,
     frame: &Frame,
     filling: RootFilling,
-    reach: &mut Reach<F>,
+    reach: &mut Reach<'_, F>,
 ) -> Result<RootFilling, ExpandFault>
     ensures filled { GivesFrom F.files result reach.old reach.new (λ opens. text_put text.now
         (problem_of misfit) place.now opens frame.now filling) }
@@ -374,7 +374,7 @@ pub fn put_pair_of<F: Files>(
     pair: &NodePair,
     spot: Spot<'_>,
     filling: RootFilling,
-    reach: &mut Reach<F>,
+    reach: &mut Reach<'_, F>,
 ) -> Result<RootFilling, ExpandFault>
     ensures filled { GivesFrom F.files result reach.old reach.new (λ opens. (pair_seen pair.now).put
         opens spot.entry.frame.now filling) }
@@ -394,7 +394,7 @@ fn put_asked<F: Files>(
     node: &Node,
     spot: Spot<'_>,
     filling: RootFilling,
-    reach: &mut Reach<F>,
+    reach: &mut Reach<'_, F>,
 ) -> Result<RootFilling, ExpandFault>
     ensures filled { GivesFrom F.files result reach.old reach.new (λ opens. asked_put action
         (node_seen node.now) opens spot.entry.frame.now filling) }
@@ -428,7 +428,7 @@ fn put_turns<F: Files>(
     node: &Node,
     spot: Spot<'_>,
     filling: RootFilling,
-    reach: &mut Reach<F>,
+    reach: &mut Reach<'_, F>,
 ) -> Result<RootFilling, ExpandFault>
     ensures filled { GivesFrom F.files result reach.old reach.new (λ opens. turns_put turns.now.name
         (node_seen node.now) turns.now.items opens spot.entry.frame.now filling) }
@@ -453,7 +453,7 @@ fn put_node<F: Files>(
     misfit: Misfit,
     spot: Spot<'_>,
     filling: RootFilling,
-    reach: &mut Reach<F>,
+    reach: &mut Reach<'_, F>,
 ) -> Result<RootFilling, ExpandFault>
     ensures filled { GivesFrom F.files result reach.old reach.new (λ opens. (node_seen node.now).put
         (problem_of misfit) opens spot.entry.frame.now filling) }
@@ -472,7 +472,7 @@ fn put_body<F: Files>(
     misfit: Misfit,
     spot: Spot<'_>,
     filling: RootFilling,
-    reach: &mut Reach<F>,
+    reach: &mut Reach<'_, F>,
 ) -> Result<RootFilling, ExpandFault>
     ensures filled { GivesFrom F.files result reach.old reach.new (λ opens. (body_seen
         node.now.body).put (problem_of misfit) node.now.place opens spot.entry.frame.now filling) }
@@ -501,7 +501,7 @@ fn put_pairs<F: Files>(
     pairs: &List<NodePair>,
     spot: Spot<'_>,
     filling: RootFilling,
-    reach: &mut Reach<F>,
+    reach: &mut Reach<'_, F>,
 ) -> Result<RootFilling, ExpandFault>
     ensures filled { GivesFrom F.files result reach.old reach.new (λ opens. pairs_put (map pair_seen
         pairs.now) opens spot.entry.frame.now filling) }

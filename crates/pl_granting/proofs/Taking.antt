@@ -67,12 +67,12 @@ module _ (facts : List Fact) (agent : AgentSetting) (at : JobOf) where
   free_of idle works takes =
       let is_able_so = first_of_two (pool && able) _ takes in
       let behind = second_of_two (pool && able) _ takes in
-      let is_left_so = first_of_two (ends && untaken) (job_ready && in_room) behind in
-      let is_in_turn_so = second_of_two (ends && untaken) (job_ready && in_room) behind in
+      let is_left_so = first_of_two (untaken && ends) (job_ready && in_room) behind in
+      let is_in_turn_so = second_of_two (untaken && ends) (job_ready && in_room) behind in
       record {
         unended = is_nothing (job_ending at.run at.stage at.job facts)
-            (first_of_two ends untaken is_left_so);
-        untaken = no_other agent.name (holder facts at) (second_of_two ends untaken is_left_so);
+            (second_of_two untaken ends is_left_so);
+        untaken = no_other agent.name (holder facts at) (first_of_two untaken ends is_left_so);
         idle = idle;
         pool = same agent.pool at.planned.pool (first_of_two pool able is_able_so);
         able = second_of_two pool able is_able_so;
@@ -85,11 +85,11 @@ module _ (facts : List Fact) (agent : AgentSetting) (at : JobOf) where
 
   pub takes_of : IsFree facts agent at → may_take facts agent at ≡ true
   takes_of free =
-      both (pool && able) ((ends && untaken) && (job_ready && in_room))
+      both (pool && able) ((untaken && ends) && (job_ready && in_room))
       (both pool able (itself agent.pool at.planned.pool free.pool) free.able)
-      (both (ends && untaken) (job_ready && in_room)
-      (both ends untaken (ap is_none free.unended)
-      (no_taker agent.name (holder facts at) free.untaken))
+      (both (untaken && ends) (job_ready && in_room)
+      (both untaken ends (no_taker agent.name (holder facts at) free.untaken)
+      (ap is_none free.unended))
       (both job_ready in_room free.job_ready
       (is_less (legs_taken facts at) at.planned.max_parallel free.room)))
 

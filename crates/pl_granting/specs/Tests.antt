@@ -18,13 +18,13 @@ use Rattle.pl_views.specs.Ready.{is_ready, job_is_ready}
 abbrev pub is_able : AgentSetting → JobOf → Bool
 is_able agent at = is agent.pool at.planned.pool && list_all (meets agent) at.planned.demands
 
--- it hasn't ended, and no other agent holds it
+-- no other agent holds it, and it hasn't ended
 abbrev pub is_untaken : List Fact → List ℕ → JobOf → Bool
 is_untaken facts agent at = option_map_or (λ other. is other agent) (holder facts at) true
 
 abbrev pub is_left : List Fact → List ℕ → JobOf → Bool
-is_left facts agent at = is_none (job_ending at.run at.stage at.job facts)
-    && is_untaken facts agent at
+is_left facts agent at = is_untaken facts agent at
+    && is_none (job_ending at.run at.stage at.job facts)
 
 -- it waits for no job, and fewer legs of it run than may at once
 abbrev pub is_in_turn : List Fact → JobOf → Bool

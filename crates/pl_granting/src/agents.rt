@@ -27,7 +27,7 @@ fn job_taken<'j>(journal: &'j Journal, event: &Event) -> Option<JobAt<'j>>
     }
 }
 
-/// The job that an agent holds: the one that it took last, until that ends.
+/// The job that an agent holds: one that it took and that hasn't ended.
 pub(crate) fn held_job<'j>(journal: &'j Journal, agent: &Text) -> Option<JobAt<'j>>
     ensures { seen result ≡ spec.held_job journal.now.facts agent.now }
 {
@@ -37,8 +37,7 @@ pub(crate) fn held_job<'j>(journal: &'j Journal, agent: &Text) -> Option<JobAt<'
     }
 }
 
-/// Whether an agent holds a job: it took it, as the last one that it took, and the job hasn't
-/// ended. It takes no memory.
+/// Whether an agent holds a job: it took it, and the job hasn't ended. It takes no memory.
 pub fn is_held_by(journal: &Journal, agent: &Text, at: &JobAt<'_>) -> bool
     ensures { result ≡ spec.is_held_by journal.now.facts agent.now (of at.now) }
 {

@@ -40,11 +40,11 @@ fn is_untaken(journal: &Journal, agent: &Text, at: &JobAt<'_>) -> bool
     }
 }
 
-/// Whether a job hasn't ended, and no other agent holds it.
+/// Whether no other agent holds a job, and it hasn't ended.
 fn is_left(journal: &Journal, agent: &Text, at: &JobAt<'_>) -> bool
     ensures { result ≡ spec.is_left journal.now.facts agent.now (of at.now) }
 {
-    journal.job_ending(at.run, at.stage, at.job).is_none() && is_untaken(journal, agent, at)
+    is_untaken(journal, agent, at) && journal.job_ending(at.run, at.stage, at.job).is_none()
 }
 
 /// Whether a job waits for no job, and fewer legs of it run than may at once.

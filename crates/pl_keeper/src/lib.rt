@@ -22,6 +22,7 @@ pub use in_memory::MemKeeper;
 pub use keeper::Keeper;
 pub use laws::record_laws;
 pub use order::put_in_order;
+pub use parts::row_from;
 pub use pl_fields::DecodeFault;
 pub use records::{
     JobEnd, KeptAgent, KeptDecision, KeptFile, KeptJob, KeptPipeline, KeptPrincipal, KeptResource,

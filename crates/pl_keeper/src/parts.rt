@@ -8,8 +8,10 @@ use pl_base::{Memory, Row};
 use pl_fields::{DecodeFault, Field, Written, decoded, encoded};
 use std::alloc::Global;
 
-/// The row of a table with this key and this body.
-pub(crate) fn row_from<K: Written, B: Written>(
+/// The row of a table with this key and this body, each written as its type is. A row of a record
+/// that isn't at hand as one is so written of what it would hold, by the record's own table. Memory
+/// alone is an error.
+pub fn row_from<K: Written, B: Written>(
     alloc: Global,
     table: u8,
     key: &K,

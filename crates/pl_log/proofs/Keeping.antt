@@ -134,6 +134,21 @@ module _ {X : Type 0} (named : X → Named) (second : X → Option SecondNamed) 
       IsKept named second rows second_rows other
   kept_of rows second_rows kept other is h = kept_as rows second_rows kept other (sym is) h
 
+  -- no item, and no number
+  pub kept_nothing : (rows : Rows) (second_rows : SecondRows) (kept : List (Kept X)) →
+      kept ≡ [] → ((key : Named) → number_at rows key ≡ 0) →
+      ((key : SecondNamed) → second_number_at second_rows key ≡ 0) →
+      IsKept named second rows second_rows kept
+  kept_nothing rows second_rows kept none zeros second_zeros =
+      kept_of rows second_rows [] kept none (record {
+        tied = zeros;
+        second_tied = second_zeros;
+        linked = λ key i d within passes. absurd (omega (arith, within));
+        second_linked = λ key i d within passes. absurd (omega (arith, within));
+        leads = λ link i d within. absurd (omega (arith, within));
+        few = omega arith;
+      })
+
   -- one item more
   pub kept_push :
       (rows new_rows : Rows) (second_rows new_second_rows : SecondRows) (kept : List (Kept X))

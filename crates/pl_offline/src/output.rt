@@ -6,7 +6,7 @@ ghost use Rattle.pl_offline.specs.Output.{IsOutput};
 use pl_base::{Argument, Bytes, List, Memory, Text};
 use pl_budgets::{Budget, Meter};
 use pl_bundle::{Bundle, bundle_of};
-use pl_compile::{CompileFault, compile};
+use pl_compile::{CompileFault, compile_within};
 use pl_plan::Plan;
 use pl_plan_report::plan_text;
 use pl_report::refusal_line;
@@ -43,7 +43,7 @@ fn compiled(
 ) -> Result<Output, Memory>
     ensures { IfOk result (λ output. IsOutput (Some bundle.now) arguments.now output) }
 {
-    match compile(alloc, meter, &bundle.files, &bundle.root, arguments) {
+    match compile_within(alloc, meter, &bundle.files, &bundle.root, arguments) {
         Ok(compiled) => Ok(Output::Plan(text_of(alloc, meter, &compiled.plan)?)),
         Err(CompileFault::Refused(refusal)) => Ok(Output::Line(refusal_line(alloc, &refusal)?)),
         Err(CompileFault::Memory) => Err(Memory),

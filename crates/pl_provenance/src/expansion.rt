@@ -17,8 +17,8 @@ use pl_calls::Files;
 use pl_directives::ExpandFault;
 use std::alloc::Global;
 
-/// The expansion of a root file with run arguments, as `pl_expand::expand` gives it, and what the
-/// laws of this crate say of it, in words that don't speak of expansion.
+/// The expansion of a root file with run arguments under a meter, as `pl_expand::expand_within` gives
+/// it, and what the laws of this crate say of it, in words that don't speak of expansion.
 ///
 /// Where the root extends a template, each key `stages`, `jobs` and `steps` of the tree and each
 /// node and key under it crossed the border `extends` just once, and into that template; and what
@@ -28,27 +28,29 @@ use std::alloc::Global;
 /// into used files that are there, and what no argument and no expression gave stands where its
 /// borders lead from the root file, along the paths under `template` of the items that call; and
 /// each scalar and key of it says what is written where it stands (Microsoft Learn, Azure
-/// Pipelines, "Security through templates"). A fault is the one that `pl_expand::expand` gives.
+/// Pipelines, "Security through templates"). The files stay as they are, and a fault is the one that
+/// `pl_expand::expand_within` gives.
 pub fn expand<F: Files>(
     alloc: Global,
     meter: &Meter,
-    files: F,
+    files: &mut F,
     root: &FileKey,
     arguments: &List<Argument>,
 ) -> Result<Expanded, ExpandFault>
-    ensures tree { Gives result (expansion (F.files files) root.now arguments.now) }
+    ensures tree { Gives result (expansion (F.files files.old) root.now arguments.now) }
+    ensures same { F.files files.new ≡ F.files files.old }
     ensures steps { (file : Key) → IfOk result (λ whole. whole.extends ≡ Some file →
         AllByRecursion (IsPairThrough file) (jobs_of whole.tree)) }
     ensures written { (file : Key) → IfOk result (λ whole. whole.extends ≡ Some file →
-        ArePairsWhereTold (F.files files) (jobs_of whole.tree)) }
+        ArePairsWhereTold (F.files files.old) (jobs_of whole.tree)) }
     ensures closure { (file : Key) → IfOk result (λ whole. whole.extends ≡ Some file →
-        ArePairsFromClosure (F.files files) whole.tree file) }
+        ArePairsFromClosure (F.files files.old) whole.tree file) }
     ensures known { IfOk result (λ whole.
         AllByRecursion
-        (IsKnown (F.files files) (home_in root.now whole) whole.used arguments.now)
+        (IsKnown (F.files files.old) (home_in root.now whole) whole.used arguments.now)
         (origins_of whole.tree)) }
     ensures texts { IfOk result (λ whole.
-        AllByRecursion (IsSaid (F.files files)) (marks_of whole.tree)) }
+        AllByRecursion (IsSaid (F.files files.old)) (marks_of whole.tree)) }
 {
-    pl_expand::expand(alloc, meter, files, root, arguments)
+    pl_expand::expand_within(alloc, meter, files, root, arguments)
 }

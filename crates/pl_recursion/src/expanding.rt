@@ -34,7 +34,7 @@ pub fn expand_node<F: Files>(
     node: &Node,
     scope: Scope<'_>,
     count: u32,
-    reach: &mut Reach<F>,
+    reach: &mut Reach<'_, F>,
 ) -> Result<Counted, ExpandFault>
     ensures gives { GivesFrom F.files result reach.old reach.new (λ opens. expanded node.now
         (scope_of (followed scope.entry.at.calls opens) scope.entry.frame.now scope.entry.at.region)
@@ -65,7 +65,7 @@ fn fill_body<F: Files>(
     misfit: Misfit,
     scope: Scope<'_>,
     progress: Progress,
-    reach: &mut Reach<F>,
+    reach: &mut Reach<'_, F>,
 ) -> Result<Progress, ExpandFault>
     ensures gives { GivesFrom F.files result reach.old reach.new (λ opens. body (part_of node.now)
         (problem_of misfit) (scope_of (followed scope.entry.at.calls opens) scope.entry.frame.now
@@ -109,7 +109,7 @@ fn fill_turns<F: Files>(
     node: &Node,
     scope: Scope<'_>,
     progress: Progress,
-    reach: &mut Reach<F>,
+    reach: &mut Reach<'_, F>,
 ) -> Result<Progress, ExpandFault>
     ensures gives { GivesFrom F.files result reach.old reach.new (λ opens. turns steps.now.name
         (part_of node.now) steps.now.items (scope_of (followed scope.entry.at.calls opens)
@@ -134,7 +134,7 @@ pub fn fill_pair<F: Files>(
     pair: &NodePair,
     scope: Scope<'_>,
     progress: Progress,
-    reach: &mut Reach<F>,
+    reach: &mut Reach<'_, F>,
 ) -> Result<Progress, ExpandFault>
     ensures gives { GivesFrom F.files result reach.old reach.new (λ opens. pair_behind (entry_of
         pair.now) (scope_of (followed scope.entry.at.calls opens) scope.entry.frame.now
@@ -155,7 +155,7 @@ fn fill_asked<F: Files>(
     node: &Node,
     scope: Scope<'_>,
     progress: Progress,
-    reach: &mut Reach<F>,
+    reach: &mut Reach<'_, F>,
 ) -> Result<Progress, ExpandFault>
     ensures gives { GivesFrom F.files result reach.old reach.new (λ opens. done action (part_of
         node.now) (scope_of (followed scope.entry.at.calls opens) scope.entry.frame.now
@@ -189,7 +189,7 @@ pub fn fill_key<F: Files>(
     node: &Node,
     scope: Scope<'_>,
     progress: Progress,
-    reach: &mut Reach<F>,
+    reach: &mut Reach<'_, F>,
 ) -> Result<Progress, ExpandFault>
     ensures gives { GivesFrom F.files result reach.old reach.new (λ opens. done (Put made.key
         made.origin) (part_of node.now) (scope_of (followed scope.entry.at.calls opens)
@@ -225,7 +225,7 @@ fn expand_under<F: Files>(
     node: &Node,
     scope: Scope<'_>,
     progress: &Progress,
-    reach: &mut Reach<F>,
+    reach: &mut Reach<'_, F>,
 ) -> Result<Counted, ExpandFault>
     ensures gives { GivesFrom F.files result reach.old reach.new (λ opens. value_under (is_path
         scope.entry.at.region progress.now.content key.now) key.now (part_of node.now) (scope_of
@@ -266,7 +266,7 @@ fn fill_pairs<F: Files>(
     pairs: &List<NodePair>,
     scope: Scope<'_>,
     progress: Progress,
-    reach: &mut Reach<F>,
+    reach: &mut Reach<'_, F>,
 ) -> Result<Progress, ExpandFault>
     ensures gives { GivesFrom F.files result reach.old reach.new (λ opens. pairs_behind (map
         entry_of pairs.now) (scope_of (followed scope.entry.at.calls opens) scope.entry.frame.now
@@ -286,7 +286,7 @@ fn fill_items<F: Files>(
     items: &List<Node>,
     scope: Scope<'_>,
     progress: Progress,
-    reach: &mut Reach<F>,
+    reach: &mut Reach<'_, F>,
 ) -> Result<Progress, ExpandFault>
     ensures gives { GivesFrom F.files result reach.old reach.new (λ opens. items_behind (map part_of
         items.now) (scope_of (followed scope.entry.at.calls opens) scope.entry.frame.now
@@ -306,7 +306,7 @@ fn fill_item<F: Files>(
     node: &Node,
     scope: Scope<'_>,
     progress: Progress,
-    reach: &mut Reach<F>,
+    reach: &mut Reach<'_, F>,
 ) -> Result<Progress, ExpandFault>
     ensures gives { GivesFrom F.files result reach.old reach.new (λ opens. item_behind (part_of
         node.now) (scope_of (followed scope.entry.at.calls opens) scope.entry.frame.now
@@ -342,7 +342,7 @@ fn fill_mapping<F: Files>(
     pairs: &List<NodePair>,
     scope: Scope<'_>,
     progress: Progress,
-    reach: &mut Reach<F>,
+    reach: &mut Reach<'_, F>,
 ) -> Result<Progress, ExpandFault>
     ensures gives { GivesFrom F.files result reach.old reach.new (λ opens. mapping_item place.now
         (map entry_of pairs.now) (scope_of (followed scope.entry.at.calls opens)

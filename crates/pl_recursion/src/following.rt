@@ -46,7 +46,7 @@ pub fn follow<F: Files>(
     scope: Scope<'_>,
     form: Form,
     count: u32,
-    reach: &mut Reach<F>,
+    reach: &mut Reach<'_, F>,
 ) -> Result<Followed, ExpandFault>
     ensures followed { GivesFrom F.files result reach.old reach.new (λ opens. followed
         scope.entry.at.calls opens scope.entry.frame.now form item.now count) }
@@ -69,7 +69,7 @@ fn descend<F: Files>(
     calling: &Calling<'_>,
     nodes: u32,
     levels: u32,
-    reach: &mut Reach<F>,
+    reach: &mut Reach<'_, F>,
 ) -> Result<Followed, ExpandFault>
     ensures reached { GivesFrom F.files result reach.old reach.new (λ opens. reached (below levels
         opens) opens (call_in calling.now.frame.now calling.now.form (seen calling.now.call.now)
@@ -91,7 +91,7 @@ fn enter_file<F: Files>(
     calling: &Calling<'_>,
     nodes: u32,
     left: u32,
-    reach: &mut Reach<F>,
+    reach: &mut Reach<'_, F>,
 ) -> Result<Followed, ExpandFault>
     ensures found { GivesFrom F.files result reach.old reach.new (λ opens. found_in opened.now
         (followed left opens) (call_in calling.now.frame.now calling.now.form (seen
@@ -155,7 +155,7 @@ fn fill<F: Files>(
     body: &Node,
     calling: &Calling<'_>,
     scope: Scope<'_>,
-    reach: &mut Reach<F>,
+    reach: &mut Reach<'_, F>,
 ) -> Result<Followed, ExpandFault>
     ensures filled { GivesFrom F.files result reach.old reach.new (λ opens. filled_in place.now
         body.now calling.now.form (scope_of (followed scope.entry.at.calls opens)

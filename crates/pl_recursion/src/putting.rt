@@ -25,7 +25,7 @@ pub fn add_item<F: Files>(
     scope: Scope<'_>,
     item: MarkedNode,
     progress: Progress,
-    reach: &mut Reach<F>,
+    reach: &mut Reach<'_, F>,
 ) -> Result<Progress, ExpandFault>
     ensures added { GivesFrom F.files result reach.old reach.new (λ opens. add_item (scope_of
         (followed scope.entry.at.calls opens) scope.entry.frame.now scope.entry.at.region) item
@@ -58,7 +58,7 @@ pub fn put_alone<F: Files>(
     scope: Scope<'_>,
     one: Counted,
     progress: Progress,
-    reach: &mut Reach<F>,
+    reach: &mut Reach<'_, F>,
 ) -> Result<Progress, ExpandFault>
     ensures added { GivesFrom F.files result reach.old reach.new (λ opens. add_item (scope_of
         (followed scope.entry.at.calls opens) scope.entry.frame.now scope.entry.at.region) one.node
@@ -79,7 +79,7 @@ pub fn splice<F: Files>(
     place: &Place,
     content: Content,
     progress: Progress,
-    reach: &mut Reach<F>,
+    reach: &mut Reach<'_, F>,
 ) -> Result<Progress, ExpandFault>
     ensures added { GivesFrom F.files result reach.old reach.new (λ opens. splice (scope_of
         (followed scope.entry.at.calls opens) scope.entry.frame.now scope.entry.at.region)
@@ -99,7 +99,7 @@ fn splice_pairs<F: Files>(
     place: &Place,
     pairs: List<MarkedPair>,
     progress: Progress,
-    reach: &mut Reach<F>,
+    reach: &mut Reach<'_, F>,
 ) -> Result<Progress, ExpandFault>
     ensures added { GivesFrom F.files result reach.old reach.new (λ opens. splice (scope_of
         (followed scope.entry.at.calls opens) scope.entry.frame.now scope.entry.at.region)
@@ -121,7 +121,7 @@ pub fn spread<F: Files>(
     scope: Scope<'_>,
     node: MarkedNode,
     progress: Progress,
-    reach: &mut Reach<F>,
+    reach: &mut Reach<'_, F>,
 ) -> Result<Progress, ExpandFault>
     ensures added { GivesFrom F.files result reach.old reach.new (λ opens. spread (scope_of
         (followed scope.entry.at.calls opens) scope.entry.frame.now scope.entry.at.region) node

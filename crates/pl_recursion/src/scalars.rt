@@ -25,7 +25,7 @@ pub fn expand_scalar<F: Files>(
     scope: Scope<'_>,
     place: &Place,
     count: u32,
-    reach: &mut Reach<F>,
+    reach: &mut Reach<'_, F>,
 ) -> Result<Counted, ExpandFault>
     ensures scalar { GivesFrom F.files result reach.old reach.new (λ opens. scalar_at text.now
         (scope_of (followed scope.entry.at.calls opens) scope.entry.frame.now scope.entry.at.region)

@@ -21,7 +21,7 @@ pub fn settle<F: Files>(
     alloc: Global,
     one: Counted,
     scope: Scope<'_>,
-    reach: &mut Reach<F>,
+    reach: &mut Reach<'_, F>,
 ) -> Result<Counted, ExpandFault>
     ensures settled { GivesFrom F.files result reach.old reach.new (λ opens. node_settling one.node
         (scope_of (followed scope.entry.at.calls opens) scope.entry.frame.now scope.entry.at.region)
@@ -42,7 +42,7 @@ pub fn settle_node<F: Files>(
     node: &MarkedNode,
     scope: Scope<'_>,
     count: u32,
-    reach: &mut Reach<F>,
+    reach: &mut Reach<'_, F>,
 ) -> Result<Counted, ExpandFault>
     ensures settled { GivesFrom F.files result reach.old reach.new (λ opens. node_settling node.now
         (scope_of (followed scope.entry.at.calls opens) scope.entry.frame.now scope.entry.at.region)
@@ -66,7 +66,7 @@ fn settle_value<F: Files>(
     value: &Value,
     scope: Scope<'_>,
     count: u32,
-    reach: &mut Reach<F>,
+    reach: &mut Reach<'_, F>,
 ) -> Result<SettledValue, ExpandFault>
     ensures settled { GivesFrom F.files result reach.old reach.new (λ opens. (value_seen
         value.now).settled (scope_of (followed scope.entry.at.calls opens) scope.entry.frame.now
@@ -100,7 +100,7 @@ fn settle_items<F: Files>(
     items: &List<MarkedNode>,
     scope: Scope<'_>,
     count: u32,
-    reach: &mut Reach<F>,
+    reach: &mut Reach<'_, F>,
 ) -> Result<Followed, ExpandFault>
     ensures settled { GivesFrom F.files result reach.old reach.new (λ opens. items_behind (map
         node_seen items.now) (scope_of (followed scope.entry.at.calls opens) scope.entry.frame.now
@@ -124,7 +124,7 @@ fn settle_item<F: Files>(
     item: &MarkedNode,
     scope: Scope<'_>,
     before: Followed,
-    reach: &mut Reach<F>,
+    reach: &mut Reach<'_, F>,
 ) -> Result<Followed, ExpandFault>
     ensures settled { GivesFrom F.files result reach.old reach.new (λ opens. item_behind (node_seen
         item.now) (scope_of (followed scope.entry.at.calls opens) scope.entry.frame.now
@@ -148,7 +148,7 @@ fn settle_pairs<F: Files>(
     pairs: &List<MarkedPair>,
     scope: Scope<'_>,
     count: u32,
-    reach: &mut Reach<F>,
+    reach: &mut Reach<'_, F>,
 ) -> Result<SettledPairs, ExpandFault>
     ensures settled { GivesFrom F.files result reach.old reach.new (λ opens. pairs_behind (map
         pair_seen pairs.now) (scope_of (followed scope.entry.at.calls opens) scope.entry.frame.now
@@ -171,7 +171,7 @@ fn settle_pair<F: Files>(
     pair: &MarkedPair,
     scope: Scope<'_>,
     before: SettledPairs,
-    reach: &mut Reach<F>,
+    reach: &mut Reach<'_, F>,
 ) -> Result<SettledPairs, ExpandFault>
     ensures settled { GivesFrom F.files result reach.old reach.new (λ opens. pair_behind (pair_seen
         pair.now) (scope_of (followed scope.entry.at.calls opens) scope.entry.frame.now

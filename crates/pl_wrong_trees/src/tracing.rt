@@ -21,22 +21,23 @@ use std::alloc::Global;
 pub fn traced<F: Files>(
     alloc: Global,
     meter: &Meter,
-    files: F,
+    files: &mut F,
     root: &FileKey,
     arguments: &List<Argument>,
 ) -> Result<Expanded, ExpandFault>
+    ensures same { F.files files.new ≡ F.files files.old }
     ensures steps { (file : Key) → IfOk result (λ whole. whole.extends ≡ Some file →
         AllByRecursion (IsPairThrough file) (jobs_of whole.tree)) }
     ensures written { (file : Key) → IfOk result (λ whole. whole.extends ≡ Some file →
-        ArePairsWhereTold (F.files files) (jobs_of whole.tree)) }
+        ArePairsWhereTold (F.files files.old) (jobs_of whole.tree)) }
     ensures closure { (file : Key) → IfOk result (λ whole. whole.extends ≡ Some file →
-        ArePairsFromClosure (F.files files) whole.tree file) }
+        ArePairsFromClosure (F.files files.old) whole.tree file) }
     ensures known { IfOk result (λ whole.
         AllByRecursion
-        (IsKnown (F.files files) (home_in root.now whole) whole.used arguments.now)
+        (IsKnown (F.files files.old) (home_in root.now whole) whole.used arguments.now)
         (origins_of whole.tree)) }
     ensures texts { IfOk result (λ whole.
-        AllByRecursion (IsSaid (F.files files)) (marks_of whole.tree)) }
+        AllByRecursion (IsSaid (F.files files.old)) (marks_of whole.tree)) }
 {
     pl_provenance::expand(alloc, meter, files, root, arguments)
 }

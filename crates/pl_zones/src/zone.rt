@@ -19,18 +19,18 @@ use std::alloc::Global;
 use std::fmt;
 use std::marker::Model;
 
-/// A time zone by its text. Contracts see it as that text; what `jiff` read from it is kept.
+/// A time zone by its text. Contracts see it as that text. What `jiff` reads from it isn't kept: the
+/// text is short, and a type of `jiff` in this one would be proved with in every crate that holds a
+/// zone.
 #[derive(Drop)]
 pub struct Zone {
     text: Text,
-    clock: TimeZone<'static>,
 }
 
 impl Model for Zone {
     ghost use Rattle.std.specs.Prelude.{List as list, ℕ};
     ghost use Rattle.std.specs.Coded.{coded_list, coded_ℕ};
-    ghost use Rattle.jiff.specs.ZoneView.{plain_zone};
-    ghost use Rattle.pl_zones.specs.Zones.{IsClockOf};
+    ghost use Rattle.pl_zones.specs.Zones.{IsZoneText};
 
     ghost Value = { list ℕ };
 
@@ -38,7 +38,7 @@ impl Model for Zone {
 
     ghost view = { λ zone. zone.text };
 
-    ghost invariant = { λ zone. IsClockOf zone.text (plain_zone zone.clock) };
+    ghost invariant = { λ zone. IsZoneText zone.text };
 }
 
 /// Why a text names no zone.
@@ -64,7 +64,10 @@ impl Zone {
         ensures value { IsOffsetAt self.now moment result }
         ensures within { IsWithin 93599 result }
     {
-        self.clock.to_offset(instant_of(moment)).seconds()
+        match clock_of(self.text.as_str()) {
+            Some(clock) => clock.to_offset(instant_of(moment)).seconds(),
+            None => unreachable!(),
+        }
     }
 
     /// What the zone's clocks show at a moment.
@@ -86,10 +89,7 @@ impl fmt::Debug for Zone {
 impl ExactCopy for Zone {
     fn copy(&self, alloc: Global) -> Result<Zone, Memory> {
         let text = self.text.copy(alloc)?;
-        Ok(Zone {
-            text,
-            clock: self.clock,
-        })
+        Ok(Zone { text })
     }
 }
 
@@ -140,11 +140,11 @@ pub fn zone_of(alloc: Global, text: &Text) -> Result<Zone, ZoneFault>
     ensures readable { OnOk result (IsZoneText text.now) }
     ensures unreadable { IsErrOf result ZoneFault.Unreadable → ¬ IsZoneText text.now }
 {
-    let Some(clock) = clock_of(text.as_str()) else {
+    let Some(_) = clock_of(text.as_str()) else {
         return Err(ZoneFault::Unreadable);
     };
     match text.copy(alloc) {
-        Ok(text) => Ok(Zone { text, clock }),
+        Ok(text) => Ok(Zone { text }),
         Err(Memory) => Err(ZoneFault::Memory),
     }
 }

@@ -16,10 +16,13 @@ following::descend-returns-clause-reached g t c =
     (seen c.args.calling.now.call.now) c.args.calling.now.count in
     record {
       given =
-          descends _ _ _ _ calling c.args.reach.now.used _ _ _ _ c.in-Some.ensures.0
+          descends _ _ _ _ calling c.args.reach.now.used.now _ _ _ _ c.in-Some.ensures.0
           c.in-Some.ensures.1 c.in_ok-opened.ensures.given same c.enter_file.ensures.found.given;
       files = cc (c.enter_file.ensures.found.files, c.in_ok-opened.ensures.files);
       home = cc (c.enter_file.ensures.found.home, c.in_ok-opened.ensures.home);
+      files_lent =
+          cc (c.enter_file.ensures.found.files_lent, c.in_ok-opened.ensures.files_lent);
+      used_lent = cc (c.enter_file.ensures.found.used_lent, c.in_ok-opened.ensures.used_lent);
     }
 
 pub putting::spread-returns-in_default : goal.putting::spread-returns-in_default
@@ -32,5 +35,7 @@ putting::spread-returns-in_default g t c =
         given = spread_alone _ c.args.node _ _ other _ _ c.add_item.ensures.added.given;
         files = c.add_item.ensures.added.files;
         home = c.add_item.ensures.added.home;
+        files_lent = c.add_item.ensures.added.files_lent;
+        used_lent = c.add_item.ensures.added.used_lent;
       };
     }

@@ -101,12 +101,14 @@ invariant-expanding::fill_items-loop-item g l = record {
   gives :
       items_behind (map part_of l.items)
       (scope_of (followed l.scope.at.calls (ways g.F.Files.files l.fn.reach))
-      l.scope.frame.now l.scope.at.region) l.fn.progress l.fn.reach.used
+      l.scope.frame.now l.scope.at.region) l.fn.progress l.fn.reach.used.now
       ≡ items_behind (map part_of (drop l.item-index l.item-items))
       (scope_of (followed l.scope.at.calls (ways g.F.Files.files l.fn.reach))
-      l.scope.frame.now l.scope.at.region) l.after l.reach.used;
-  files : g.F.Files.files l.reach.files ≡ g.F.Files.files l.fn.reach.files;
+      l.scope.frame.now l.scope.at.region) l.after l.reach.used.now;
+  files : g.F.Files.files l.reach.files.now ≡ g.F.Files.files l.fn.reach.files.now;
   home : l.reach.home ≡ l.fn.reach.home;
+  files_lent : l.reach.files.ghost_name ≡ l.fn.reach.files.ghost_name;
+  used_lent : l.reach.used.ghost_name ≡ l.fn.reach.used.ghost_name;
 }
 
 abbrev pub invariant-expanding::fill_pairs-loop-pair :
@@ -115,12 +117,14 @@ invariant-expanding::fill_pairs-loop-pair g l = record {
   gives :
       pairs_behind (map entry_of l.pairs)
       (scope_of (followed l.scope.at.calls (ways g.F.Files.files l.fn.reach))
-      l.scope.frame.now l.scope.at.region) l.fn.progress l.fn.reach.used
+      l.scope.frame.now l.scope.at.region) l.fn.progress l.fn.reach.used.now
       ≡ pairs_behind (map entry_of (drop l.pair-index l.pair-items))
       (scope_of (followed l.scope.at.calls (ways g.F.Files.files l.fn.reach))
-      l.scope.frame.now l.scope.at.region) l.after l.reach.used;
-  files : g.F.Files.files l.reach.files ≡ g.F.Files.files l.fn.reach.files;
+      l.scope.frame.now l.scope.at.region) l.after l.reach.used.now;
+  files : g.F.Files.files l.reach.files.now ≡ g.F.Files.files l.fn.reach.files.now;
   home : l.reach.home ≡ l.fn.reach.home;
+  files_lent : l.reach.files.ghost_name ≡ l.fn.reach.files.ghost_name;
+  used_lent : l.reach.used.ghost_name ≡ l.fn.reach.used.ghost_name;
 }
 
 abbrev pub invariant-expanding::fill_turns-loop-item :
@@ -129,12 +133,14 @@ invariant-expanding::fill_turns-loop-item g l = record {
   gives :
       turns l.steps.name (part_of l.node) l.steps.items
       (scope_of (followed l.scope.at.calls (ways g.F.Files.files l.fn.reach))
-      l.scope.frame.now l.scope.at.region) l.fn.progress l.fn.reach.used
+      l.scope.frame.now l.scope.at.region) l.fn.progress l.fn.reach.used.now
       ≡ turns l.steps.name (part_of l.node) (drop l.item-index l.item-items)
       (scope_of (followed l.scope.at.calls (ways g.F.Files.files l.fn.reach))
-      l.scope.frame.now l.scope.at.region) l.after l.reach.used;
-  files : g.F.Files.files l.reach.files ≡ g.F.Files.files l.fn.reach.files;
+      l.scope.frame.now l.scope.at.region) l.after l.reach.used.now;
+  files : g.F.Files.files l.reach.files.now ≡ g.F.Files.files l.fn.reach.files.now;
   home : l.reach.home ≡ l.fn.reach.home;
+  files_lent : l.reach.files.ghost_name ≡ l.fn.reach.files.ghost_name;
+  used_lent : l.reach.used.ghost_name ≡ l.fn.reach.used.ghost_name;
 }
 
 abbrev pub invariant-settling::settle_items-loop-item :
@@ -143,12 +149,14 @@ invariant-settling::settle_items-loop-item g l = record {
   gives :
       settling.items_behind (map node_seen l.items)
       (scope_of (followed l.scope.at.calls (ways g.F.Files.files l.fn.reach))
-      l.scope.frame.now l.scope.at.region) (record { items = []; count = l.count }) l.fn.reach.used
+      l.scope.frame.now l.scope.at.region) (record { items = []; count = l.count }) l.fn.reach.used.now
       ≡ settling.items_behind (map node_seen (drop l.item-index l.item-items))
       (scope_of (followed l.scope.at.calls (ways g.F.Files.files l.fn.reach))
-      l.scope.frame.now l.scope.at.region) l.all l.reach.used;
-  files : g.F.Files.files l.reach.files ≡ g.F.Files.files l.fn.reach.files;
+      l.scope.frame.now l.scope.at.region) l.all l.reach.used.now;
+  files : g.F.Files.files l.reach.files.now ≡ g.F.Files.files l.fn.reach.files.now;
   home : l.reach.home ≡ l.fn.reach.home;
+  files_lent : l.reach.files.ghost_name ≡ l.fn.reach.files.ghost_name;
+  used_lent : l.reach.used.ghost_name ≡ l.fn.reach.used.ghost_name;
 }
 
 abbrev pub invariant-settling::settle_pairs-loop-pair :
@@ -157,10 +165,12 @@ invariant-settling::settle_pairs-loop-pair g l = record {
   gives :
       settling.pairs_behind (map pair_seen l.pairs)
       (scope_of (followed l.scope.at.calls (ways g.F.Files.files l.fn.reach))
-      l.scope.frame.now l.scope.at.region) (record { pairs = []; count = l.count }) l.fn.reach.used
+      l.scope.frame.now l.scope.at.region) (record { pairs = []; count = l.count }) l.fn.reach.used.now
       ≡ settling.pairs_behind (map pair_seen (drop l.pair-index l.pair-items))
       (scope_of (followed l.scope.at.calls (ways g.F.Files.files l.fn.reach))
-      l.scope.frame.now l.scope.at.region) l.all l.reach.used;
-  files : g.F.Files.files l.reach.files ≡ g.F.Files.files l.fn.reach.files;
+      l.scope.frame.now l.scope.at.region) l.all l.reach.used.now;
+  files : g.F.Files.files l.reach.files.now ≡ g.F.Files.files l.fn.reach.files.now;
   home : l.reach.home ≡ l.fn.reach.home;
+  files_lent : l.reach.files.ghost_name ≡ l.fn.reach.files.ghost_name;
+  used_lent : l.reach.used.ghost_name ≡ l.fn.reach.used.ghost_name;
 }

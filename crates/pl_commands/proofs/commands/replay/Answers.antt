@@ -1,15 +1,17 @@
 use Rattle.std.proofs.Common.{◌≡◌, ◌∙◌, sym, ap, refl, subst, ℕ, [], Option}
+use Rattle.pl_alone.specs.Desk.{Parts}
 use Rattle.pl_base.specs.declared.digest.Digest.{Digest}
-use Rattle.pl_core.specs.State.{opened}
 use Rattle.pl_commands.specs.declared.served.Served.{Served}
 use Rattle.pl_commands.specs.declared.served.Served.TheVariants as served
 use Rattle.pl_commands.specs.declared.status.Status.{Status}
 use Rattle.pl_commands.specs.declared.status.Status.TheVariants as status
-use Rattle.pl_alone.specs.Desk.{Parts}
 use Rattle.pl_commands.specs.Run.{Outside, Replays, start}
 use Rattle.pl_commands.specs.Session.{Point, Session}
 use Rattle.pl_commands.specs.Statuses.{status_of}
 use Rattle.pl_commands.specs.Told.{Told, told_by_ends}
+use Rattle.pl_history.specs.Access.{IsSound}
+use Rattle.pl_history.specs.Claims.{IsOrderly}
+use Rattle.pl_history.specs.History.{opened}
 use Rattle.pl_commands.proofs.Endings.{ends_at_once}
 use Rattle.pl_commands.proofs.commands.replay.Goals as goal
 
@@ -22,34 +24,42 @@ around link coming = record { link = link; coming = coming }
 -- a session with this clock and this desk is a replay
 replays_by : (admin : Digest) (coming clocked later : Option (ℕ → ℕ)) (first desk : Parts)
     (old new : Told) (served : Served) (ending : Status)
+    → IsSound (opened admin) → IsOrderly (opened admin)
     → clocked ≡ coming → first ≡ record { opening = opened admin; seen = [] }
     → ending ≡ status_of served
     → Session (at old clocked first) (at new later desk) served
     → Replays admin (around old coming) new ending
-replays_by admin coming clocked later first desk old new served ending clock first_is is session =
+replays_by admin coming clocked later first desk old new served ending sound orderly clock first_is
+    is session =
     let so_far : Session (at old coming first) (at new later desk) served =
     subst (λ moments. Session (at old moments first) (at new later desk) served) clock session in
     record {
       served = served;
       later = later;
       desk = desk;
+      sound = sound;
+      orderly = orderly;
       ending_is = is;
       session =
           subst (λ parts. Session (at old coming parts) (at new later desk) served) first_is so_far;
     }
 
 -- where there is no desk nothing is replayed
-nothing_replayed : (admin : Digest) (old : Outside) → Replays admin old old.link status.Memory
-nothing_replayed admin old = record {
+nothing_replayed : (admin : Digest) (old : Outside) → IsSound (opened admin) →
+    IsOrderly (opened admin) → Replays admin old old.link status.Memory
+nothing_replayed admin old sound orderly = record {
   served = served.Memory;
   later = old.coming;
   desk = record { opening = opened admin; seen = [] };
+  sound = sound;
+  orderly = orderly;
   ending_is = refl;
   session = ends_at_once (start admin old);
 }
 
 pub returns-in-Err : goal.returns-in-Err
-returns-in-Err g c = nothing_replayed c.args.admin _
+returns-in-Err g c = nothing_replayed c.args.admin _ (c.access_laws.ensures.sound c.args.admin)
+    (c.claim_laws.ensures.orderly c.args.admin)
 
 pub returns : goal.returns
 returns g c =
@@ -62,6 +72,7 @@ returns g c =
     let replays =
     replays_by c.args.admin coming _ _ _ _ (tell c.ends.result.now)
     (tell c.replay_link-served.new.link) c.replay_link-served.result c.status.result
+    (c.access_laws.ensures.sound c.args.admin) (c.claim_laws.ensures.orderly c.args.admin)
     c.clock-clock.ensures.coming c.in-Ok.ensures
     c.status.ensures c.replay_link-served.ensures in
     subst

@@ -28,11 +28,13 @@ abbrev pub invariant-put_pairs-loop-pair : goal.invariant-put_pairs-loop-pair
 invariant-put_pairs-loop-pair g l = record {
   filled :
       pairs_put (map pair_seen l.pairs) (ways g.F.Files.files l.fn.reach)
-      l.spot.frame.now l.fn.filling l.fn.reach.used
+      l.spot.frame.now l.fn.filling l.fn.reach.used.now
       ≡ pairs_put (map pair_seen (drop l.pair-index l.pair-items))
-      (ways g.F.Files.files l.fn.reach) l.spot.frame.now l.after l.reach.used;
-  files : g.F.Files.files l.reach.files ≡ g.F.Files.files l.fn.reach.files;
+      (ways g.F.Files.files l.fn.reach) l.spot.frame.now l.after l.reach.used.now;
+  files : g.F.Files.files l.reach.files.now ≡ g.F.Files.files l.fn.reach.files.now;
   home : l.reach.home ≡ l.fn.reach.home;
+  files_lent : l.reach.files.ghost_name ≡ l.fn.reach.files.ghost_name;
+  used_lent : l.reach.used.ghost_name ≡ l.fn.reach.used.ghost_name;
 }
 
 abbrev pub invariant-put_turns-loop-item : goal.invariant-put_turns-loop-item
@@ -40,9 +42,11 @@ invariant-put_turns-loop-item g l = record {
   filled :
       turns_put l.turns.name (node_seen l.node) l.turns.items
       (ways g.F.Files.files l.fn.reach) l.spot.frame.now l.fn.filling
-      l.fn.reach.used
+      l.fn.reach.used.now
       ≡ turns_put l.turns.name (node_seen l.node) (drop l.item-index l.item-items)
-      (ways g.F.Files.files l.fn.reach) l.spot.frame.now l.after l.reach.used;
-  files : g.F.Files.files l.reach.files ≡ g.F.Files.files l.fn.reach.files;
+      (ways g.F.Files.files l.fn.reach) l.spot.frame.now l.after l.reach.used.now;
+  files : g.F.Files.files l.reach.files.now ≡ g.F.Files.files l.fn.reach.files.now;
   home : l.reach.home ≡ l.fn.reach.home;
+  files_lent : l.reach.files.ghost_name ≡ l.fn.reach.files.ghost_name;
+  used_lent : l.reach.used.ghost_name ≡ l.fn.reach.used.ghost_name;
 }

@@ -20,42 +20,42 @@ returns-clause-steps g c = λ file.
     given_so
     (λ (whole : Expanded).
     whole.extends ≡ Some file → AllByRecursion (IsPairThrough file) (jobs_of whole.tree))
-    c.expand.result _ c.expand.ensures.tree
-    (steps_through (g.F.Files.files c.args.files) c.args.root.now c.args.arguments.now file)
+    c.expand_within.result _ c.expand_within.ensures.tree
+    (steps_through (g.F.Files.files c.args.files.now) c.args.root.now c.args.arguments.now file)
 
 pub returns-clause-written : goal.returns-clause-written
 returns-clause-written g c = λ file.
     given_so
     (λ (whole : Expanded).
     whole.extends ≡ Some file
-    → ArePairsWhereTold (g.F.Files.files c.args.files) (jobs_of whole.tree))
-    c.expand.result _ c.expand.ensures.tree
-    (written (g.F.Files.files c.args.files) c.args.root.now c.args.arguments.now file)
+    → ArePairsWhereTold (g.F.Files.files c.args.files.now) (jobs_of whole.tree))
+    c.expand_within.result _ c.expand_within.ensures.tree
+    (written (g.F.Files.files c.args.files.now) c.args.root.now c.args.arguments.now file)
 
 pub returns-clause-closure : goal.returns-clause-closure
 returns-clause-closure g c = λ file.
     given_so
     (λ (whole : Expanded).
     whole.extends ≡ Some file
-    → ArePairsFromClosure (g.F.Files.files c.args.files) whole.tree file)
-    c.expand.result _ c.expand.ensures.tree
-    (closure (g.F.Files.files c.args.files) c.args.root.now c.args.arguments.now file)
+    → ArePairsFromClosure (g.F.Files.files c.args.files.now) whole.tree file)
+    c.expand_within.result _ c.expand_within.ensures.tree
+    (closure (g.F.Files.files c.args.files.now) c.args.root.now c.args.arguments.now file)
 
 pub returns-clause-known : goal.returns-clause-known
 returns-clause-known g c =
     given_so
     (λ (whole : Expanded).
     AllByRecursion
-    (IsKnown (g.F.Files.files c.args.files) (home_in c.args.root.now whole) whole.used
+    (IsKnown (g.F.Files.files c.args.files.now) (home_in c.args.root.now whole) whole.used
     c.args.arguments.now)
     (origins_of whole.tree))
-    c.expand.result _ c.expand.ensures.tree
-    (known (g.F.Files.files c.args.files) c.args.root.now c.args.arguments.now)
+    c.expand_within.result _ c.expand_within.ensures.tree
+    (known (g.F.Files.files c.args.files.now) c.args.root.now c.args.arguments.now)
 
 pub returns-clause-texts : goal.returns-clause-texts
 returns-clause-texts g c =
     given_so
     (λ (whole : Expanded).
-    AllByRecursion (IsSaid (g.F.Files.files c.args.files)) (marks_of whole.tree))
-    c.expand.result _ c.expand.ensures.tree
-    (texts (g.F.Files.files c.args.files) c.args.root.now c.args.arguments.now)
+    AllByRecursion (IsSaid (g.F.Files.files c.args.files.now)) (marks_of whole.tree))
+    c.expand_within.result _ c.expand_within.ensures.tree
+    (texts (g.F.Files.files c.args.files.now) c.args.root.now c.args.arguments.now)

@@ -9,3 +9,4 @@ returns-clause-serves c =
     c.back.ensures c.in_ok-prepared.ensures.opening c.in_ok-prepared.ensures.entries
     c.install-reply.ensures.state c.in_ok-made.ensures c.in_ok-prepared.ensures.steps
     c.in_ok-prepared.ensures.entry c.install-reply.ensures.reply c.entries-entries.ensures.legal
+    c.entries-entries.ensures.guarded c.in_ok-prepared.ensures.answered

@@ -1,10 +1,11 @@
 use Rattle.std.proofs.Common.{◌≡◌, List, ap, sym, subst, ◌∙◌, inl}
 use Rattle.pl_core.specs.Kept.{AreNumbers, IsKept, opening_of, pending_of}
-use Rattle.pl_core.specs.Legal.{Follows}
-use Rattle.pl_core.specs.State.{Opening, State}
+use Rattle.pl_core.specs.State.{State}
 use Rattle.pl_facts.specs.declared.entry.Entry.{Entry}
-use Rattle.pl_journal.specs.Log.{Log, last_moment, version}
 use Rattle.pl_facts.specs.Sizes.{counted}
+use Rattle.pl_history.specs.Legal.{Follows}
+use Rattle.pl_history.specs.History.{Opening}
+use Rattle.pl_journal.specs.Log.{Log, last_moment, version}
 use Rattle.pl_core.proofs.Installing.{kept_more, none_pending, numbers_more, size_more}
 use Rattle.pl_core.proofs.service.Core.add.Goals as goal
 

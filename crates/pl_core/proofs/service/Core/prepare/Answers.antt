@@ -1,16 +1,20 @@
-use Rattle.std.proofs.Common.{◌≡◌, ◌+◌, List, Option, length, sym, ap, subst, ◌∙◌, arith, inr}
+use Rattle.std.proofs.Common.{◌≡◌, ◌+◌, List, Option, IfOk, length, sym, ap, subst, ◌∙◌, arith}
+use Rattle.std.proofs.Common.{inr}
 use Rattle.pl_core.specs.Kept.{AreNumbers, IsKept, opening_of, pending_of}
-use Rattle.pl_core.specs.Prepared.{IsEntryOf, next_number}
-use Rattle.pl_core.specs.State.{State, held, log, log_of}
+use Rattle.pl_core.specs.Prepared.{IsEntryOf, added_by, next_number}
+use Rattle.pl_core.specs.State.{State, held, log}
 use Rattle.pl_facts.specs.Sizes.{counted, size_of, total}
 use Rattle.pl_facts.specs.declared.entry.Entry.{Entry}
+use Rattle.pl_history.specs.History.{log_of}
+use Rattle.pl_history.specs.Legal.{Legal}
 use Rattle.pl_journal.specs.Log.{Log}
 use Rattle.pl_step.specs.Full.{with_facts}
+use Rattle.pl_step.specs.Step.{IsStep, stepped_with}
 use Rattle.pl_step.specs.declared.held.Held.{Held}
 use Rattle.pl_core.proofs.Keeping.{all_installed, kept_behind, numbers_behind, opening_behind}
 use Rattle.pl_core.proofs.Keeping.{pending_behind, went_back}
-use Rattle.pl_core.proofs.Preparing.{behind_by, if_ok, made_can_run, pending_by, prepared_by}
-use Rattle.pl_core.proofs.Preparing.{steps_at}
+use Rattle.pl_core.proofs.Preparing.{behind_by, guarded_by, if_ok, made_can_run, pending_by}
+use Rattle.pl_core.proofs.Preparing.{prepared_by, steps_at}
 use Rattle.pl_core.proofs.service.Core.prepare.Goals as goal
 
 pub prepare-requires-clause-installed : goal.prepare-requires-clause-installed
@@ -75,6 +79,23 @@ module _ (c : goal.After-prepare) where
   numbered entry is =
       subst (λ n. IsEntryOf (n + 1) c.args.seat c.args.call.now entry) count is
 
+  -- the entries so far are a legal history, and so they are with this one
+  legal_now : Legal c.args.self.now.opening c.args.self.now.entries
+  legal_now = subst (λ (state : State). Legal state.opening state.entries) c.self.view_is
+      c.self.invariant.0.legal
+
+  steps_now : IfOk c.prepare.result (λ prepared.
+      IsStep (held c.args.self.now) (log c.args.self.now) c.args.call.now c.args.made
+      (stepped_with prepared.reply (added_by prepared.entry)))
+  steps_now = steps_at _ (held c.args.self.now) c.back_to_installed.new.self
+      (log c.args.self.now) c.args.call.now c.args.made c.prepare.result held_is log_is
+      c.prepare.ensures.steps
+
+  entry_now : IfOk c.prepare.result (λ prepared.
+      IsEntryOf (next_number c.args.self.now) c.args.seat c.args.call.now prepared.entry)
+  entry_now = if_ok _ _ c.prepare.result (λ prepared is. numbered prepared.entry is)
+      c.prepare.ensures.entry
+
 pub invariant_of-self-2 : goal.invariant_of-self-2
 invariant_of-self-2 c =
     let new = c.prepare.new.journal in
@@ -94,9 +115,26 @@ pub returns-clause-opening : goal.returns-clause-opening
 returns-clause-opening c = opening_is c
 
 pub returns-clause-steps : goal.returns-clause-steps
-returns-clause-steps c = steps_at _ (held c.args.self.now) c.back_to_installed.new.self
-    (log c.args.self.now) c.args.call.now c.args.made c.prepare.result (held_is c) (log_is c)
-    c.prepare.ensures.steps
+returns-clause-steps c = steps_now c
+
+pub returns-clause-guarded : goal.returns-clause-guarded
+returns-clause-guarded c =
+    let now = c.args.self.now in
+    let new : State = record {
+      opening = opening_of c.prepare.new.journal;
+      entries = c.reserve.new.self.items;
+      pending = pending_of c.prepare.new.journal;
+    } in
+    guarded_by now new c.args.seat c.args.call.now c.args.made (opening_is c) (entries_are c)
+    c.requires.well_formed c.requires.moment c.requires.made c.access_laws.ensures.guarded
+    (legal_now c) c.prepare.result (steps_now c) (entry_now c)
+
+pub returns-clause-answered : goal.returns-clause-answered
+returns-clause-answered c =
+    let now = c.args.self.now in
+    if_ok _ _ c.prepare.result (λ prepared steps orderly.
+    c.claim_laws.ensures.answered now.opening now.entries orderly (legal_now c) c.args.call.now
+    c.args.made (stepped_with prepared.reply (added_by prepared.entry)) steps) (steps_now c)
 
 pub returns-clause-prepared : goal.returns-clause-prepared
 returns-clause-prepared c =
@@ -111,8 +149,4 @@ returns-clause-prepared c =
     (pending_by c.prepare.result c.back_to_installed.new.self c.prepare.new.journal new.pending
     (λ more is. pending_behind c.prepare.new.journal c.self.inside.entries.items more
     (opening_of c.self.inside.journal) (at c more is))
-    c.prepare.ensures.journal)
-    (steps_at _ (held now) c.back_to_installed.new.self (log now) c.args.call.now c.args.made
-    c.prepare.result (held_is c) (log_is c) c.prepare.ensures.steps)
-    (if_ok _ _ c.prepare.result (λ prepared is. numbered c prepared.entry is)
-    c.prepare.ensures.entry)
+    c.prepare.ensures.journal) (steps_now c) (entry_now c)

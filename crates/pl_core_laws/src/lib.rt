@@ -1,8 +1,0 @@
-//! What a legal history makes sure of.
-#![tactic(auto)]
-
-mod claims;
-mod laws;
-
-pub use claims::claim_laws;
-pub use laws::access_laws;

@@ -1,0 +1,12 @@
+pub mod Claiming
+pub mod Entering
+pub mod Granted
+pub mod Happening
+pub mod Keeping
+pub mod Longer
+pub mod Members
+pub mod Orderly
+pub mod Queued
+pub mod Requesting
+pub mod Settled
+pub mod Standing
