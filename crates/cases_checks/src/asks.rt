@@ -22,7 +22,7 @@ impl Questions for Rules {
         case: &str,
     ) {
         match question {
-            "patterns" => answer_pairs(alloc, out, case),
+            "patterns" => answer_pairs(out, case),
             "clocks" => answer_moments(alloc, out, case),
             "check" => answer_check(alloc, out, notes, case),
             "locks" => play(alloc, out, case),
@@ -31,18 +31,18 @@ impl Questions for Rules {
     }
 }
 
-fn answer_pairs(alloc: Global, out: &mut Answers, lines: &str) {
+fn answer_pairs(out: &mut Answers, lines: &str) {
     for line in lines.split('\n') {
         out.push(line);
-        answer_match(alloc, out, line);
+        answer_match(out, line);
     }
 }
 
 /// Writes whether the pattern of a line matches its ref.
-fn answer_match(alloc: Global, out: &mut Answers, line: &str) {
+fn answer_match(out: &mut Answers, line: &str) {
     let (pattern, git_ref) = line.split_once('|').unwrap_or((line, ""));
-    let pattern = out.text_of(alloc, pattern);
-    let git_ref = out.text_of(alloc, git_ref);
+    let pattern = out.text_of(pattern);
+    let git_ref = out.text_of(git_ref);
     out.push(if matches(&pattern, &git_ref) {
         "|yes\n"
     } else {

@@ -8,7 +8,7 @@ pub fn push_clock(alloc: Global, out: &mut Answers, line: &str) {
     let (zone, moment) = line.rsplit_once('|').unwrap_or((line, ""));
     match moment.parse::<u64>() {
         Ok(moment) => {
-            let zone = out.text_of(alloc, zone);
+            let zone = out.text_of(zone);
             push_clock_in(alloc, out, &zone, moment)
         }
         Err(_) => out.push("no moment"),

@@ -14,7 +14,7 @@ fn resources_of(alloc: Global, out: &mut Answers, word: &str) -> List<ResourceKe
             b'A' => (Kind::Environment, "a"),
             _ => continue,
         };
-        let name = out.text_of(alloc, name);
+        let name = out.text_of(name);
         out.done(resources.push(ResourceKey { kind, name }));
     }
     resources
@@ -34,8 +34,8 @@ pub fn contender_of(alloc: Global, out: &mut Answers, line: &str) -> Contender {
     Contender {
         run: number(words.next()) as u64,
         position: number(words.next()),
-        pipeline: out.text_of(alloc, words.next().unwrap_or("")),
-        name: out.text_of(alloc, words.next().unwrap_or("")),
+        pipeline: out.text_of(words.next().unwrap_or("")),
+        name: out.text_of(words.next().unwrap_or("")),
         behaviour: behaviour_of(words.next().unwrap_or("")),
         resources: resources_of(alloc, out, words.next().unwrap_or("")),
     }

@@ -23,17 +23,17 @@ pub fn number(text: &str, word: &str) -> Option<u32> {
 pub fn texts(alloc: Global, out: &mut Answers, words: &str) -> List<Text> {
     let mut texts = List::new(alloc);
     for word in words.split_whitespace() {
-        let text = out.text_of(alloc, word);
+        let text = out.text_of(word);
         out.done(texts.push(text));
     }
     texts
 }
 
 /// The file of this path in one repository.
-pub fn file(alloc: Global, out: &mut Answers, path: &str) -> FileKey {
+pub fn file(out: &mut Answers, path: &str) -> FileKey {
     FileKey {
-        repo: out.text_of(alloc, "shared"),
-        git_ref: out.text_of(alloc, "refs/heads/main"),
-        path: out.text_of(alloc, path),
+        repo: out.text_of("shared"),
+        git_ref: out.text_of("refs/heads/main"),
+        path: out.text_of(path),
     }
 }

@@ -4,14 +4,14 @@ use pl_cases::Answers;
 use pl_checks::StepMark;
 use std::alloc::Global;
 
-fn shared_file(alloc: Global, out: &mut Answers, path: &str) -> Option<Shared<FileKey>> {
-    let key = file(alloc, out, path);
-    out.shared(alloc, key)
+fn shared_file(out: &mut Answers, path: &str) -> Option<Shared<FileKey>> {
+    let key = file(out, path);
+    out.shared(key)
 }
 
 /// A place of the template.
-fn place(alloc: Global, out: &mut Answers) -> Option<Place> {
-    let file = shared_file(alloc, out, "/t.yml")?;
+fn place(out: &mut Answers) -> Option<Place> {
+    let file = shared_file(out, "/t.yml")?;
     Some(Place {
         file,
         line: 5,
@@ -19,27 +19,27 @@ fn place(alloc: Global, out: &mut Answers) -> Option<Place> {
     })
 }
 
-fn extending(alloc: Global, out: &mut Answers, path: &str) -> Option<Crossing> {
-    Some(Crossing::Extends(shared_file(alloc, out, path)?))
+fn extending(out: &mut Answers, path: &str) -> Option<Crossing> {
+    Some(Crossing::Extends(shared_file(out, path)?))
 }
 
-fn including(alloc: Global, out: &mut Answers) -> Option<Crossing> {
-    let place = place(alloc, out)?;
-    Some(Crossing::Include(shared_file(alloc, out, "/i.yml")?, place))
+fn including(out: &mut Answers) -> Option<Crossing> {
+    let place = place(out)?;
+    Some(Crossing::Include(shared_file(out, "/i.yml")?, place))
 }
 
-fn arguing(alloc: Global, out: &mut Answers) -> Option<Crossing> {
-    let place = place(alloc, out)?;
-    Some(Crossing::Argument(out.text_of(alloc, "steps"), place))
+fn arguing(out: &mut Answers) -> Option<Crossing> {
+    let place = place(out)?;
+    Some(Crossing::Argument(out.text_of("steps"), place))
 }
 
 /// A crossing by a letter.
-fn crossing(alloc: Global, out: &mut Answers, letter: char) -> Option<Crossing> {
+fn crossing(out: &mut Answers, letter: char) -> Option<Crossing> {
     match letter {
-        'E' => extending(alloc, out, "/t.yml"),
-        'O' => extending(alloc, out, "/o.yml"),
-        'I' => including(alloc, out),
-        'A' => arguing(alloc, out),
+        'E' => extending(out, "/t.yml"),
+        'O' => extending(out, "/o.yml"),
+        'I' => including(out),
+        'A' => arguing(out),
         _ => Some(Crossing::Made),
     }
 }
@@ -51,7 +51,7 @@ fn crossed(
     crossings: &SharedList<Crossing>,
     letter: char,
 ) -> Option<SharedList<Crossing>> {
-    let crossing = crossing(alloc, out, letter)?;
+    let crossing = crossing(out, letter)?;
     out.made(crossings.with(alloc, crossing))
 }
 
@@ -67,7 +67,7 @@ fn crossings_of(alloc: Global, out: &mut Answers, letters: &str) -> Option<Share
 /// The origin of a node with these crossings.
 fn origin(alloc: Global, out: &mut Answers, letters: &str) -> Option<Origin> {
     let crossings = crossings_of(alloc, out, letters)?;
-    let source = place(alloc, out)?;
+    let source = place(out)?;
     Some(Origin { source, crossings })
 }
 
@@ -77,7 +77,7 @@ fn step(alloc: Global, out: &mut Answers, number: u32, word: &str) -> Option<Ste
     let mapping = origin(alloc, out, mapping)?;
     let key = origin(alloc, out, key)?;
     Some(StepMark {
-        job: out.text_of(alloc, "Job"),
+        job: out.text_of("Job"),
         number,
         mapping,
         key,

@@ -68,7 +68,7 @@ fn decisions(alloc: Global, out: &mut Answers, words: &str) -> List<(Text, bool)
     let mut decisions = List::new(alloc);
     for word in words.split_whitespace() {
         let (name, is_approval) = verdict_in(word);
-        let name = out.text_of(alloc, name);
+        let name = out.text_of(name);
         out.done(decisions.push((name, is_approval)));
     }
     decisions
@@ -77,7 +77,7 @@ fn decisions(alloc: Global, out: &mut Answers, words: &str) -> List<(Text, bool)
 /// A stage with these decisions.
 fn decided(alloc: Global, out: &mut Answers, world: &str, words: &str) -> CheckView {
     CheckView {
-        requester: out.text_of(alloc, field(world, "queuedBy")),
+        requester: out.text_of(field(world, "queuedBy")),
         decisions: decisions(alloc, out, words),
         ready: seconds(field(world, "ready")),
         linked: List::new(alloc),
@@ -89,8 +89,8 @@ fn decided(alloc: Global, out: &mut Answers, world: &str, words: &str) -> CheckV
 fn repo_refs(alloc: Global, out: &mut Answers, refs: &str) -> List<RepoRef> {
     let mut linked = List::new(alloc);
     for word in refs.split_whitespace() {
-        let repo = out.text_of(alloc, "app");
-        let git_ref = out.text_of(alloc, word);
+        let repo = out.text_of("app");
+        let git_ref = out.text_of(word);
         out.done(linked.push(RepoRef { repo, git_ref }));
     }
     linked
@@ -108,10 +108,10 @@ fn linked(alloc: Global, out: &mut Answers, refs: &str) -> CheckView {
     }
 }
 
-fn named(alloc: Global, out: &mut Answers, path: &str) -> Option<FileKey> {
+fn named(out: &mut Answers, path: &str) -> Option<FileKey> {
     match path {
         "" => None,
-        _ => Some(file(alloc, out, path)),
+        _ => Some(file(out, path)),
     }
 }
 
@@ -122,7 +122,7 @@ fn extending(alloc: Global, out: &mut Answers, path: &str, words: &str) -> Check
         decisions: List::new(alloc),
         ready: 0,
         linked: List::new(alloc),
-        extends: named(alloc, out, path),
+        extends: named(out, path),
         steps: steps_of(alloc, out, words),
     }
 }

@@ -36,10 +36,8 @@ fn answer_ask(alloc: Global, out: &mut Answers, pipeline: &str, ask: &str) {
 /// Answers conditions, one a line, as a run stands.
 fn answer_conditions(alloc: Global, out: &mut Answers, pipeline: &str, world: &str, cases: &str) {
     let (place, run) = world.split_once('\n').unwrap_or((world, ""));
-    match view_of(alloc, run) {
-        Ok(view) => answer_all(alloc, out, pipeline, place, &view, cases),
-        Err(_) => out.fail(),
-    }
+    let view = view_of(alloc, out, run);
+    answer_all(alloc, out, pipeline, place, &view, cases)
 }
 
 fn answer_all(
@@ -82,10 +80,8 @@ fn answer_runs(alloc: Global, out: &mut Answers, pipeline: &str, cases: &str) {
 
 fn answer_run(alloc: Global, out: &mut Answers, pipeline: &str, run: &str) {
     let (place, stages) = run.split_once('\n').unwrap_or((run, ""));
-    match view_of(alloc, stages) {
-        Ok(view) => answer_condition(alloc, out, pipeline, place, &view, ""),
-        Err(_) => out.fail(),
-    }
+    let view = view_of(alloc, out, stages);
+    answer_condition(alloc, out, pipeline, place, &view, "");
     out.push("\n")
 }
 
@@ -100,9 +96,7 @@ fn answer_variables(alloc: Global, out: &mut Answers, pipeline: &str, cases: &st
 
 fn answer_handed(alloc: Global, out: &mut Answers, pipeline: &str, run: &str) {
     let (place, stages) = run.split_once('\n').unwrap_or((run, ""));
-    match view_of(alloc, stages) {
-        Ok(view) => push_variables_at(alloc, out, pipeline, place, &view),
-        Err(_) => out.fail(),
-    }
+    let view = view_of(alloc, out, stages);
+    push_variables_at(alloc, out, pipeline, place, &view);
     out.push("\n")
 }

@@ -1,7 +1,7 @@
 ghost use Rattle.pl_results.specs.Nodes.{CanRun};
 
 use crate::plans::plan_in;
-use pl_base::{Memory, Text};
+use pl_base::Text;
 use pl_cases::Answers;
 use pl_cond::{RunView, job_condition, stage_condition};
 use pl_plan::Plan;
@@ -58,12 +58,12 @@ fn ask(alloc: Global, out: &mut Answers, plan: &Plan, place: &str, view: &RunVie
 }
 
 /// The pipeline's text with a condition in place of the word `CONDITION`.
-fn with_condition(alloc: Global, pipeline: &str, condition: &str) -> Result<Text, Memory> {
+fn with_condition(out: &mut Answers, pipeline: &str, condition: &str) -> Text {
     let (before, behind) = pipeline.split_once("CONDITION").unwrap_or((pipeline, ""));
-    let mut text = Text::from_str(alloc, before)?;
-    text.push_str(condition)?;
-    text.push_str(behind)?;
-    Ok(text)
+    let mut text = out.text_of(before);
+    out.done(text.push_str(condition));
+    out.done(text.push_str(behind));
+    text
 }
 
 /// Writes what is answered to a condition: `True`, `False`, or `None` where it or its pipeline
@@ -76,16 +76,9 @@ pub fn answer_condition(
     view: &RunView,
     condition: &str,
 ) {
-    match with_condition(alloc, pipeline, condition) {
-        Ok(text) => answer_text(alloc, out, place, view, text.as_str()),
-        Err(_) => out.fail(),
-    }
-}
-
-fn answer_text(alloc: Global, out: &mut Answers, place: &str, view: &RunView, text: &str) {
-    match plan_in(alloc, text) {
-        Ok(Some(plan)) => ask(alloc, out, &plan, place, view),
-        Ok(None) => out.push("None"),
-        Err(_) => out.fail(),
+    let text = with_condition(out, pipeline, condition);
+    match plan_in(alloc, out, text.as_str()) {
+        Some(plan) => ask(alloc, out, &plan, place, view),
+        None => out.push("None"),
     }
 }

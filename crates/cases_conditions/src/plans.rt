@@ -1,7 +1,8 @@
-ghost use Rattle.std.specs.Prelude.{IfOk, IfSome};
+ghost use Rattle.std.specs.Prelude.{IfSome};
 ghost use Rattle.pl_results.specs.Nodes.{CanRun};
 
-use pl_base::{Expanded, FileKey, List, Memory, Node, SharedList, Text};
+use pl_base::{Expanded, FileKey, List, MarkedNode, Node, SharedList};
+use pl_cases::Answers;
 use pl_cond::each_plan_can_run;
 use pl_literal::literal;
 use pl_plan::{Plan, plan_of};
@@ -9,26 +10,28 @@ use pl_schema::{Pipeline, pipeline_of};
 use pl_yaml::read;
 use std::alloc::Global;
 
-fn file(alloc: Global) -> Result<FileKey, Memory> {
-    let repo = Text::from_str(alloc, "app")?;
-    let git_ref = Text::from_str(alloc, "refs/heads/main")?;
-    let path = Text::from_str(alloc, "/ci.yml")?;
-    Ok(FileKey {
-        repo,
-        git_ref,
-        path,
-    })
+fn file(out: &mut Answers) -> FileKey {
+    FileKey {
+        repo: out.text_of("app"),
+        git_ref: out.text_of("refs/heads/main"),
+        path: out.text_of("/ci.yml"),
+    }
 }
 
-fn expanded(alloc: Global, node: &Node) -> Result<Expanded, Memory> {
-    let tree = literal(alloc, node, &SharedList::new(alloc)?)?;
-    Ok(Expanded {
+/// The tree of a node that was read, across no border; None where memory was wanting.
+fn tree_of(alloc: Global, out: &mut Answers, node: &Node) -> Option<MarkedNode> {
+    let crossings = out.made(SharedList::new(alloc))?;
+    out.made(literal(alloc, node, &crossings))
+}
+
+fn expanded(alloc: Global, out: &mut Answers, tree: MarkedNode) -> Expanded {
+    Expanded {
         tree,
-        root: file(alloc)?,
+        root: file(out),
         extends: None,
         repositories: List::new(alloc),
         used: List::new(alloc),
-    })
+    }
 }
 
 fn plan_from(alloc: Global, pipeline: &Pipeline) -> Option<Plan>
@@ -43,21 +46,31 @@ fn plan_from(alloc: Global, pipeline: &Pipeline) -> Option<Plan>
     }
 }
 
-fn planned(alloc: Global, node: &Node) -> Result<Option<Plan>, Memory>
-    ensures { IfOk result (λ plan. IfSome plan (λ one. CanRun one)) }
+fn planned(alloc: Global, expanded: &Expanded) -> Option<Plan>
+    ensures { IfSome result (λ plan. CanRun plan) }
 {
-    match pipeline_of(alloc, &expanded(alloc, node)?) {
-        Ok(pipeline) => Ok(plan_from(alloc, &pipeline)),
-        Err(_) => Ok(None),
+    match pipeline_of(alloc, expanded) {
+        Ok(pipeline) => plan_from(alloc, &pipeline),
+        Err(_) => None,
+    }
+}
+
+fn plan_of_node(alloc: Global, out: &mut Answers, node: &Node) -> Option<Plan>
+    ensures { IfSome result (λ plan. CanRun plan) }
+{
+    match tree_of(alloc, out, node) {
+        Some(tree) => planned(alloc, &expanded(alloc, out, tree)),
+        None => None,
     }
 }
 
 /// The plan of a pipeline's text, or None where it is none.
-pub fn plan_in(alloc: Global, text: &str) -> Result<Option<Plan>, Memory>
-    ensures { IfOk result (λ plan. IfSome plan (λ one. CanRun one)) }
+pub fn plan_in(alloc: Global, out: &mut Answers, text: &str) -> Option<Plan>
+    ensures { IfSome result (λ plan. CanRun plan) }
 {
-    match read(alloc, text.as_bytes(), &file(alloc)?) {
-        Ok(node) => planned(alloc, &node),
-        Err(_) => Ok(None),
+    let file = file(out);
+    match read(alloc, text.as_bytes(), &file) {
+        Ok(node) => plan_of_node(alloc, out, &node),
+        Err(_) => None,
     }
 }

@@ -47,9 +47,8 @@ pub fn push_variables_at(
     place: &str,
     view: &RunView,
 ) {
-    match plan_in(alloc, pipeline) {
-        Ok(Some(plan)) => push_handed(alloc, out, &plan, place, view),
-        Ok(None) => out.push("None"),
-        Err(_) => out.fail(),
+    match plan_in(alloc, out, pipeline) {
+        Some(plan) => push_handed(alloc, out, &plan, place, view),
+        None => out.push("None"),
     }
 }

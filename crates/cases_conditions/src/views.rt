@@ -1,4 +1,5 @@
-use pl_base::{List, Memory, Outcome, Shared, Text};
+use pl_base::{List, Outcome, Text};
+use pl_cases::Answers;
 use pl_cond::{JobView, RunView};
 use std::alloc::Global;
 
@@ -14,69 +15,69 @@ fn outcome_of(word: &str) -> Option<Outcome> {
     }
 }
 
-fn push_output(alloc: Global, outputs: &mut List<(Text, Text)>, word: &str) -> Result<(), Memory> {
+fn push_output(out: &mut Answers, outputs: &mut List<(Text, Text)>, word: &str) {
     if let Some((name, value)) = word.split_once('=') {
-        let name = Text::from_str(alloc, name)?;
-        let value = Text::from_str(alloc, value)?;
-        outputs.push((name, value))?;
+        let name = out.text_of(name);
+        let value = out.text_of(value);
+        out.done(outputs.push((name, value)));
     }
-    Ok(())
 }
 
 /// The words `NAME=VALUE` as outputs.
-fn outputs_of(alloc: Global, words: &str) -> Result<List<(Text, Text)>, Memory> {
+fn outputs_of(alloc: Global, out: &mut Answers, words: &str) -> List<(Text, Text)> {
     let mut outputs = List::new(alloc);
     for word in words.split(' ') {
-        push_output(alloc, &mut outputs, word)?;
+        push_output(out, &mut outputs, word);
     }
-    Ok(outputs)
+    outputs
 }
 
-fn job_of(alloc: Global, words: &str) -> Result<JobView, Memory> {
+/// How a job stands; None where memory was wanting.
+fn job_of(alloc: Global, out: &mut Answers, words: &str) -> Option<JobView> {
     let (result, outputs) = words.split_once(' ').unwrap_or((words, ""));
-    let outputs = Shared::new(alloc, outputs_of(alloc, outputs)?)?;
-    Ok(JobView {
+    let outputs = outputs_of(alloc, out, outputs);
+    Some(JobView {
         result: outcome_of(result),
-        outputs,
+        outputs: out.shared(outputs)?,
     })
 }
 
-fn jobs_of(alloc: Global, words: &str) -> Result<List<JobView>, Memory> {
+fn jobs_of(alloc: Global, out: &mut Answers, words: &str) -> List<JobView> {
     let mut jobs = List::new(alloc);
-    for job in words.split(", ") {
-        jobs.push(job_of(alloc, job)?)?;
+    for words in words.split(", ") {
+        if let Some(job) = job_of(alloc, out, words) {
+            out.done(jobs.push(job));
+        }
     }
-    Ok(jobs)
+    jobs
 }
 
-fn all_results(alloc: Global, stages: &str) -> Result<List<Option<Outcome>>, Memory> {
+fn all_results(alloc: Global, out: &mut Answers, stages: &str) -> List<Option<Outcome>> {
     let mut results = List::new(alloc);
     for stage in stages.lines() {
         let (result, _jobs) = stage.split_once(": ").unwrap_or((stage, ""));
-        results.push(outcome_of(result))?;
+        out.done(results.push(outcome_of(result)));
     }
-    Ok(results)
+    results
 }
 
-fn all_jobs(alloc: Global, stages: &str) -> Result<List<List<JobView>>, Memory> {
+fn all_jobs(alloc: Global, out: &mut Answers, stages: &str) -> List<List<JobView>> {
     let mut all = List::new(alloc);
     for stage in stages.lines() {
-        let (_result, jobs) = stage.split_once(": ").unwrap_or((stage, ""));
-        all.push(jobs_of(alloc, jobs)?)?;
+        let (_result, words) = stage.split_once(": ").unwrap_or((stage, ""));
+        let jobs = jobs_of(alloc, out, words);
+        out.done(all.push(jobs));
     }
-    Ok(all)
+    all
 }
 
 /// How a run stands: a line a stage, `RESULT: JOB, JOB ..`, a job being `RESULT NAME=VALUE ..`. A
 /// line `canceled` before them says that the run is canceled.
-pub fn view_of(alloc: Global, text: &str) -> Result<RunView, Memory> {
-    let canceled = text.starts_with("canceled\n");
+pub fn view_of(alloc: Global, out: &mut Answers, text: &str) -> RunView {
     let stages = text.strip_prefix("canceled\n").unwrap_or(text);
-    let results = all_results(alloc, stages)?;
-    let jobs = all_jobs(alloc, stages)?;
-    Ok(RunView {
-        canceled,
-        stages: results,
-        jobs,
-    })
+    RunView {
+        canceled: text.starts_with("canceled\n"),
+        stages: all_results(alloc, out, stages),
+        jobs: all_jobs(alloc, out, stages),
+    }
 }

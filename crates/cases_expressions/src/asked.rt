@@ -16,9 +16,7 @@ impl Questions for World {
         case: &str,
     ) {
         let (question, run) = question.split_once(": ").unwrap_or((question, ""));
-        if self.put_run(alloc, run).is_err() {
-            out.fail();
-        }
+        self.put_run(alloc, out, run);
         match question.strip_suffix(" of repeated pieces") {
             Some(question) => answer_repeated(alloc, out, self, question, case),
             None => answer_text(alloc, out, self, question, case),

@@ -14,7 +14,6 @@ mod values;
 mod world;
 
 use crate::world::{World, world_of};
-use pl_base::Memory;
 use pl_cases::{Answers, answer_all, meant};
 use std::alloc::Global;
 use std::{env, fs, io};
@@ -22,14 +21,26 @@ use std::{env, fs, io};
 fn main(rt: HostRuntime) -> io::Result<()> {
     let lines = fs::read_to_string(&rt, "world.txt")?;
     match world_in(rt.alloc(), lines.as_str()) {
-        Ok(mut world) => print_all(&rt, &mut world),
-        Err(_) => Err(io::Error::from(io::ErrorKind::OutOfMemory)),
+        Some(mut world) => print_all(&rt, &mut world),
+        None => Err(io::Error::from(io::ErrorKind::OutOfMemory)),
     }
 }
 
-fn world_in(alloc: Global, lines: &str) -> Result<World, Memory> {
-    let lines = meant(alloc, lines)?;
-    world_of(alloc, lines.as_str())
+/// The world that lines tell, or None where memory was wanting.
+fn world_in(alloc: Global, lines: &str) -> Option<World> {
+    match meant(alloc, lines) {
+        Ok(lines) => whole_world(alloc, lines.as_str()),
+        Err(_) => None,
+    }
+}
+
+fn whole_world(alloc: Global, lines: &str) -> Option<World> {
+    let mut out = Answers::new(alloc);
+    let world = world_of(alloc, &mut out, lines)?;
+    match out.text() {
+        Ok(_) => Some(world),
+        Err(_) => None,
+    }
 }
 
 fn print_all(rt: &HostRuntime, world: &mut World) -> io::Result<()> {

@@ -4,7 +4,7 @@
 use crate::texts::push_text;
 use crate::values::{number, push_converted};
 use crate::world::World;
-use pl_base::{List, MarkedNode, MarkedPair, Memory, Origin, Text, Value};
+use pl_base::{List, MarkedNode, MarkedPair, Origin, Text, Value};
 use pl_cases::Answers;
 use pl_eval::{EvalCode, EvalFault, eval};
 use pl_expr::{Expr, Function, Mode, parse};
@@ -29,25 +29,24 @@ pub fn push_called(alloc: Global, out: &mut Answers, world: &World, text: &str) 
 }
 
 fn push_call(alloc: Global, out: &mut Answers, world: &World, function: Function, count: u32) {
-    match arguments(alloc, count) {
-        Ok(arguments) => push_evaluated(alloc, out, world, &Expr::Call(function, arguments)),
-        Err(_) => out.fail(),
-    }
+    let arguments = arguments(alloc, out, count);
+    push_evaluated(alloc, out, world, &Expr::Call(function, arguments))
 }
 
-fn arguments(alloc: Global, count: u32) -> Result<List<Expr>, Memory> {
+fn arguments(alloc: Global, out: &mut Answers, count: u32) -> List<Expr> {
     let mut arguments = List::new(alloc);
     for number in 0..count {
-        arguments.push(Expr::Lit(argument(alloc, number)?))?;
+        let value = argument(out, number);
+        out.done(arguments.push(Expr::Lit(value)));
     }
-    Ok(arguments)
+    arguments
 }
 
-fn argument(alloc: Global, number: u32) -> Result<Value, Memory> {
+fn argument(out: &mut Answers, number: u32) -> Value {
     match number {
-        0 => Ok(Value::Bool(true)),
-        1 => Ok(Value::Number(1)),
-        _ => Ok(Value::Str(Text::from_str(alloc, "x")?)),
+        0 => Value::Bool(true),
+        1 => Value::Number(1),
+        _ => Value::Str(out.text_of("x")),
     }
 }
 

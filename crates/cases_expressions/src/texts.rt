@@ -1,6 +1,6 @@
 //! The functions on texts. The parts of a case stand behind one another with `|` between.
 use crate::values::push_bool;
-use pl_base::{List, Memory, Text};
+use pl_base::{List, Text};
 use pl_cases::Answers;
 use pl_texts::{
     TextFault, contains, count, ends_with, format, join, lower, replace, split, starts_with, trim,
@@ -17,14 +17,15 @@ fn first_part(text: &str) -> (&str, Option<&str>) {
 }
 
 /// The parts of a text; none where there is no text.
-fn parts_of(alloc: Global, text: Option<&str>) -> Result<List<Text>, Memory> {
+fn parts_of(alloc: Global, out: &mut Answers, text: Option<&str>) -> List<Text> {
     let mut parts = List::new(alloc);
     if let Some(text) = text {
         for part in text.split('|') {
-            parts.push(Text::from_str(alloc, part)?)?;
+            let part = out.text_of(part);
+            out.done(parts.push(part));
         }
     }
-    Ok(parts)
+    parts
 }
 
 /// A text; one of more than 100 bytes as its count of bytes behind two dots.
@@ -53,10 +54,8 @@ fn push_made(alloc: Global, out: &mut Answers, made: Result<Text, TextFault>) {
 /// `TEXT|SOUGHT`: whether the text holds what is sought, begins and ends with it, and the text's
 /// characters.
 pub fn push_found(alloc: Global, out: &mut Answers, text: &str) {
-    match parts_of(alloc, Some(text)) {
-        Ok(parts) => push_found_parts(alloc, out, parts.as_slice()),
-        Err(_) => out.fail(),
-    }
+    let parts = parts_of(alloc, out, Some(text));
+    push_found_parts(alloc, out, parts.as_slice())
 }
 
 fn push_found_parts(alloc: Global, out: &mut Answers, parts: &[Text]) {
@@ -94,10 +93,8 @@ pub fn push_changed(alloc: Global, out: &mut Answers, text: &Text) {
 
 /// `TEXT|SOUGHT|NEW`: the text with what is new in place of what is sought.
 pub fn push_replaced(alloc: Global, out: &mut Answers, text: &str) {
-    match parts_of(alloc, Some(text)) {
-        Ok(parts) => push_replaced_in(alloc, out, parts.as_slice()),
-        Err(_) => out.fail(),
-    }
+    let parts = parts_of(alloc, out, Some(text));
+    push_replaced_in(alloc, out, parts.as_slice())
 }
 
 fn push_replaced_in(alloc: Global, out: &mut Answers, parts: &[Text]) {
@@ -109,10 +106,8 @@ fn push_replaced_in(alloc: Global, out: &mut Answers, parts: &[Text]) {
 
 /// `TEXT|SEPARATORS`: the number of pieces, and the pieces joined by `|`.
 pub fn push_split(alloc: Global, out: &mut Answers, text: &str) {
-    match parts_of(alloc, Some(text)) {
-        Ok(parts) => push_split_in(alloc, out, parts.as_slice()),
-        Err(_) => out.fail(),
-    }
+    let parts = parts_of(alloc, out, Some(text));
+    push_split_in(alloc, out, parts.as_slice())
 }
 
 fn push_split_in(alloc: Global, out: &mut Answers, parts: &[Text]) {
@@ -136,33 +131,25 @@ fn push_counted(alloc: Global, out: &mut Answers, pieces: &List<Text>) {
 }
 
 fn push_joined_by(alloc: Global, out: &mut Answers, separator: &str, pieces: &List<Text>) {
-    match Text::from_str(alloc, separator) {
-        Ok(separator) => push_made(alloc, out, join(alloc, &separator, pieces)),
-        Err(_) => out.fail(),
-    }
+    let separator = out.text_of(separator);
+    push_made(alloc, out, join(alloc, &separator, pieces))
 }
 
 /// `SEPARATOR|PIECE|PIECE..`: the pieces with the separator between.
 pub fn push_joined(alloc: Global, out: &mut Answers, text: &str) {
     let (separator, rest) = first_part(text);
-    match parts_of(alloc, rest) {
-        Ok(pieces) => push_joined_by(alloc, out, separator, &pieces),
-        Err(_) => out.fail(),
-    }
+    let pieces = parts_of(alloc, out, rest);
+    push_joined_by(alloc, out, separator, &pieces)
 }
 
 /// `PATTERN|ARGUMENT|ARGUMENT..`: the pattern with its holes filled.
 pub fn push_filled(alloc: Global, out: &mut Answers, text: &str) {
     let (pattern, rest) = first_part(text);
-    match parts_of(alloc, rest) {
-        Ok(arguments) => push_filled_with(alloc, out, pattern, &arguments),
-        Err(_) => out.fail(),
-    }
+    let arguments = parts_of(alloc, out, rest);
+    push_filled_with(alloc, out, pattern, &arguments)
 }
 
 fn push_filled_with(alloc: Global, out: &mut Answers, pattern: &str, arguments: &List<Text>) {
-    match Text::from_str(alloc, pattern) {
-        Ok(pattern) => push_made(alloc, out, format(alloc, &pattern, arguments)),
-        Err(_) => out.fail(),
-    }
+    let pattern = out.text_of(pattern);
+    push_made(alloc, out, format(alloc, &pattern, arguments))
 }

@@ -1,6 +1,6 @@
 //! Values as cases write them, their conversions, and how they are compared.
 use crate::trees::push_expr_printed;
-use pl_base::{List, Memory, Text, Value};
+use pl_base::{List, Text, Value};
 use pl_cases::Answers;
 use pl_expr::{Expr, Mode, loosely_equal, order, parse, to_bool, to_number, to_text, to_version};
 use std::alloc::Global;
@@ -13,30 +13,30 @@ pub fn number(text: &str) -> u32 {
 
 /// The value that a text writes: `[` is an empty array, `{` an empty object, `letters N` a text of
 /// N times the letter x, and anything else a literal of the expression language, or Null.
-pub fn value_of(alloc: Global, text: &str) -> Result<Value, Memory> {
+pub fn value_of(alloc: Global, out: &mut Answers, text: &str) -> Value {
     match text {
-        "[" => Ok(Value::Array(List::new(alloc))),
-        "{" => Ok(Value::Object(List::new(alloc))),
+        "[" => Value::Array(List::new(alloc)),
+        "{" => Value::Object(List::new(alloc)),
         _ => match text.strip_prefix("letters ") {
-            Some(count) => letters(alloc, number(count)),
-            None => literal(alloc, text),
+            Some(count) => letters(alloc, out, number(count)),
+            None => literal(alloc, out, text),
         },
     }
 }
 
-fn letters(alloc: Global, count: u32) -> Result<Value, Memory> {
+fn letters(alloc: Global, out: &mut Answers, count: u32) -> Value {
     let mut content = Text::new(alloc);
     for _ in 0..count {
-        content.push_str("x")?;
+        out.done(content.push_str("x"));
     }
-    Ok(Value::Str(content))
+    Value::Str(content)
 }
 
-fn literal(alloc: Global, text: &str) -> Result<Value, Memory> {
-    let text = Text::from_str(alloc, text)?;
+fn literal(alloc: Global, out: &mut Answers, text: &str) -> Value {
+    let text = out.text_of(text);
     match parse(alloc, &text, Mode::Condition) {
-        Ok(Expr::Lit(value)) => Ok(value),
-        _ => Ok(Value::Null),
+        Ok(Expr::Lit(value)) => value,
+        _ => Value::Null,
     }
 }
 
@@ -50,18 +50,14 @@ pub fn push_converted(alloc: Global, out: &mut Answers, value: &Value) {
 
 /// What is printed of a value as a literal.
 pub fn push_literal_printed(alloc: Global, out: &mut Answers, text: &str) {
-    match value_of(alloc, text) {
-        Ok(value) => push_expr_printed(alloc, out, &Expr::Lit(value)),
-        Err(_) => out.fail(),
-    }
+    let value = value_of(alloc, out, text);
+    push_expr_printed(alloc, out, &Expr::Lit(value))
 }
 
 /// A value converted: `BOOLEAN|NUMBER|TEXT|VERSION`.
 pub fn push_conversions(alloc: Global, out: &mut Answers, text: &str) {
-    match value_of(alloc, text) {
-        Ok(value) => push_value_converted(alloc, out, &value),
-        Err(_) => out.fail(),
-    }
+    let value = value_of(alloc, out, text);
+    push_value_converted(alloc, out, &value)
 }
 
 fn push_value_converted(alloc: Global, out: &mut Answers, value: &Value) {
@@ -96,17 +92,9 @@ fn push_version(alloc: Global, out: &mut Answers, value: &Value) {
 /// How two values `LEFT|RIGHT` are compared: `EQUAL ORDER`.
 pub fn push_comparison(alloc: Global, out: &mut Answers, text: &str) {
     let (left, right) = text.split_once('|').unwrap_or((text, ""));
-    match value_of(alloc, left) {
-        Ok(left) => push_compared(alloc, out, &left, right),
-        Err(_) => out.fail(),
-    }
-}
-
-fn push_compared(alloc: Global, out: &mut Answers, left: &Value, right: &str) {
-    match value_of(alloc, right) {
-        Ok(right) => push_both_compared(alloc, out, left, &right),
-        Err(_) => out.fail(),
-    }
+    let left = value_of(alloc, out, left);
+    let right = value_of(alloc, out, right);
+    push_both_compared(alloc, out, &left, &right)
 }
 
 fn push_both_compared(alloc: Global, out: &mut Answers, left: &Value, right: &Value) {

@@ -3,9 +3,10 @@
 use crate::names::{MemNames, Named};
 use crate::values::{number, value_of};
 use pl_base::{
-    Crossing, FileKey, List, MarkedNode, MarkedPair, Memory, Origin, Outcome, Place, Shared,
-    SharedList, Text, Value,
+    Crossing, FileKey, List, MarkedNode, MarkedPair, Origin, Outcome, Place, Shared, SharedList,
+    Text, Value,
 };
+use pl_cases::Answers;
 use std::alloc::Global;
 
 /// What names stand for, and the origin of what is made here.
@@ -18,21 +19,20 @@ pub struct World {
 impl World {
     /// Puts how the run stands, as words: `canceled`, and a result for each dependency, or
     /// `unended`.
-    pub fn put_run(&mut self, alloc: Global, words: &str) -> Result<(), Memory> {
+    pub fn put_run(&mut self, alloc: Global, out: &mut Answers, words: &str) {
         self.names.canceled = words.contains("canceled");
         self.names.all = List::new(alloc);
         for word in words.split(' ') {
-            put_ended(&mut self.names.all, word)?;
+            put_ended(out, &mut self.names.all, word);
         }
-        Ok(())
     }
 }
 
-fn put_ended(all: &mut List<Option<Outcome>>, word: &str) -> Result<(), Memory> {
+fn put_ended(out: &mut Answers, all: &mut List<Option<Outcome>>, word: &str) {
     match outcome_of(word) {
-        Some(outcome) => all.push(Some(outcome)),
-        None if word == "unended" => all.push(None),
-        None => Ok(()),
+        Some(outcome) => out.done(all.push(Some(outcome))),
+        None if word == "unended" => out.done(all.push(None)),
+        None => {},
     }
 }
 
@@ -48,124 +48,118 @@ fn outcome_of(word: &str) -> Option<Outcome> {
 }
 
 /// The world that a text tells: behind `%%% values` its values, behind `%%% results` how the
-/// dependencies ended.
-pub fn world_of(alloc: Global, text: &str) -> Result<World, Memory> {
-    let names = names_of(alloc, text)?;
-    let here = here(alloc)?;
-    Ok(World { names, here })
-}
-
-fn names_of(alloc: Global, text: &str) -> Result<MemNames, Memory> {
-    let (values, results) = text.split_once("\n%%% results\n").unwrap_or((text, ""));
-    let (_head, values) = values.split_once("\n%%% values\n").unwrap_or(("", values));
-    let roots = roots(alloc, values)?;
-    let named = results_by_name(alloc, results)?;
-    Ok(MemNames {
-        roots,
-        canceled: false,
-        all: List::new(alloc),
-        named,
+/// dependencies ended. None where memory was wanting.
+pub fn world_of(alloc: Global, out: &mut Answers, text: &str) -> Option<World> {
+    let here = here(alloc, out)?;
+    Some(World {
+        names: names_of(alloc, out, text),
+        here,
     })
 }
 
-/// The origin of made values: line 99 of another file, and `Made`.
-fn here(alloc: Global) -> Result<Origin, Memory> {
-    let crossings = SharedList::new(alloc)?.with(alloc, Crossing::Made)?;
-    origin_across(alloc, "/here.yml", 99, crossings)
+fn names_of(alloc: Global, out: &mut Answers, text: &str) -> MemNames {
+    let (values, results) = text.split_once("\n%%% results\n").unwrap_or((text, ""));
+    let (_head, values) = values.split_once("\n%%% values\n").unwrap_or(("", values));
+    MemNames {
+        roots: roots(alloc, out, values),
+        canceled: false,
+        all: List::new(alloc),
+        named: results_by_name(alloc, out, results),
+    }
 }
 
-fn results_by_name(alloc: Global, lines: &str) -> Result<List<Named>, Memory> {
+/// The origin of made values: line 99 of another file, and `Made`.
+fn here(alloc: Global, out: &mut Answers) -> Option<Origin> {
+    let crossings = out.made(SharedList::new(alloc))?;
+    let crossings = out.made(crossings.with(alloc, Crossing::Made))?;
+    origin_across(alloc, out, "/here.yml", 99, crossings)
+}
+
+fn results_by_name(alloc: Global, out: &mut Answers, lines: &str) -> List<Named> {
     let mut named = List::new(alloc);
     for line in lines.lines() {
-        put_result(alloc, &mut named, line)?;
+        put_result(out, &mut named, line);
     }
-    Ok(named)
+    named
 }
 
-fn put_result(alloc: Global, named: &mut List<Named>, line: &str) -> Result<(), Memory> {
+fn put_result(out: &mut Answers, named: &mut List<Named>, line: &str) {
     let (name, word) = line.split_once(' ').unwrap_or((line, ""));
-    let Some(outcome) = outcome_of(word) else {
-        return Ok(());
-    };
-    let name = Text::from_str(alloc, name)?;
-    named.push(Named { name, outcome })
+    if let Some(outcome) = outcome_of(word) {
+        let name = out.text_of(name);
+        out.done(named.push(Named { name, outcome }))
+    }
 }
 
-/// The key of the file at that path.
-fn key_of(alloc: Global, path: Text) -> FileKey {
-    FileKey {
+/// The file at that path.
+fn file_at(alloc: Global, out: &mut Answers, path: &str) -> Option<Shared<FileKey>> {
+    let key = FileKey {
         repo: Text::new(alloc),
         git_ref: Text::new(alloc),
-        path,
-    }
+        path: out.text_of(path),
+    };
+    out.shared(key)
 }
 
-fn file_at(alloc: Global, path: &str) -> Result<Shared<FileKey>, Memory> {
-    let key = key_of(alloc, Text::from_str(alloc, path)?);
-    Shared::new(alloc, key)
-}
-
-/// The first column of a line.
-fn place_at(alloc: Global, path: &str, line: u32) -> Result<Place, Memory> {
-    let file = file_at(alloc, path)?;
-    Place::at(alloc, &file, line, 1)
-}
-
-/// An origin there, across these borders.
+/// The origin in the first column of a line, across these borders.
 fn origin_across(
     alloc: Global,
+    out: &mut Answers,
     path: &str,
     line: u32,
     crossings: SharedList<Crossing>,
-) -> Result<Origin, Memory> {
-    let source = place_at(alloc, path, line)?;
-    Ok(Origin { source, crossings })
+) -> Option<Origin> {
+    let file = file_at(alloc, out, path)?;
+    let source = Place { file, line, col: 1 };
+    Some(Origin { source, crossings })
 }
 
-fn origin_at(alloc: Global, line: u32) -> Result<Origin, Memory> {
-    origin_across(alloc, "/world.yml", line, SharedList::new(alloc)?)
+fn origin_at(alloc: Global, out: &mut Answers, line: u32) -> Option<Origin> {
+    let crossings = out.made(SharedList::new(alloc))?;
+    origin_across(alloc, out, "/world.yml", line, crossings)
 }
 
 /// A value that stands on that line.
-fn marked(alloc: Global, line: u32, value: Value) -> Result<MarkedNode, Memory> {
-    let origin = origin_at(alloc, line)?;
-    Ok(MarkedNode { origin, value })
-}
-
-/// A key that stands on that line.
-fn marked_key(alloc: Global, key: &str, line: u32) -> Result<(Text, Origin), Memory> {
-    let key_origin = origin_at(alloc, line)?;
-    let key = Text::from_str(alloc, key)?;
-    Ok((key, key_origin))
+fn marked(alloc: Global, out: &mut Answers, line: u32, value: Value) -> Option<MarkedNode> {
+    let origin = origin_at(alloc, out, line)?;
+    Some(MarkedNode { origin, value })
 }
 
 /// A node under a key that stands on that line.
-fn under(alloc: Global, key: &str, line: u32, item: MarkedNode) -> Result<MarkedPair, Memory> {
-    let (key, key_origin) = marked_key(alloc, key, line)?;
-    Ok(MarkedPair {
-        key,
+fn under(
+    alloc: Global,
+    out: &mut Answers,
+    key: &str,
+    line: u32,
+    item: MarkedNode,
+) -> Option<MarkedPair> {
+    let key_origin = origin_at(alloc, out, line)?;
+    Some(MarkedPair {
+        key: out.text_of(key),
         key_origin,
         item,
     })
 }
 
-/// A property, whose key and value stand on that line.
-fn property(alloc: Global, key: &str, line: u32, value: Value) -> Result<MarkedPair, Memory> {
-    let item = marked(alloc, line, value)?;
-    under(alloc, key, line, item)
-}
-
-/// A property as its line writes it, whose items or properties follow.
-fn written(alloc: Global, key: &str, line: u32, text: &str) -> Result<MarkedPair, Memory> {
-    let value = value_of(alloc, text)?;
-    property(alloc, key, line, value)
+/// A property as its line writes it, whose key and value stand there, and whose items or properties
+/// follow.
+fn written(
+    alloc: Global,
+    out: &mut Answers,
+    key: &str,
+    line: u32,
+    text: &str,
+) -> Option<MarkedPair> {
+    let value = value_of(alloc, out, text);
+    let item = marked(alloc, out, line, value)?;
+    under(alloc, out, key, line, item)
 }
 
 /// The list with one more behind.
-fn with<T: Drop>(items: List<T>, item: T) -> Result<List<T>, Memory> {
+fn with<T: Drop>(out: &mut Answers, items: List<T>, item: T) -> List<T> {
     let mut items = items;
-    items.push(item)?;
-    Ok(items)
+    out.done(items.push(item));
+    items
 }
 
 /// The value of a property.
@@ -174,67 +168,71 @@ fn item_of(pair: MarkedPair) -> MarkedNode {
 }
 
 /// The array or object with one item or property more.
-fn holding(value: Value, pair: MarkedPair) -> Result<Value, Memory> {
+fn holding(out: &mut Answers, value: Value, pair: MarkedPair) -> Value {
     match value {
-        Value::Array(items) => Ok(Value::Array(with(items, item_of(pair))?)),
-        Value::Object(pairs) => Ok(Value::Object(with(pairs, pair)?)),
-        _ => Ok(Value::Null),
+        Value::Array(items) => Value::Array(with(out, items, item_of(pair))),
+        Value::Object(pairs) => Value::Object(with(out, pairs, pair)),
+        _ => Value::Null,
     }
 }
 
 /// A property with one item or property more in its value.
-fn grown(outer: MarkedPair, inner: MarkedPair) -> Result<MarkedPair, Memory> {
+fn grown(out: &mut Answers, outer: MarkedPair, inner: MarkedPair) -> MarkedPair {
     let MarkedPair {
         key,
         key_origin,
         item: MarkedNode { origin, value },
     } = outer;
-    match holding(value, inner) {
-        Ok(value) => Ok(MarkedPair {
-            key,
-            key_origin,
-            item: MarkedNode { origin, value },
-        }),
-        Err(fault) => Err(fault),
+    let value = holding(out, value, inner);
+    MarkedPair {
+        key,
+        key_origin,
+        item: MarkedNode { origin, value },
     }
 }
 
 /// Puts a value into the last one that is open.
-fn put(open: &mut List<MarkedPair>, inner: MarkedPair) -> Result<(), Memory> {
-    match open.pop() {
-        Some(outer) => open.push(grown(outer, inner)?),
-        None => open.push(inner),
-    }
+fn put(out: &mut Answers, open: &mut List<MarkedPair>, inner: MarkedPair) {
+    let pair = match open.pop() {
+        Some(outer) => grown(out, outer, inner),
+        None => inner,
+    };
+    out.done(open.push(pair))
 }
 
 /// Puts the last value that is open into the one before it.
-fn close(open: &mut List<MarkedPair>) -> Result<(), Memory> {
-    match open.pop() {
-        Some(inner) => put(open, inner),
-        None => Ok(()),
+fn close(out: &mut Answers, open: &mut List<MarkedPair>) {
+    if let Some(inner) = open.pop() {
+        put(out, open, inner)
     }
 }
 
-/// Takes one line of the world.
-fn read(alloc: Global, open: &mut List<MarkedPair>, line: &str) -> Result<(), Memory> {
-    let Some((line, rest)) = line.split_once(' ') else {
-        return close(open);
-    };
-    let Some((key, text)) = rest.split_once(' ') else {
-        return Ok(());
-    };
-    open.push(written(alloc, key, number(line), text)?)?;
+/// Opens a value, and closes it where it holds no others.
+fn open_value(
+    alloc: Global,
+    out: &mut Answers,
+    open: &mut List<MarkedPair>,
+    line: u32,
+    key: &str,
+    text: &str,
+) {
+    if let Some(pair) = written(alloc, out, key, line, text) {
+        out.done(open.push(pair))
+    }
     match text {
-        "[" | "{" => Ok(()),
-        _ => close(open),
+        "[" | "{" => {},
+        _ => close(out, open),
     }
 }
 
-fn read_all(alloc: Global, open: &mut List<MarkedPair>, lines: &str) -> Result<(), Memory> {
-    for line in lines.lines() {
-        read(alloc, open, line.trim_start())?;
+/// Takes one line of the world: a value, or the end of one that holds others.
+fn read(alloc: Global, out: &mut Answers, open: &mut List<MarkedPair>, line: &str) {
+    let Some((line, rest)) = line.split_once(' ') else {
+        return close(out, open);
+    };
+    if let Some((key, text)) = rest.split_once(' ') {
+        open_value(alloc, out, open, number(line), key, text)
     }
-    Ok(())
 }
 
 /// The properties of the last value that is open.
@@ -249,9 +247,13 @@ fn properties(alloc: Global, open: &mut List<MarkedPair>) -> List<MarkedPair> {
     List::new(alloc)
 }
 
-fn roots(alloc: Global, lines: &str) -> Result<List<MarkedPair>, Memory> {
+fn roots(alloc: Global, out: &mut Answers, lines: &str) -> List<MarkedPair> {
     let mut open = List::new(alloc);
-    open.push(written(alloc, "", 0, "{")?)?;
-    read_all(alloc, &mut open, lines)?;
-    Ok(properties(alloc, &mut open))
+    if let Some(whole) = written(alloc, out, "", 0, "{") {
+        out.done(open.push(whole));
+    }
+    for line in lines.lines() {
+        read(alloc, out, &mut open, line.trim_start());
+    }
+    properties(alloc, &mut open)
 }

@@ -19,15 +19,15 @@ pub fn small(words: &str, at: usize) -> u32 {
     word(words, at).parse().unwrap_or(0)
 }
 
-pub fn text(alloc: Global, out: &mut Answers, words: &str, at: usize) -> Text {
-    out.text_of(alloc, word(words, at))
+pub fn text(out: &mut Answers, words: &str, at: usize) -> Text {
+    out.text_of(word(words, at))
 }
 
 /// A resource, by its kind and its name.
-pub fn resource(alloc: Global, out: &mut Answers, words: &str) -> ResourceKey {
+pub fn resource(out: &mut Answers, words: &str) -> ResourceKey {
     ResourceKey {
         kind: kind_of(word(words, 1)),
-        name: text(alloc, out, words, 2),
+        name: text(out, words, 2),
     }
 }
 
@@ -42,17 +42,17 @@ pub fn roles(alloc: Global, out: &mut Answers, words: &str) -> List<Role> {
 /// Two stages, each by its run and its name.
 pub fn stages(alloc: Global, out: &mut Answers, words: &str) -> List<(u64, Text)> {
     let mut stages = List::new(alloc);
-    let first = text(alloc, out, words, 2);
+    let first = text(out, words, 2);
     out.done(stages.push((number(words, 1), first)));
-    let second = text(alloc, out, words, 4);
+    let second = text(out, words, 4);
     out.done(stages.push((number(words, 3), second)));
     stages
 }
 
 /// The first word behind the name, if there is one.
-pub fn some_text(alloc: Global, out: &mut Answers, words: &str) -> Option<Text> {
+pub fn some_text(out: &mut Answers, words: &str) -> Option<Text> {
     match word(words, 1) {
         "" => None,
-        word => Some(out.text_of(alloc, word)),
+        word => Some(out.text_of(word)),
     }
 }

@@ -76,56 +76,56 @@ fn counted(words: &str) -> Rule {
 }
 
 /// A rule that tells one text.
-fn told(alloc: Global, out: &mut Answers, words: &str) -> Rule {
+fn told(out: &mut Answers, words: &str) -> Rule {
     match word(words, 0) {
         "job.taken" => Rule::JobTaken {
-            agent: text(alloc, out, words, 1),
+            agent: text(out, words, 1),
         },
         "capability.missing" => Rule::CapabilityMissing {
-            name: text(alloc, out, words, 1),
+            name: text(out, words, 1),
         },
         "stage.depends" => Rule::StageDepends {
-            stage: text(alloc, out, words, 1),
+            stage: text(out, words, 1),
         },
         "job.depends" => Rule::JobDepends {
-            job: text(alloc, out, words, 1),
+            job: text(out, words, 1),
         },
         "branch.refused" => Rule::BranchRefused {
-            git_ref: text(alloc, out, words, 1),
+            git_ref: text(out, words, 1),
         },
         "approval.rejected" => Rule::ApprovalRejected {
-            approver: text(alloc, out, words, 1),
+            approver: text(out, words, 1),
         },
         "token.taken" => Rule::TokenTaken {
-            name: text(alloc, out, words, 1),
+            name: text(out, words, 1),
         },
         "report.stranger" => Rule::ReportStranger {
-            agent: some_text(alloc, out, words),
+            agent: some_text(out, words),
         },
         _ => counted(words),
     }
 }
 
 /// A rule that tells a text beside something else.
-fn told_beside(alloc: Global, out: &mut Answers, words: &str) -> Rule {
+fn told_beside(out: &mut Answers, words: &str) -> Rule {
     match word(words, 0) {
         "job.ended" => Rule::JobEnded {
             result: outcome_of(word(words, 1)),
-            by: text(alloc, out, words, 2),
+            by: text(out, words, 2),
         },
         "lock.held" => Rule::LockHeld {
             run: number(words, 1),
-            stage: text(alloc, out, words, 2),
+            stage: text(out, words, 2),
         },
         "lock.behind" => Rule::LockBehind {
             run: number(words, 1),
-            stage: text(alloc, out, words, 2),
+            stage: text(out, words, 2),
         },
         "template.argument" => Rule::TemplateArgument {
-            job: text(alloc, out, words, 1),
+            job: text(out, words, 1),
             step: small(words, 2),
         },
-        _ => told(alloc, out, words),
+        _ => told(out, words),
     }
 }
 
@@ -133,21 +133,21 @@ fn told_beside(alloc: Global, out: &mut Answers, words: &str) -> Rule {
 pub fn rule_of(alloc: Global, out: &mut Answers, words: &str) -> Rule {
     match word(words, 0) {
         "agent.busy" => {
-            let stage = text(alloc, out, words, 2);
-            let job = text(alloc, out, words, 3);
+            let stage = text(out, words, 2);
+            let job = text(out, words, 3);
             let run = number(words, 1);
             Rule::AgentBusy { run, stage, job }
         }
         "pool.mismatch" => {
-            let have = text(alloc, out, words, 1);
-            let need = text(alloc, out, words, 2);
+            let have = text(out, words, 1);
+            let need = text(out, words, 2);
             Rule::PoolMismatch { have, need }
         }
         "permission.missing" => Rule::PermissionMissing {
-            resource: resource(alloc, out, words),
+            resource: resource(out, words),
         },
         "resource.unknown" => Rule::ResourceUnknown {
-            resource: resource(alloc, out, words),
+            resource: resource(out, words),
         },
         "role.missing" => Rule::RoleMissing {
             need: roles(alloc, out, words),
@@ -155,7 +155,7 @@ pub fn rule_of(alloc: Global, out: &mut Answers, words: &str) -> Rule {
         "resource.busy" => Rule::ResourceBusy {
             stages: stages(alloc, out, words),
         },
-        _ => told_beside(alloc, out, words),
+        _ => told_beside(out, words),
     }
 }
 
@@ -166,7 +166,7 @@ fn ended(alloc: Global, out: &mut Answers, rule: Rule) -> List<Fact> {
         run: 1,
         stage: 0,
         outcome: Outcome::Failed,
-        rule: out.shared(alloc, rule),
+        rule: out.shared(rule),
     };
     out.done(facts.push(Fact { moment: 0, event }));
     facts

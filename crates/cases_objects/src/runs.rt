@@ -27,23 +27,17 @@ fn put_refusal(alloc: Global, out: &mut Answers, refusal: Refusal) {
     out.push("\n")
 }
 
-fn put_variable(
-    alloc: Global,
-    out: &mut Answers,
-    all: &mut List<(Text, Text)>,
-    name: &str,
-    value: &str,
-) {
-    let name = out.text_of(alloc, name);
-    let value = out.text_of(alloc, value);
+fn put_variable(out: &mut Answers, all: &mut List<(Text, Text)>, name: &str, value: &str) {
+    let name = out.text_of(name);
+    let value = out.text_of(value);
     out.done(all.push((name, value)))
 }
 
 /// Two variables, of which one is empty.
 fn variables(alloc: Global, out: &mut Answers) -> List<(Text, Text)> {
     let mut all = List::new(alloc);
-    put_variable(alloc, out, &mut all, "b", "1");
-    put_variable(alloc, out, &mut all, "a", "");
+    put_variable(out, &mut all, "b", "1");
+    put_variable(out, &mut all, "a", "");
     all
 }
 
@@ -74,18 +68,18 @@ pub fn answer_jobs(alloc: Global, out: &mut Answers, case: &str) {
 }
 
 /// Run 7 of the pipeline `ci`, which `ann` queued; None where memory was wanting.
-pub fn queued(alloc: Global, out: &mut Answers, compiled: Compiled) -> Option<QueuedRun> {
-    let compiled = out.shared(alloc, compiled)?;
+pub fn queued(out: &mut Answers, compiled: Compiled) -> Option<QueuedRun> {
+    let compiled = out.shared(compiled)?;
     Some(QueuedRun {
         run: 7,
-        pipeline: out.text_of(alloc, "ci"),
-        requester: out.text_of(alloc, "ann"),
+        pipeline: out.text_of("ci"),
+        requester: out.text_of("ann"),
         compiled,
     })
 }
 
 fn put_run(alloc: Global, out: &mut Answers, status: &str, compiled: Compiled) {
-    if let Some(run) = queued(alloc, out, compiled) {
+    if let Some(run) = queued(out, compiled) {
         let status = status_of(alloc, out, status);
         put_made(alloc, out, run_object(alloc, &run, &status));
         out.push("\n")

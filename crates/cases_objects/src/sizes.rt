@@ -10,25 +10,25 @@ use pl_requests::{Call, Request, is_well_formed};
 use std::alloc::Global;
 
 /// The fact that the run was queued; None where memory was wanting.
-fn run_queued(alloc: Global, out: &mut Answers, compiled: Compiled) -> Option<Fact> {
-    let run = queued(alloc, out, compiled)?;
-    let event = Event::RunQueued(out.shared(alloc, run)?);
+fn run_queued(out: &mut Answers, compiled: Compiled) -> Option<Fact> {
+    let run = queued(out, compiled)?;
+    let event = Event::RunQueued(out.shared(run)?);
     Some(Fact { moment: 5, event })
 }
 
 fn facts_of(alloc: Global, out: &mut Answers, compiled: Compiled) -> List<Fact> {
     let mut facts = List::new(alloc);
-    if let Some(fact) = run_queued(alloc, out, compiled) {
+    if let Some(fact) = run_queued(out, compiled) {
         out.done(facts.push(fact));
     }
     facts
 }
 
 /// The request of a text that was queued, which is what stands below the line of its key.
-fn request_of(alloc: Global, out: &mut Answers, case: &str) -> Option<Request> {
+fn request_of(out: &mut Answers, case: &str) -> Option<Request> {
     let (_key, text) = case.split_once('\n').unwrap_or(("", case));
-    let text = out.list_of(alloc, text.as_bytes());
-    Some(Request::QueueText(out.shared(alloc, text)?))
+    let text = out.bytes_of(text);
+    Some(Request::QueueText(out.shared(text)?))
 }
 
 fn entry_of(request: Request, facts: List<Fact>) -> Entry {
@@ -98,7 +98,7 @@ fn put_entry(alloc: Global, out: &mut Answers, entry: &Entry) {
 }
 
 fn put_queued(alloc: Global, out: &mut Answers, case: &str, compiled: Compiled) {
-    if let Some(request) = request_of(alloc, out, case) {
+    if let Some(request) = request_of(out, case) {
         let facts = facts_of(alloc, out, compiled);
         put_entry(alloc, out, &entry_of(request, facts))
     }

@@ -16,7 +16,7 @@ fn rule_in(alloc: Global, out: &mut Answers, words: &str) -> Option<Shared<Rule>
         "-" => None,
         _ => {
             let rule = rule_of(alloc, out, words);
-            out.shared(alloc, rule)
+            out.shared(rule)
         }
     }
 }
@@ -37,12 +37,12 @@ fn progress_of(alloc: Global, out: &mut Answers, words: &str) -> Progress {
     }
 }
 
-fn agent_in(alloc: Global, out: &mut Answers, word: &str) -> Option<Shared<Text>> {
+fn agent_in(out: &mut Answers, word: &str) -> Option<Shared<Text>> {
     match word {
         "-" => None,
         _ => {
-            let agent = out.text_of(alloc, word);
-            out.shared(alloc, agent)
+            let agent = out.text_of(word);
+            out.shared(agent)
         }
     }
 }
@@ -50,7 +50,7 @@ fn agent_in(alloc: Global, out: &mut Answers, word: &str) -> Option<Shared<Text>
 fn job_status(alloc: Global, out: &mut Answers, words: &str) -> JobStatus {
     let (told, agent) = words.split_once('@').unwrap_or((words, "-"));
     JobStatus {
-        agent: agent_in(alloc, out, agent),
+        agent: agent_in(out, agent),
         progress: progress_of(alloc, out, told),
     }
 }

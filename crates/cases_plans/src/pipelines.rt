@@ -1,7 +1,7 @@
 use crate::numbers::put_place;
 use crate::plans::{Aspect, put_plan_of};
 use crate::stages::put_pipeline;
-use crate::world::{expanded, file};
+use crate::world::{expanded, file, tree_of};
 use pl_base::{Expanded, FileKey, List, Node, Place, Repository};
 use pl_cases::Answers;
 use pl_schema::{Pipeline, SchemaFault, pipeline_of};
@@ -116,9 +116,9 @@ fn put_expanded(alloc: Global, out: &mut Answers, asked: Asked, whole: &Expanded
 }
 
 fn put_tree(alloc: Global, out: &mut Answers, asked: Asked, node: &Node) {
-    match expanded(alloc, node, has_both(asked)) {
-        Ok(whole) => put_expanded(alloc, out, asked, &whole),
-        Err(_) => out.fail(),
+    if let Some(tree) = tree_of(alloc, out, node) {
+        let whole = expanded(alloc, out, tree, has_both(asked));
+        put_expanded(alloc, out, asked, &whole)
     }
 }
 
@@ -131,8 +131,6 @@ fn put_read(alloc: Global, out: &mut Answers, asked: Asked, case: &str, file: &F
 
 /// Puts what is asked of a pipeline.
 pub fn put_pipeline_in(alloc: Global, out: &mut Answers, asked: Asked, case: &str) {
-    match file(alloc) {
-        Ok(file) => put_read(alloc, out, asked, case, &file),
-        Err(_) => out.fail(),
-    }
+    let file = file(out);
+    put_read(alloc, out, asked, case, &file)
 }

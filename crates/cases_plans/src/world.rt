@@ -1,51 +1,50 @@
-use pl_base::{Expanded, FileKey, List, Memory, Node, Repository, SharedList, Text};
+use pl_base::{Expanded, FileKey, List, MarkedNode, Node, Repository, SharedList};
+use pl_cases::Answers;
 use pl_literal::literal;
 use std::alloc::Global;
 
 /// The root file.
-pub fn file(alloc: Global) -> Result<FileKey, Memory> {
-    let repo = Text::from_str(alloc, "r")?;
-    let git_ref = Text::from_str(alloc, "m")?;
-    let path = Text::from_str(alloc, "/ci.yml")?;
-    Ok(FileKey {
-        repo,
-        git_ref,
-        path,
-    })
+pub fn file(out: &mut Answers) -> FileKey {
+    FileKey {
+        repo: out.text_of("r"),
+        git_ref: out.text_of("m"),
+        path: out.text_of("/ci.yml"),
+    }
 }
 
-fn repository(alloc: Global, alias: &str, name: &str) -> Result<Repository, Memory> {
-    let alias = Text::from_str(alloc, alias)?;
-    let name = Text::from_str(alloc, name)?;
-    let git_ref = Text::from_str(alloc, "t")?;
-    Ok(Repository {
-        alias,
-        name,
-        git_ref,
-    })
+fn repository(out: &mut Answers, alias: &str, name: &str) -> Repository {
+    Repository {
+        alias: out.text_of(alias),
+        name: out.text_of(name),
+        git_ref: out.text_of("t"),
+    }
 }
 
 /// The alias `s` of `n`, and where both are wanted the alias `Self` of `other`.
-fn repositories(alloc: Global, both: bool) -> Result<List<Repository>, Memory> {
+fn repositories(alloc: Global, out: &mut Answers, both: bool) -> List<Repository> {
     let mut all = List::new(alloc);
-    all.push(repository(alloc, "s", "n")?)?;
+    let first = repository(out, "s", "n");
+    out.done(all.push(first));
     if both {
-        all.push(repository(alloc, "Self", "other")?)?;
+        let second = repository(out, "Self", "other");
+        out.done(all.push(second));
     }
-    Ok(all)
+    all
 }
 
-/// A node as it is written, in a file that extends itself and has one repository or both.
-pub fn expanded(alloc: Global, node: &Node, both: bool) -> Result<Expanded, Memory> {
-    let tree = literal(alloc, node, &SharedList::new(alloc)?)?;
-    let root = file(alloc)?;
-    let extends = Some(file(alloc)?);
-    let repositories = repositories(alloc, both)?;
-    Ok(Expanded {
+/// The tree of a node that was read, across no border; None where memory was wanting.
+pub fn tree_of(alloc: Global, out: &mut Answers, node: &Node) -> Option<MarkedNode> {
+    let crossings = out.made(SharedList::new(alloc))?;
+    out.made(literal(alloc, node, &crossings))
+}
+
+/// A tree as it is written, in a file that extends itself and has one repository or both.
+pub fn expanded(alloc: Global, out: &mut Answers, tree: MarkedNode, both: bool) -> Expanded {
+    Expanded {
         tree,
-        root,
-        extends,
-        repositories,
+        root: file(out),
+        extends: Some(file(out)),
+        repositories: repositories(alloc, out, both),
         used: List::new(alloc),
-    })
+    }
 }

@@ -22,7 +22,7 @@ pub fn check_of(alloc: Global, out: &mut Answers, text: &str) -> Option<Check> {
 fn files(alloc: Global, out: &mut Answers, paths: &str) -> List<FileKey> {
     let mut files = List::new(alloc);
     for path in paths.split_whitespace() {
-        let key = file(alloc, out, path);
+        let key = file(out, path);
         out.done(files.push(key));
     }
     files
@@ -94,7 +94,7 @@ fn days_of(alloc: Global, out: &mut Answers, words: &str) -> List<Day> {
 
 /// Business hours in a zone; None where its text names none.
 fn hours(alloc: Global, out: &mut Answers, text: &str) -> Option<Check> {
-    let zone = out.text_of(alloc, field(text, "zone"));
+    let zone = out.text_of(field(text, "zone"));
     match zone_of(alloc, &zone) {
         Ok(zone) => hours_in(alloc, out, text, zone),
         Err(ZoneFault::Unreadable) => None,

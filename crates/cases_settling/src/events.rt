@@ -15,9 +15,9 @@ use std::alloc::Global;
 fn sources(alloc: Global, out: &mut Answers) -> Sources {
     Sources {
         root: FileKey {
-            repo: out.text_of(alloc, "app"),
-            git_ref: out.text_of(alloc, "refs/heads/main"),
-            path: out.text_of(alloc, "/ci.yml"),
+            repo: out.text_of("app"),
+            git_ref: out.text_of("refs/heads/main"),
+            path: out.text_of("/ci.yml"),
         },
         arguments: List::new(alloc),
         files: List::new(alloc),
@@ -37,8 +37,8 @@ fn queued(
     ensures { IfSome result (λ event. CanRunIf (run_told event)) }
 {
     let sources = sources(alloc, out);
-    let pipeline = out.text_of(alloc, pipeline);
-    let requester = out.text_of(alloc, requester);
+    let pipeline = out.text_of(pipeline);
+    let requester = out.text_of(requester);
     match Shared::new(alloc, Compiled { plan, sources }) {
         Ok(compiled) => run_queued(
             alloc,
@@ -86,7 +86,7 @@ fn set(alloc: Global, out: &mut Answers, world: &str, name: &str) -> Option<Even
     ensures { IfSome result (λ event. CanRunIf (run_told event)) }
 {
     let resource = resource_of(alloc, out, below(world, "resource", name))?;
-    Some(Event::ResourceSet(out.shared(alloc, resource)?))
+    Some(Event::ResourceSet(out.shared(resource)?))
 }
 
 fn outcome_of(word: &str) -> Outcome {
@@ -103,8 +103,8 @@ fn outputs(alloc: Global, out: &mut Answers, words: &str) -> List<(Text, Text)> 
     let mut outputs = List::new(alloc);
     for pair in words.split_whitespace() {
         let (key, value) = pair.split_once('=').unwrap_or((pair, ""));
-        let key = out.text_of(alloc, key);
-        let value = out.text_of(alloc, value);
+        let key = out.text_of(key);
+        let value = out.text_of(value);
         out.done(outputs.push((key, value)));
     }
     outputs
@@ -124,16 +124,16 @@ fn report(alloc: Global, out: &mut Answers, rest: &str) -> Option<Event>
         outcome,
         rule: None,
         reported: Some(outcome),
-        outputs: out.shared(alloc, outputs)?,
+        outputs: out.shared(outputs)?,
     })
 }
 
-fn shared_text(alloc: Global, out: &mut Answers, word: &str) -> Option<Shared<Text>> {
-    let text = out.text_of(alloc, word);
-    out.shared(alloc, text)
+fn shared_text(out: &mut Answers, word: &str) -> Option<Shared<Text>> {
+    let text = out.text_of(word);
+    out.shared(text)
 }
 
-fn taken(alloc: Global, out: &mut Answers, rest: &str) -> Option<Event>
+fn taken(out: &mut Answers, rest: &str) -> Option<Event>
     ensures { IfSome result (λ event. CanRunIf (run_told event)) }
 {
     let (place, agent) = word(rest);
@@ -141,18 +141,18 @@ fn taken(alloc: Global, out: &mut Answers, rest: &str) -> Option<Event>
         run: run_at(place),
         stage: stage_at(place),
         job: job_at(place),
-        agent: shared_text(alloc, out, agent)?,
+        agent: shared_text(out, agent)?,
     })
 }
 
-fn decided(alloc: Global, out: &mut Answers, rest: &str, approve: bool) -> Option<Event>
+fn decided(out: &mut Answers, rest: &str, approve: bool) -> Option<Event>
     ensures { IfSome result (λ event. CanRunIf (run_told event)) }
 {
     let (place, who) = word(rest);
     Some(Event::DecisionMade {
         run: run_at(place),
         stage: stage_at(place),
-        approver: shared_text(alloc, out, who)?,
+        approver: shared_text(out, who)?,
         approve,
     })
 }
@@ -165,10 +165,10 @@ pub fn event_of(alloc: Global, out: &mut Answers, world: &str, line: &str) -> Op
     match first {
         "set" => set(alloc, out, world, rest),
         "queue" => queue(alloc, out, world, rest),
-        "take" => taken(alloc, out, rest),
+        "take" => taken(out, rest),
         "report" => report(alloc, out, rest),
-        "approve" => decided(alloc, out, rest, true),
-        "reject" => decided(alloc, out, rest, false),
+        "approve" => decided(out, rest, true),
+        "reject" => decided(out, rest, false),
         "cancel" => Some(Event::RunCanceled { run: run_at(rest) }),
         _ => None,
     }

@@ -12,10 +12,10 @@ use pl_yaml::read;
 use std::alloc::Global;
 
 /// The file that a pipeline's text says at its front that its root extends.
-fn extends(alloc: Global, out: &mut Answers, text: &str) -> Option<FileKey> {
+fn extends(out: &mut Answers, text: &str) -> Option<FileKey> {
     let rest = text.strip_prefix("extends ")?;
     let (path, _) = rest.split_once('\n').unwrap_or((rest, ""));
-    Some(file(alloc, out, path))
+    Some(file(out, path))
 }
 
 /// The text of a pipeline without what it says at its front.
@@ -29,11 +29,11 @@ fn written(text: &str) -> &str {
     }
 }
 
-fn root(alloc: Global, out: &mut Answers) -> FileKey {
+fn root(out: &mut Answers) -> FileKey {
     FileKey {
-        repo: out.text_of(alloc, "app"),
-        git_ref: out.text_of(alloc, "refs/heads/main"),
-        path: out.text_of(alloc, "/ci.yml"),
+        repo: out.text_of("app"),
+        git_ref: out.text_of("refs/heads/main"),
+        path: out.text_of("/ci.yml"),
     }
 }
 
@@ -46,8 +46,8 @@ fn tree_of(alloc: Global, out: &mut Answers, node: &Node) -> Option<MarkedNode> 
 fn expanded(alloc: Global, out: &mut Answers, tree: MarkedNode, text: &str) -> Expanded {
     Expanded {
         tree,
-        root: root(alloc, out),
-        extends: extends(alloc, out, text),
+        root: root(out),
+        extends: extends(out, text),
         repositories: List::new(alloc),
         used: List::new(alloc),
     }
@@ -93,7 +93,7 @@ fn plan_of_node(alloc: Global, out: &mut Answers, node: &Node, text: &str) -> Op
 pub fn plan_in(alloc: Global, out: &mut Answers, text: &str) -> Option<Plan>
     ensures { IfSome result (λ plan. CanRun plan) }
 {
-    let root = root(alloc, out);
+    let root = root(out);
     match read(alloc, written(text).as_bytes(), &root) {
         Ok(node) => plan_of_node(alloc, out, &node, text),
         Err(_) => None,

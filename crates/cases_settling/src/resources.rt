@@ -37,7 +37,7 @@ fn checks(alloc: Global, out: &mut Answers, text: &str) -> List<Check> {
 /// The resource that a text tells, or None where it tells none.
 pub fn resource_of(alloc: Global, out: &mut Answers, text: &str) -> Option<ResourceSetting> {
     let kind = kind_of(field(text, "kind"))?;
-    let name = out.text_of(alloc, field(text, "name"));
+    let name = out.text_of(field(text, "name"));
     Some(ResourceSetting {
         key: ResourceKey { kind, name },
         pipelines: pipelines(alloc, out, field(text, "pipelines")),

@@ -1,4 +1,4 @@
-use pl_base::{List, Memory, Shared, Text};
+use pl_base::{Bytes, List, Memory, Shared, Text};
 use std::alloc::Global;
 
 /// The answers so far. Where memory was wanting they aren't whole, and what stands in them counts
@@ -6,17 +6,25 @@ use std::alloc::Global;
 /// itself.
 #[derive(Drop)]
 pub struct Answers {
+    alloc: Global,
     text: Text,
     whole: bool,
 }
 
 impl Answers {
-    /// No answer yet.
+    /// No answer yet. The answers take their memory, and that of the values made for them, from
+    /// here.
     pub fn new(alloc: Global) -> Answers {
         Answers {
+            alloc,
             text: Text::new(alloc),
             whole: true,
         }
+    }
+
+    /// Where values take their memory from.
+    pub fn alloc(&self) -> Global {
+        self.alloc
     }
 
     /// Writes a text.
@@ -47,6 +55,19 @@ impl Answers {
         }
     }
 
+    /// Writes a space and a word.
+    pub fn push_word(&mut self, word: &str) {
+        self.push(" ");
+        self.push(word)
+    }
+
+    /// Writes a space and a number.
+    pub fn push_number(&mut self, number: u64) {
+        let alloc = self.alloc;
+        self.push(" ");
+        self.number(alloc, number)
+    }
+
     /// Says that memory was wanting.
     pub fn fail(&mut self) {
         self.whole = false;
@@ -71,30 +92,35 @@ impl Answers {
     }
 
     /// A word as a text of its own; the empty one where memory was wanting, which it notes.
-    pub fn text_of(&mut self, alloc: Global, word: &str) -> Text {
-        match Text::from_str(alloc, word) {
+    pub fn text_of(&mut self, word: &str) -> Text {
+        match Text::from_str(self.alloc, word) {
             Ok(text) => text,
             Err(_) => {
                 self.fail();
-                Text::new(alloc)
+                Text::new(self.alloc)
             }
         }
     }
 
+    /// The same of bytes.
+    pub fn bytes_of(&mut self, word: &str) -> Bytes {
+        self.list_of(word.as_bytes())
+    }
+
     /// The same of a list.
-    pub fn list_of<T: Copy>(&mut self, alloc: Global, items: &[T]) -> List<T> {
-        match List::from_slice(alloc, items) {
+    pub fn list_of<T: Copy>(&mut self, items: &[T]) -> List<T> {
+        match List::from_slice(self.alloc, items) {
             Ok(list) => list,
             Err(_) => {
                 self.fail();
-                List::new(alloc)
+                List::new(self.alloc)
             }
         }
     }
 
     /// A value that may be shared, or None where memory was wanting, which it notes.
-    pub fn shared<T: Drop>(&mut self, alloc: Global, value: T) -> Option<Shared<T>> {
-        let shared = Shared::new(alloc, value);
+    pub fn shared<T: Drop>(&mut self, value: T) -> Option<Shared<T>> {
+        let shared = Shared::new(self.alloc, value);
         self.made(shared)
     }
 

@@ -1,8 +1,8 @@
-use crate::answers::Answers;
 use crate::lines::{number, place, word};
 use crate::plans::compiled;
 use crate::settings::{agent, file_event, pipeline, principal, resource};
 use pl_base::{List, Outcome, Shared, Text};
+use pl_cases::Answers;
 use pl_facts::{Event, QueuedRun, Rule};
 
 /// The event of a line, or None where it tells none.

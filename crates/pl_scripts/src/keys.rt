@@ -1,6 +1,6 @@
-use crate::answers::Answers;
 use crate::lines::word;
 use pl_base::{Digest, FileKey, Kind, ResourceKey};
+use pl_cases::Answers;
 
 /// The file of a path, in one repository.
 pub fn file_key(out: &mut Answers, path: &str) -> FileKey {

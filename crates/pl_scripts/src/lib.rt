@@ -2,7 +2,6 @@
 //! program answers. The form of the lines stands at the head of the programs' cases.
 #![tactic(auto)]
 
-mod answers;
 mod facts;
 mod keys;
 mod lines;
@@ -11,8 +10,8 @@ mod scripts;
 mod settings;
 mod shown;
 
-pub use answers::Answers;
 pub use keys::{digest, file_key, resource_key};
 pub use lines::{number, place, word};
+pub use pl_cases::Answers;
 pub use scripts::{Questions, play_all};
 pub use shown::{outcome_word, push_decisions, push_fact, push_pairs, verdict_word};

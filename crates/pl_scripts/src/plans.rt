@@ -1,9 +1,9 @@
-use crate::answers::Answers;
 use crate::keys::file_key;
 use pl_base::{
     Behaviour, List, MarkedNode, MarkedPair, Origin, Place, RepoRef, Shared, SharedList, Text,
     Value,
 };
+use pl_cases::Answers;
 use pl_facts::Compiled;
 use pl_plan::{Plan, PlanJob, PlanStage, PlanStep, Sources};
 

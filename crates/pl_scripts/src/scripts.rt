@@ -1,8 +1,8 @@
-use crate::answers::Answers;
 use crate::facts::event_of;
 use crate::keys::digest;
 use crate::lines::{number, word};
 use pl_base::Moment;
+use pl_cases::Answers;
 use pl_facts::Fact;
 use pl_journal::Numbers;
 use pl_open_runs::IndexedJournal;

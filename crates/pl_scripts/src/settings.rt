@@ -1,7 +1,7 @@
-use crate::answers::Answers;
 use crate::keys::{digest, file_key, resource_key};
 use crate::lines::word;
 use pl_base::List;
+use pl_cases::Answers;
 use pl_facts::{
     AgentSetting, Event, FileText, PipelineSetting, PrincipalSetting, ResourceSetting, Role,
 };

@@ -1,5 +1,5 @@
-use crate::answers::Answers;
 use pl_base::{Outcome, Text};
+use pl_cases::Answers;
 use pl_facts::{Event, Fact, Rule};
 use pl_journal::{outcome_told, rule_told, taker_told, verdict_told};
 
