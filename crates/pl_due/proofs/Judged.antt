@@ -29,7 +29,7 @@ use Rattle.pl_due.specs.Nodes.{awaits_agent, condition, has_done_all, has_had, i
 use Rattle.pl_due.specs.Nodes.{is_out_of_time, is_running, is_waiting, outcomes}
 use Rattle.pl_due.specs.Scans.{FirstJob, IsFirstTrue}
 
-clash : (b : Bool) → b ≡ false → b ≡ true → ⊥
+pub clash : (b : Bool) → b ≡ false → b ≡ true → ⊥
 clash b lacks holds = false≢true (sym lacks ∙ holds)
 
 -- ---- jobs behind the last one

@@ -11,7 +11,7 @@ use Rattle.std.proofs.lemmas.List.Elements.{Contains-append_right}
 use Rattle.std.proofs.lemmas.List.Folds.{Any-from_list_any, list_any-from_Any}
 use Rattle.std.proofs.lemmas.List.FromFn.{get_or-range_with_len, length-range_with_len}
 use Rattle.std.proofs.lemmas.List.Kept.{AllPairs-filter}
-use Rattle.std.proofs.lemmas.Option.{slice_get_read, slice_get_within}
+use Rattle.std.proofs.lemmas.Option.{slice_get_within}
 use Rattle.pl_facts.specs.declared.fact.Fact.{Fact}
 use Rattle.pl_facts.specs.declared.fact.QueuedRun.{QueuedRun}
 use Rattle.pl_journal.specs.Runs.{queueing, run_told, stage_end}
@@ -238,11 +238,3 @@ module _ (facts : List Fact) (ascend : AllPairs (λ a b. a < b) (open_runs facts
             is.planned ∙ holds,
         waiting_open one run stage facts holds,
       ))
-
--- whether a stage waits is told of the stage at its place
-pub waits_at : (facts : List Fact) (stages : List PlanStage) (run stage : ℕ) (one : PlanStage) →
-    stage < length stages → one ≡ get_or stages stage one →
-    waits facts stages run stage ≡ is_waiting one run stage facts
-waits_at facts stages run stage one within is =
-    ap (λ o. option_map_or (λ (p : PlanStage). is_waiting p run stage facts) o false)
-    (slice_get_read stages (length stages) stage one refl within is)

@@ -78,7 +78,7 @@ module _ (test : Test) (stages : List PlanStage) (run n : ℕ) where
   passed before old new b is so_far put =
       put ∙ ap (λ ps. ps ++ cond b (at_place run n ∷ []) []) so_far
       ∙ append_assoc before (passing test stages run n) (cond b (at_place run n ∷ []) [])
-      ∙ ap (λ t. before ++ passing test stages run n ++ cond t (at_place run n ∷ []) []) (sym is)
+      ∙ ap (λ t. before ++ (passing test stages run n ++ cond t (at_place run n ∷ []) [])) (sym is)
       ∙ ap (λ ps. before ++ ps) (sym passing_more)
 
 -- ---- the first place that passes

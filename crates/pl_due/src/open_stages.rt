@@ -91,12 +91,21 @@ fn push_stages(
         ++ spec.passing (spec.waits journal.now.facts) stages.now run (length stages.now)) }
 {
     for stage in 0..stages.len() as u32 {
-        let planned = &stages[stage as usize];
         let place = Place { run, stage };
         push_if(running, place, is_running(journal, run, stage))?;
-        push_if(waiting, place, waits(journal, run, stage, planned))?;
+        push_if(waiting, place, waits_at(journal, run, stages, stage))?;
     }
     Ok(())
+}
+
+/// Whether the stage at a place of a run is there, and waits as `waits` says.
+fn waits_at(journal: &Journal, run: u64, stages: &[PlanStage], stage: u32) -> bool
+    ensures { result ≡ spec.waits journal.now.facts stages.now run stage }
+{
+    match stages.get(stage as usize) {
+        Some(planned) => waits(journal, run, stage, planned),
+        None => false,
+    }
 }
 
 /// Puts a stage behind others, where it is one of them.

@@ -8,7 +8,7 @@ ghost use Rattle.pl_due.specs.Contention as spec;
 ghost use Rattle.pl_due.specs.Fit.{AreFit, last_moment};
 ghost use Rattle.pl_due.specs.Kinds.{IsPassedOver};
 ghost use Rattle.pl_due.specs.Least.{Least};
-ghost use Rattle.pl_due.specs.Scans.{AllJudged, OneJudged};
+ghost use Rattle.pl_due.specs.Scans as scans;
 
 use crate::checked::is_permitted;
 use crate::contention::contender_of;
@@ -50,7 +50,7 @@ pub(crate) fn all_judged(
     requires moment { moment ≤ last_moment }
     requires fit { AreFit journal.now.facts }
     requires says { Least journal.now.facts (IsPassedOver journal.now.facts) None }
-    ensures { IfOk result (λ told. AllJudged journal.now.facts moment places.now told.fails
+    ensures { IfOk result (λ told. scans.AllJudged journal.now.facts moment places.now told.fails
         told.eligible) }
 {
     let mut eligible = List::new(alloc);
@@ -82,7 +82,7 @@ fn judged_at(
     requires moment { moment ≤ last_moment }
     requires fit { AreFit journal.now.facts }
     requires says { Least journal.now.facts (IsPassedOver journal.now.facts) None }
-    ensures { IfOk result (λ told. OneJudged journal.now.facts moment place.run place.stage
+    ensures { IfOk result (λ told. scans.OneJudged journal.now.facts moment place.run place.stage
         told.fails told.picked) }
 {
     match journal.run(place.run) {
@@ -119,7 +119,7 @@ fn nothing() -> OneJudged
 fn judged(alloc: Global, at: &StageAt<'_>) -> Result<OneJudged, Memory>
     requires asked { IsAsked at.now }
     requires says { Least (facts_of at.now) (IsPassedOver (facts_of at.now)) None }
-    ensures { IfOk result (λ told. OneJudged (facts_of at.now) at.now.moment at.now.run
+    ensures { IfOk result (λ told. scans.OneJudged (facts_of at.now) at.now.moment at.now.run
         at.now.stage told.fails told.picked) }
 {
     judgement_laws();

@@ -13,8 +13,8 @@ by_locks-requires-clause-eligible c =
     let facts = c.args.journal.now.facts in
     let P = IsEligible facts c.args.moment in
     subst (AreThose facts P) (sym c.as_slice.ensures) (are_those facts P (Waits facts)
-    c.args.waiting.now c.in_ok-all_judged.eligible c.requires.waiting
-    (λ told one run stage is. is.waits) (c.in_ok-all_judged.ensures.1 c.in-None.is))
+    c.args.waiting.now c.in_ok-fails.field-0.eligible c.requires.waiting
+    (λ told one run stage is. is.waits) (c.in_ok-fails.ensures.1 c.in-None.is))
 
 pub returns-in-Some : goal.returns-in-Some
 returns-in-Some c =
@@ -23,13 +23,13 @@ returns-in-Some c =
     c.requires.waiting (failing_stays facts c.args.moment)
     (drop 5 (findings facts c.args.moment)) c.in-Some.event
     (subst (FirstStage facts (Fails facts c.args.moment) c.args.waiting.now) c.in-Some.is
-    c.in_ok-all_judged.ensures.0)
+    c.in_ok-fails.ensures.0)
 
-pub returns-in-None : goal.returns-in-None
-returns-in-None c =
+pub returns : goal.returns
+returns c =
     let facts = c.args.journal.now.facts in
     if_ok _ _ c.by_locks.result (λ found. found_later facts (Fails facts c.args.moment)
     (Waits facts) c.args.waiting.now c.requires.waiting (failing_stays facts c.args.moment)
     (drop 5 (findings facts c.args.moment)) found
     (subst (FirstStage facts (Fails facts c.args.moment) c.args.waiting.now) c.in-None.is
-    c.in_ok-all_judged.ensures.0)) c.by_locks.ensures
+    c.in_ok-fails.ensures.0)) c.by_locks.ensures

@@ -1,8 +1,6 @@
-use Rattle.std.proofs.Common.{get_or, refl, sym}
+use Rattle.std.proofs.Common.{sym}
 use Rattle.std.proofs.lemmas.List.{append-nil}
-use Rattle.pl_due.specs.Nodes.{is_running, is_waiting}
 use Rattle.pl_due.specs.Open.{runs, waits}
-use Rattle.pl_due.proofs.Opened.{waits_at}
 use Rattle.pl_due.proofs.Ranges.{passed}
 use Rattle.pl_due.proofs.open_stages.push_stages.Goals as goal
 
@@ -20,9 +18,9 @@ loop-stage-preserved c =
     let stage = c.loop-stage.stage in
     record {
       running = passed (runs facts) stages run stage c.args.running.now c.loop-stage.running
-          c.push_if.new.places c.is_running.result c.is_running.ensures
+          c.push_if.new.places c.is_running.result (sym c.is_running.ensures)
           c.loop-stage.invariant.running c.in_ok-push_if.ensures;
       waiting = passed (waits facts) stages run stage c.args.waiting.now c.loop-stage.waiting
-          c.push_if-2.new.places c.waits.result ? c.loop-stage.invariant.waiting
-          c.in_ok-push_if-2.ensures;
+          c.push_if-in-loop-stage.new.places c.waits_at.result (sym c.waits_at.ensures)
+          c.loop-stage.invariant.waiting c.in_ok-push_if-2.ensures;
     }

@@ -1,4 +1,4 @@
-use Rattle.std.proofs.Common.{get_or}
+use Rattle.std.proofs.Common.{get_or, ◌∙◌}
 use Rattle.std.proofs.lemmas.List.{get_or_default}
 use Rattle.pl_due.specs.Open.{at_place}
 use Rattle.pl_due.proofs.Once.{at_first, at_last, no_more, one_more, some_fails}
@@ -17,8 +17,8 @@ returns-in-Some c =
     let at = get_or places i (at_place 0 0) in
     some_fails facts c.args.moment places i at c.loop-place-test.true
     (get_or_default places i (at_place 0 0) at c.loop-place-test.true) c.loop-place.eligible
-    c.loop-place.invariant c.in_ok-judged_at.fails c.in_ok-judged_at.picked
-    c.in_ok-judged_at.ensures c.in-Some.event c.loop-place.eligible c.in-Some.is
+    c.loop-place.invariant c.in_ok-fails.field-0.fails c.in_ok-fails.field-0.picked
+    c.in_ok-fails.ensures c.in-Some.event c.loop-place.eligible c.in-Some.is
 
 pub loop-place-preserved : goal.loop-place-preserved
 loop-place-preserved c =
@@ -29,17 +29,17 @@ loop-place-preserved c =
     let within = c.loop-place-test.true in
     let is = get_or_default places i (at_place 0 0) at within in
     let old = c.loop-place.eligible in
-    let told = c.in_ok-judged_at.ensures in
-    let fails = c.in_ok-judged_at.fails in
-    let picked = c.in_ok-judged_at.picked in
-    elim c.match-branch-2.branch [
-      | in-Some+in_ok-push w ↦
+    let told = c.in_ok-fails.ensures in
+    let fails = c.in_ok-fails.field-0.fails in
+    let picked = c.in_ok-fails.field-0.picked in
+    elim c.match-picked-4.branch [
+      | in-Some-picked+in_ok-push w ↦
           one_more facts c.args.moment places i at within is old c.loop-place.invariant fails picked
-          told w.in-Some.stage c.match-branch-2.eligible c.in_default.is w.in-Some.is
+          told w.in-Some-picked.stage c.match-picked-4.eligible c.in_default.is w.in-Some-picked.is
           (w.eligible-is ∙ w.in_ok-push.ensures.ok)
-      | in_default w ↦
+      | in_default-picked w ↦
           no_more facts c.args.moment places i at within is old c.loop-place.invariant fails picked
-          told c.match-branch-2.eligible c.in_default.is w.in_default.is w.eligible-is
+          told c.match-picked-4.eligible c.in_default.is w.in_default-picked.is w.eligible-is
     ]
 
 pub returns : goal.returns

@@ -52,8 +52,8 @@ returns-in_ok-contender_where-in-None c =
     (fails_none facts at.moment told one at.run at.stage law judgement judged
     (sym c.fail_of.ensures ∙ c.in-None.is)))
     (picked_if facts (IsEligible facts at.moment) told one at.run at.stage there
-    (c.passes.result && is_permitted facts told one)
-    (eligible_both facts at.moment told one at.run at.stage law judgement judged c.passes.result
-    c.passes.ensures waits
+    (c.passes-passes.result && is_permitted facts told one)
+    (eligible_both facts at.moment told one at.run at.stage law judgement judged c.passes-passes.result
+    c.passes-passes.ensures waits
     (says_true facts told one at.run at.stage c.requires.says there waits))
     picked c.in_ok-contender_where-in-None.ensures)

@@ -20,12 +20,12 @@ pub returns-in-None-get : goal.returns-in-None-get
 returns-in-None-get c =
     let facts = c.args.journal.now.facts in
     let place = c.args.place in
-    nothing_there facts c.args.moment place.run place.stage c.nothing-in-None-get.result.fails
-    c.nothing-in-None-get.result.picked
+    nothing_there facts c.args.moment place.run place.stage c.nothing.result.fails
+    c.nothing.result.picked
     (no_stage facts place.run place.stage c.in-Some.queued.now (sym c.in-Some.ensures)
     (ap (λ (one : Compiled). slice_get one.plan.stages place.stage) (sym c.deref.ensures)
     ∙ sym c.in-None-get.ensures.value))
-    c.nothing-in-None-get.ensures.fails c.nothing-in-None-get.ensures.picked
+    c.nothing.ensures.fails c.nothing.ensures.picked
 
 pub returns-in-None : goal.returns-in-None
 returns-in-None c =
