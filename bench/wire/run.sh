@@ -2,8 +2,8 @@
 # Counts by callgrind what reading one message of 262,144 bytes of content costs in `pipectl replay`: `pl_wire::asked`, which is
 # all behind the head; of it the copy of a put's content (by how the count grows with the content), and for bodies of JSON
 # `serde_json`'s own reading (`pl_bodies`' value_in: a run with long parameters, one with short ones, capabilities, approvers by
-# their numbers, approvers in any order, patterns). Prints the counts and their ratios. Needs valgrind and python3, and proves
-# the program first where it isn't proved. Not a part of the gate.
+# their numbers, approvers in any order, patterns, names of pipelines, roles, templates, and many checks of each kind). Prints the
+# counts and their ratios. Needs valgrind and python3, and proves the program first where it isn't proved. Not a part of the gate.
 set -e
 top=$(cd "$(dirname "$0")/../.." && pwd)
 program=${1:-$top/crates/pipectl/out/pipectl}
@@ -58,6 +58,18 @@ for name, front, make in (
         {"kind": "approval", "approvers": [f"a{i * 7919 % 32749}" for i in range(n)], "least": 1, "requester": False}]}),
     ("patterns", "PUT /resources/pool/p", lambda n: {"pipelines": "all", "exclusive": False, "checks": [
         {"kind": "branch", "patterns": [f"refs/heads/{i}" for i in range(n)]}]}),
+    ("pipelines", "PUT /resources/pool/p", lambda n: {"pipelines": [f"p{i}" for i in range(n)], "exclusive": False, "checks": []}),
+    ("roles", "PUT /principals/ann", lambda n: {"roles": ["Reader"] * n, "tokenSha256": "0" * 64}),
+    ("templates", "PUT /resources/pool/p", lambda n: {"pipelines": "all", "exclusive": False, "checks": [
+        {"kind": "requiredTemplate", "templates": [{"repo": "shared", "ref": "refs/heads/main", "path": f"/{i}.yml"} for i in range(n)]}]}),
+    ("branch controls", "PUT /resources/pool/p", lambda n: {"pipelines": "all", "exclusive": False, "checks": [
+        {"kind": "branch", "patterns": ["*"]}] * n}),
+    ("approvals", "PUT /resources/pool/p", lambda n: {"pipelines": "all", "exclusive": False, "checks": [
+        {"kind": "approval", "approvers": ["ann"], "least": 1, "requester": False}] * n}),
+    ("hours in UTC", "PUT /resources/pool/p", lambda n: {"pipelines": "all", "exclusive": False, "checks": [
+        {"kind": "hours", "days": ["Mon"], "zone": "UTC", "start": 0, "end": 1}] * n}),
+    ("hours by a rule", "PUT /resources/pool/p", lambda n: {"pipelines": "all", "exclusive": False, "checks": [
+        {"kind": "hours", "days": ["Mon"], "zone": "CET-1CEST,M3.5.0,M10.5.0/3", "start": 0, "end": 1}] * n}),
 ):
     whole, reading = instructions(message(front, filled(make)), asked, "pl_bodies::content::value_in")
     print(f"{name}: {whole} instructions, {reading} of them serde_json's reading, ratio {whole / reading:.2f}", flush=True)
