@@ -61,7 +61,8 @@ module _ (facts : List Fact) (moment : ℕ) where
 pub says_true : (facts : List Fact) (told : QueuedRun) (one : PlanStage) (run stage : ℕ) →
     Least facts (IsPassedOver facts) None → IsStageOf facts run stage told one →
     is_waiting one run stage facts ≡ true → condition told run (Stage stage) facts ≡ true
-says_true facts told one run stage none there waits = go (condition told run (Stage stage) facts) refl
+says_true facts told one run stage none there waits =
+    go (condition told run (Stage stage) facts) refl
   where
     go : (b : Bool) → condition told run (Stage stage) facts ≡ b → b ≡ true
     go true says = refl

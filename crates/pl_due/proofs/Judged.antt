@@ -240,7 +240,8 @@ module _ (facts : List Fact) (moment : ℕ) (told : QueuedRun) (one : PlanStage)
       pub eligible_both : (passes : Bool) →
           ((verdicts : List Verdict) → Sums verdicts judgement → passes ≡ all_pass verdicts) →
           is_waiting one run stage facts ≡ true → condition told run (Stage stage) facts ≡ true →
-          IsTrue (passes && is_permitted facts told one) ↔ IsEligible facts moment told one run stage
+          IsTrue (passes && is_permitted facts told one)
+          ↔ IsEligible facts moment told one run stage
       eligible_both passes tells waits says = go (is_permitted facts told one) refl
         where
           go : (b : Bool) → is_permitted facts told one ≡ b →

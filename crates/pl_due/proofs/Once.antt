@@ -1,6 +1,6 @@
 -- Stages that are judged once.
-use Rattle.std.proofs.Common.{◌≡◌, ◌<◌, ◌≤◌, ◌+◌, ℕ, false, List, [], ◌∷◌, ◌++◌, length, get_or, drop, Option}
-use Rattle.std.proofs.Common.{Some, None, refl, sym, subst}
+use Rattle.std.proofs.Common.{◌≡◌, ◌<◌, ◌≤◌, ◌+◌, ℕ, false, List, [], ◌∷◌, ◌++◌, length}
+use Rattle.std.proofs.Common.{get_or, drop, Option, Some, None, refl, sym, subst}
 use Rattle.std.proofs.lemmas.List.{append-nil, drop_all}
 use Rattle.pl_facts.specs.declared.fact.Event.{Event}
 use Rattle.pl_facts.specs.declared.fact.Fact.{Fact}
@@ -29,8 +29,10 @@ module _ (facts : List Fact) (moment : ℕ) where
   module _ (run stage : ℕ) (fails : Option Event) (picked : Option Contender) where
     pub some_told : (event : Event) → fails ≡ Some event → First run stage (Some event) →
         OneJudged facts moment run stage fails picked
-    some_told event is first =
-        (subst (First run stage) (sym is) first, λ none. let e : Some event ≡ None = cc in absurd (cc))
+    some_told event is first = (
+      subst (First run stage) (sym is) first,
+      λ none. let e : Some event ≡ None = cc in absurd (cc),
+    )
 
     pub none_told : fails ≡ None → First run stage None → Whether run stage picked →
         OneJudged facts moment run stage fails picked

@@ -1,6 +1,7 @@
 //! The stages in which anything may be due.
 
-ghost use Rattle.std.specs.Prelude.{◌≡◌, ◌++◌, ◌<◌, ◌^◌, IfOk, OnOk, cond, flat_map, length, ◌∷◌, []};
+ghost use Rattle.std.specs.Prelude.{◌≡◌, ◌++◌, ◌<◌, ◌^◌, ◌∷◌, [], IfOk, OnOk, cond, flat_map};
+ghost use Rattle.std.specs.Prelude.{length};
 ghost use Rattle.pl_due.specs.Open as spec;
 ghost use Rattle.pl_due.specs.Fit.{AreFit};
 

@@ -15,14 +15,16 @@ contention_among-requires-clause-fit c =
 pub contention_among-requires-clause-running : goal.contention_among-requires-clause-running
 contention_among-requires-clause-running c =
     let facts = c.args.journal.now.facts in
-    subst (λ (log : Log). HasRunning log.facts c.as_slice-running.result.now) (sym c.journal.ensures)
+    subst (λ (log : Log). HasRunning log.facts c.as_slice-running.result.now)
+    (sym c.journal.ensures)
     (subst (HasRunning facts) (sym (c.as_slice-running.ensures ∙ c.in_ok-stages.ensures.running))
     (has_running facts (open_runs_ascend facts) (open_runs_hold facts)))
 
 pub contention_among-requires-clause-waiting : goal.contention_among-requires-clause-waiting
 contention_among-requires-clause-waiting c =
     let facts = c.args.journal.now.facts in
-    subst (λ (log : Log). HasWaiting log.facts c.as_slice-waiting.result.now) (sym c.journal.ensures)
+    subst (λ (log : Log). HasWaiting log.facts c.as_slice-waiting.result.now)
+    (sym c.journal.ensures)
     (subst (HasWaiting facts) (sym (c.as_slice-waiting.ensures ∙ c.in_ok-stages.ensures.waiting))
     (has_waiting facts (open_runs_ascend facts) (open_runs_hold facts)))
 

@@ -12,7 +12,8 @@ returns-in-Some c =
     let facts = c.args.journal.now.facts in
     found_here facts (JobIsPassedOver facts) (Holds facts) c.args.running.now c.requires.running
     (false_job_stays facts c.args.moment) (drop 2 (findings facts c.args.moment)) c.in-Some.event
-    (subst (FirstStage facts (JobIsPassedOver facts) c.args.running.now) c.in-Some.is c.in_ok-event.ensures)
+    (subst (FirstStage facts (JobIsPassedOver facts) c.args.running.now) c.in-Some.is
+    c.in_ok-event.ensures)
 
 pub returns-in-None : goal.returns-in-None
 returns-in-None c =
@@ -20,5 +21,6 @@ returns-in-None c =
     if_ok _ _ c.after_jobs.result (λ found. found_later facts (JobIsPassedOver facts) (Holds facts)
     c.args.running.now c.requires.running (false_job_stays facts c.args.moment)
     (drop 2 (findings facts c.args.moment)) found
-    (subst (FirstStage facts (JobIsPassedOver facts) c.args.running.now) c.in-None.is c.in_ok-event.ensures))
+    (subst (FirstStage facts (JobIsPassedOver facts) c.args.running.now) c.in-None.is
+    c.in_ok-event.ensures))
     c.after_jobs.ensures

@@ -14,7 +14,8 @@ push_stages-requires c = omega (
   ap (λ (one : Compiled). length one.plan.stages) c.deref.ensures,
 )
 
-pub returns-in_ok-push_stages-in-Some-clause-running : goal.returns-in_ok-push_stages-in-Some-clause-running
+pub returns-in_ok-push_stages-in-Some-clause-running :
+    goal.returns-in_ok-push_stages-in-Some-clause-running
 returns-in_ok-push_stages-in-Some-clause-running c =
     let facts = c.args.journal.now.facts in
     c.in_ok-push_stages-in-Some.ensures.running
@@ -30,7 +31,8 @@ returns-in-None-clause-running c =
     let facts = c.args.journal.now.facts in
     no_run facts (runs facts) c.args.run c.args.running.now (sym c.in-None.ensures)
 
-pub returns-in_ok-push_stages-in-Some-clause-waiting : goal.returns-in_ok-push_stages-in-Some-clause-waiting
+pub returns-in_ok-push_stages-in-Some-clause-waiting :
+    goal.returns-in_ok-push_stages-in-Some-clause-waiting
 returns-in_ok-push_stages-in-Some-clause-waiting c =
     let facts = c.args.journal.now.facts in
     c.in_ok-push_stages-in-Some.ensures.waiting

@@ -53,7 +53,8 @@ returns-in_ok-contender_where-in-None c =
     (sym c.fail_of.ensures ∙ c.in-None.is)))
     (picked_if facts (IsEligible facts at.moment) told one at.run at.stage there
     (c.passes-passes.result && is_permitted facts told one)
-    (eligible_both facts at.moment told one at.run at.stage law judgement judged c.passes-passes.result
+    (eligible_both facts at.moment told one at.run at.stage law judgement judged
+    c.passes-passes.result
     c.passes-passes.ensures waits
     (says_true facts told one at.run at.stage c.requires.says there waits))
     picked c.in_ok-contender_where-in-None.ensures)
