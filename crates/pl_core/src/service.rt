@@ -115,6 +115,7 @@ impl Core {
         ensures { IsGuarded self.now.opening self.now.entries }
     {
         access_laws();
+        let _count = self.entries.len();
     }
 
     /// What a call wants to be compiled, or None where it queues no run, where its caller isn't

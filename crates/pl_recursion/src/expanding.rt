@@ -73,32 +73,29 @@ fn fill_body<F: Files>(
 {
     let place = &node.place;
     let count = progress.count;
-    let after = match &node.body {
+    match &node.body {
         NodeBody::Scalar(text) => {
             let called = told(&progress.content);
             let region = scope.at.region;
             let one = given_value(alloc, text, scope.frame, place, count, region, called)?;
             let one = settle(alloc, one, scope, reach)?;
-            absorb(
-                alloc,
-                misfit,
-                place,
-                one.node,
-                progress.at(Chain::Closed, one.count),
-            )?
+            let begun = progress.at(Chain::Closed, one.count);
+            let after = absorb(alloc, misfit, place, one.node, begun)?;
+            Ok(after.chained(Chain::Closed))
         }
         NodeBody::Seq(items) => {
             let count = enter(alloc, place, count)?;
             let begun = as_items(alloc, misfit, place, progress.at(Chain::Closed, count))?;
-            fill_items(alloc, items, scope.below()?, begun, reach)?
+            let after = fill_items(alloc, items, scope.below()?, begun, reach)?;
+            Ok(after.chained(Chain::Closed))
         }
         NodeBody::Map(pairs) => {
             let count = enter(alloc, place, count)?;
             let begun = as_pairs(alloc, misfit, place, progress.at(Chain::Closed, count))?;
-            fill_pairs(alloc, pairs, scope.below()?, begun, reach)?
+            let after = fill_pairs(alloc, pairs, scope.below()?, begun, reach)?;
+            Ok(after.chained(Chain::Closed))
         }
-    };
-    Ok(after.chained(Chain::Closed))
+    }
 }
 
 /// A node in a loop's place, once for each item.

@@ -8,21 +8,23 @@ use Rattle.pl_recursion.proofs.Levels.{descends}
 use Rattle.pl_recursion.proofs.Spread.{spread_alone}
 use Rattle.pl_recursion.proofs.+expansion.Goals as goal
 
-pub following::descend-returns-clause-reached : goal.following::descend-returns-clause-reached
-following::descend-returns-clause-reached g t c =
+pub following::descend-returns : goal.following::descend-returns
+following::descend-returns g t c =
     let same : ways g.F.Files.files c.open.new.reach ≡ ways g.F.Files.files c.args.reach.now
     = cc (c.in_ok-opened.ensures.files, c.in_ok-opened.ensures.home) in
     let calling : Calling = call_in c.args.calling.now.frame.now c.args.calling.now.form
     (seen c.args.calling.now.call.now) c.args.calling.now.count in
     record {
-      given =
-          descends _ _ _ _ calling c.args.reach.now.used.now _ _ _ _ c.in-Some.ensures.0
-          c.in-Some.ensures.1 c.in_ok-opened.ensures.given same c.enter_file.ensures.found.given;
-      files = cc (c.enter_file.ensures.found.files, c.in_ok-opened.ensures.files);
-      home = cc (c.enter_file.ensures.found.home, c.in_ok-opened.ensures.home);
-      files_lent =
-          cc (c.enter_file.ensures.found.files_lent, c.in_ok-opened.ensures.files_lent);
-      used_lent = cc (c.enter_file.ensures.found.used_lent, c.in_ok-opened.ensures.used_lent);
+      reached = record {
+        given =
+            descends _ _ _ _ calling c.args.reach.now.used.now _ _ _ _ c.in-Some.ensures.0
+            c.in-Some.ensures.1 c.in_ok-opened.ensures.given same c.enter_file.ensures.found.given;
+        files = cc (c.enter_file.ensures.found.files, c.in_ok-opened.ensures.files);
+        home = cc (c.enter_file.ensures.found.home, c.in_ok-opened.ensures.home);
+        files_lent =
+            cc (c.enter_file.ensures.found.files_lent, c.in_ok-opened.ensures.files_lent);
+        used_lent = cc (c.enter_file.ensures.found.used_lent, c.in_ok-opened.ensures.used_lent);
+      };
     }
 
 pub putting::spread-returns-in_default : goal.putting::spread-returns-in_default
