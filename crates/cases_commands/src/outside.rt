@@ -57,8 +57,6 @@ impl Outfit for InMemory {
     fn clock(&mut self) -> MemClock {
         MemClock::new(self.first)
     }
-
-    fn tell(&mut self, _line: &str) {}
 }
 
 fn source(alloc: Global, input: &[u8], outside: Outside) -> Result<MemSource, Memory> {

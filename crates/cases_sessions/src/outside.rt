@@ -61,8 +61,6 @@ impl Outfit for Outside {
             told: 0,
         }
     }
-
-    fn tell(&mut self, _line: &str) {}
 }
 
 /// An outside that has these messages to give whole, and room for 1,000,000 bytes.

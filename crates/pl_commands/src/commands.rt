@@ -15,7 +15,6 @@ use crate::serving::write_all;
 use crate::status::Status;
 use pl_alone::Alone;
 use pl_base::{Argument, Digest, List, Memory};
-use pl_budgets::Budget;
 use pl_history::{access_laws, claim_laws};
 use pl_offline::{Ending, compile_bundle};
 use pl_words::{Command, parse};
@@ -32,8 +31,7 @@ const USAGE: &[u8] = b"usage: pipectl replay, serve, compile or rehearse\n";
 /// were taken, 1 and 3 where a read or a write failed, 6 where memory was wanting. `compile`, with
 /// as many `--param NAME=TEXT` as wanted, writes what the bundle of the source compiles to: 0 where
 /// that is the text of the expanded tree, 8 where it is the line of a refusal, 9 where the source
-/// holds no bundle; 10, 1, 3 and 6 as before, where people are told the budget that was passed.
-/// Other words are a usage line and 2.
+/// holds no bundle; 10, 1, 3 and 6 as before. Other words are a usage line and 2.
 pub fn run<O: Outfit>(alloc: Global, words: &[String], outfit: &mut O) -> Status
     ensures usage { (result ≡ Status.Usage)
         ↔ (command_of (map (λ word. string_bytes word) words.now) ≡ None) }
@@ -78,25 +76,7 @@ fn compile<O: Outfit>(alloc: Global, arguments: &List<Argument>, outfit: &mut O)
 {
     let ends = outfit.ends();
     let ending = compile_bundle(alloc, arguments, &mut ends.source, &mut ends.sink);
-    if let Ending::Memory(Some(budget)) = ending {
-        outfit.tell(line_of(budget));
-    }
     status_of_ending(ending)
-}
-
-// What people are told of a budget that a compilation passed.
-fn line_of(budget: Budget) -> &'static str {
-    match budget {
-        Budget::Bundle => "pipectl: no memory for the files of the bundle\n",
-        Budget::Files => "pipectl: no memory for the bytes and nodes of all files\n",
-        Budget::Repositories => "pipectl: no memory for the repositories of the root file\n",
-        Budget::Parameters => "pipectl: no memory for the parameters that a file declares\n",
-        Budget::Open => "pipectl: no memory for the nodes in one another, over all calls\n",
-        Budget::Made => "pipectl: no memory for the texts and nodes that are made\n",
-        Budget::Work => "pipectl: no memory for the work of the expansion\n",
-        Budget::Copied => "pipectl: no memory for the copies for stages and legs\n",
-        Budget::Plan => "pipectl: no memory for the text of the plan\n",
-    }
 }
 
 // The status of a compilation, by how it ended.

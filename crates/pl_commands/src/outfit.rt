@@ -30,10 +30,6 @@ pub trait Outfit {
         ensures coming { Self.Time.coming result ≡ (view self.old).coming }
         ensures ends { (view self.new).ends ≡ (view self.old).ends };
 
-    /// Tells people a line, where they are told anything: what fails of that is passed over.
-    fn tell(&mut self, line: &str)
-        ensures same { view self.new ≡ view self.old };
-
     /// What is put in the place of the ends is the ends, and nothing else changes.
     ghost ends_alone: { (outfit : Self) (ends : Paired Self.In Self.Out)
         → view (with_ends outfit ends) ≡ record (view outfit) { ends = ends } };

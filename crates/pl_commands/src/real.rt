@@ -32,16 +32,14 @@ pub struct SystemClock<T> {
 
 /// The streams and the clock of the process.
 #[derive(Drop)]
-pub struct Process<T, R, W, E> {
+pub struct Process<T, R, W> {
     runtime: T,
     ends: Paired<Reading<R>, Writing<W>>,
-    people: E,
 }
 
-impl<T, R, W, E> Process<T, R, W, E> {
-    /// A process with these streams, of which people read the last. No end was told and no fault
-    /// counted yet.
-    pub fn new(runtime: T, reader: R, writer: W, people: E) -> Process<T, R, W, E>
+impl<T, R, W> Process<T, R, W> {
+    /// A process with these streams. No end was told and no fault counted yet.
+    pub fn new(runtime: T, reader: R, writer: W) -> Process<T, R, W>
         ensures unended { result.ends.source.ended ≡ false }
         ensures read_faults { result.ends.source.faults ≡ 0 }
         ensures write_faults { result.ends.sink.faults ≡ 0 }
@@ -55,7 +53,6 @@ impl<T, R, W, E> Process<T, R, W, E> {
         Process {
             runtime,
             ends: Paired { source, sink },
-            people,
         }
     }
 }
@@ -127,7 +124,7 @@ impl<T: rt::Clock> Clock for SystemClock<T> {
     }
 }
 
-impl<T: rt::Clock + Copy, R: io::Read, W: io::Write, E: io::Write> Outfit for Process<T, R, W, E> {
+impl<T: rt::Clock + Copy, R: io::Read, W: io::Write> Outfit for Process<T, R, W> {
     type In = Reading<R>;
 
     type Out = Writing<W>;
@@ -148,9 +145,5 @@ impl<T: rt::Clock + Copy, R: io::Read, W: io::Write, E: io::Write> Outfit for Pr
         SystemClock {
             runtime: self.runtime,
         }
-    }
-
-    fn tell(&mut self, line: &str) {
-        let _ = self.people.write_all(line.as_bytes());
     }
 }

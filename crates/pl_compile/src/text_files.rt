@@ -2,7 +2,6 @@ ghost use Rattle.std.specs.Prelude.{◌≡◌};
 ghost use Rattle.pl_compile.specs.Reading.{AreOf, read_all};
 
 use pl_base::{ExactCopy, FileKey, FileSet, Memory, Shared};
-use pl_budgets::{Budget, Meter};
 use pl_expand::{Files, MemFiles, Parsed};
 use std::alloc::Global;
 use std::marker::Model;
@@ -10,7 +9,6 @@ use std::marker::Model;
 /// Texts of files, each of which is read as YAML when it is asked for, and once.
 #[derive(Drop)]
 pub(crate) struct TextFiles<'a> {
-    meter: &'a Meter,
     texts: &'a FileSet,
     read: MemFiles,
 }
@@ -32,12 +30,11 @@ impl<'a> Model for TextFiles<'a> {
 }
 
 impl<'a> TextFiles<'a> {
-    /// The files of these texts, of which none is read yet. The meter tells where no more are read.
-    pub(crate) fn new(alloc: Global, meter: &'a Meter, texts: &'a FileSet) -> TextFiles<'a>
+    /// The files of these texts, of which none is read yet.
+    pub(crate) fn new(alloc: Global, texts: &'a FileSet) -> TextFiles<'a>
         ensures { result ≡ texts.now }
     {
         TextFiles {
-            meter,
             texts,
             read: MemFiles::new(alloc),
         }
@@ -54,9 +51,7 @@ impl<'a> Files for TextFiles<'a> {
         let Some(text) = self.texts.get(key) else {
             return Ok(None);
         };
-        match self.read.put(alloc, key.copy(alloc)?, text.as_slice()) {
-            Ok(()) => self.read.node(alloc, key),
-            Err(_) => Err(self.meter.pass(Budget::Files)),
-        }
+        self.read.put(alloc, key.copy(alloc)?, text.as_slice())?;
+        self.read.node(alloc, key)
     }
 }
