@@ -1,4 +1,4 @@
-ghost use Rattle.std.specs.Prelude.{◌≡◌, OnOk};
+ghost use Rattle.std.specs.Prelude.{◌≡◌, OnOk, OnErr};
 ghost use Rattle.std.specs.FinMap as finite;
 ghost use Rattle.pl_root.specs.Reading.{parsed};
 ghost use Rattle.pl_compile.specs.Reading.{AreOf, read_all};
@@ -34,7 +34,7 @@ impl<'a> Model for TextFiles<'a> {
 }
 
 /// Reads a text as YAML and puts it at its key. The meter tells of the files where memory is
-/// wanting.
+/// wanting, and they are as before.
 fn put(
     alloc: Global,
     meter: &Meter,
@@ -42,8 +42,9 @@ fn put(
     key: &FileKey,
     text: &[u8],
 ) -> Result<(), Memory>
-    ensures { OnOk result
+    ensures ok { OnOk result
         (read.new ≡ finite.insert read.old key.now (parsed key.now text.now)) }
+    ensures err { OnErr result (read.new ≡ read.old) }
 {
     match read.put(alloc, key.copy(alloc)?, text) {
         Ok(()) => Ok(()),

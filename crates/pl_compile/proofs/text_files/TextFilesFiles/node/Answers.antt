@@ -19,7 +19,7 @@ stored c = record {
   there = sym c.in-Some-get.ensures;
   new_is =
       c.node-2.ensures.same
-      ∙ (c.in_ok-put.ensures
+      ∙ (c.in_ok-put.ensures.ok
       ∙ (ap (λ read. finite.insert read c.args.key.now
       (parsed c.args.key.now c.as_slice.result.now)) c.node.ensures.same
       ∙ ap (λ text. finite.insert c.self.inside.read c.args.key.now
