@@ -13,6 +13,7 @@ from shapes import ALL, OVER
 
 SECONDS, MEGABYTES, STACK = 2.0, 200, 8 * 1024
 MEMORY = 6
+TOLD = b"pipectl: no memory for "
 
 
 def over(one, statuses, wanted=None):
@@ -22,6 +23,8 @@ def over(one, statuses, wanted=None):
         found.append(f"signal {-one.ending}")
     elif one.ending not in statuses | ({MEMORY} if wanted is None else set()):
         found.append("status")
+    elif one.ending == MEMORY and TOLD not in one.told:
+        found.append("untold")
     elif wanted is not None and one.output != wanted.encode():
         found.append("answer")
     if one.seconds > SECONDS:

@@ -12,8 +12,9 @@ TRACE_ME, CONTINUE, SET_OPTIONS = 0, 7, 0x4200
 TELL_THE_END, END_WITH_US, END_EVENT = 0x40, 0x100000, 6
 MIB = 1 << 20
 
-# `ending` is the status, or the negative number of the signal; megabytes are of 10^6 bytes, `stack` is in KiB.
-Measured = collections.namedtuple("Measured", "seconds megabytes stack ending output")
+# `ending` is the status, or the negative number of the signal; megabytes are of 10^6 bytes, `stack` is in KiB. `output` and `told`
+# are what it wrote to its standard output and error.
+Measured = collections.namedtuple("Measured", "seconds megabytes stack ending output told")
 
 
 def told(process, field):
@@ -22,11 +23,17 @@ def told(process, field):
         return next((int(line.split()[1]) for line in lines if line.startswith(field)), 0)
 
 
+def read(path):
+    """The bytes of a file."""
+    with open(path, "rb") as file:
+        return file.read()
+
+
 def begin(words, text, output, seconds, memory, stack):
     """Becomes the program in a child that is watched."""
     os.dup2(os.open(text, os.O_RDONLY), 0)
     os.dup2(os.open(output, os.O_WRONLY | os.O_CREAT | os.O_TRUNC, 0o600), 1)
-    os.dup2(os.open(os.devnull, os.O_WRONLY), 2)
+    os.dup2(os.open(output + ".told", os.O_WRONLY | os.O_CREAT | os.O_TRUNC, 0o600), 2)
     resource.setrlimit(resource.RLIMIT_CORE, (0, 0))
     resource.setrlimit(resource.RLIMIT_CPU, (seconds, seconds))
     resource.setrlimit(resource.RLIMIT_AS, (memory * MIB, memory * MIB))
@@ -58,6 +65,5 @@ def measure(words, text, output, seconds=10, memory=4096, stack=64):
         if status >> 16:
             number = 0
     ending = os.waitstatus_to_exitcode(status)
-    with open(output, "rb") as file:
-        written = file.read()
-    return Measured(used.ru_utime + used.ru_stime, (held_most or used.ru_maxrss) * 1.024e-3, stack_most, ending, written)
+    written, told_people = read(output), read(output + ".told")
+    return Measured(used.ru_utime + used.ru_stime, (held_most or used.ru_maxrss) * 1.024e-3, stack_most, ending, written, told_people)

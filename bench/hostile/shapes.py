@@ -58,6 +58,12 @@ def a_template_under_20_ifs_calls_itself():
 
 
 @shape(8)
+def a_template_that_is_extended_under_60_ifs_calls_itself():
+    root = "".join("  " * n + "${{if 1}}:\n" for n in range(60)) + "  " * 60 + "extends: {template: e.yml}\n"
+    return bundle(root, ("/e.yml", CALLS), ("/t.yml", "steps:\n" + nested_blocks(20, "${{if 1}}:", CALL)))
+
+
+@shape(8)
 def a_template_under_31_ifs_calls_itself():
     inner = "{'${{if 1}}':[" * 30 + "{template: t.yml}" + "]}" * 30
     return bundle(CALLS, ("/t.yml", f"steps:\n- {inner}\n"))

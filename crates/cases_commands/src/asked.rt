@@ -1,7 +1,7 @@
 use crate::failing::{Asked, answer_cuts, answer_reads, answer_writes};
 use crate::interrupted::answer_interrupted;
 use crate::outside::in_pieces;
-use crate::runs::{answer_pieces, ran, words_of};
+use crate::runs::{answer_pieces, answer_told, ran, words_of};
 use pl_cases::{Answers, Questions, first_line, plain};
 use std::alloc::Global;
 use std::rt;
@@ -57,6 +57,7 @@ fn answer_words(alloc: Global, out: &mut Answers, question: &str, words: &[Strin
 fn answer_input(alloc: Global, out: &mut Answers, question: &str, words: &[String], input: &[u8]) {
     match question {
         "runs" => answer_pieces(alloc, out, words, input),
+        "people" => answer_told(alloc, out, words, input),
         _ => answer_whole(alloc, out, question, words, input),
     }
 }

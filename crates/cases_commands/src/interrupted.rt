@@ -57,7 +57,12 @@ pub fn answer_interrupted<T: rt::Clock + Copy>(
     runtime: T,
     times: u32,
 ) {
-    let mut process = Process::new(runtime, Interrupted { times }, Interrupted { times });
+    let mut process = Process::new(
+        runtime,
+        Interrupted { times },
+        Interrupted { times },
+        Interrupted { times },
+    );
     let ends = process.ends();
     let mut piece = [0u8; 4];
     out.number(alloc, moved(ends.source.read(&mut piece)));

@@ -1,6 +1,6 @@
 //! An outside in memory.
 
-ghost use Rattle.std.specs.Prelude.{Some, min, ◌+◌, refl};
+ghost use Rattle.std.specs.Prelude.{Some, None, min, ◌+◌, refl};
 
 use pl_base::{Bytes, List, MemClock, MemSink, MemSource, Memory, Moment, Paired};
 use pl_commands::Outfit;
@@ -26,11 +26,13 @@ pub fn in_pieces(read: usize, write: usize) -> Outside {
     }
 }
 
-/// A source and a sink in memory, and the moment of a clock's first call.
+/// A source and a sink in memory, the moment of a clock's first call, and what people were told, as
+/// far as there was memory for it.
 #[derive(Drop)]
 pub struct InMemory {
     pub ends: Paired<MemSource, MemSink>,
     pub first: Moment,
+    pub people: Vec<u8>,
 }
 
 impl Outfit for InMemory {
@@ -44,6 +46,7 @@ impl Outfit for InMemory {
       ends = outfit.ends;
       coming =
           Some (λ call. min (min outfit.first 4102444799 + call) 4102444799);
+      people = None;
     } };
 
     ghost with_ends = { λ outfit ends. record outfit { ends = ends } };
@@ -56,6 +59,10 @@ impl Outfit for InMemory {
 
     fn clock(&mut self) -> MemClock {
         MemClock::new(self.first)
+    }
+
+    fn tell(&mut self, line: &str) {
+        let _ = self.people.extend_from_slice(line.as_bytes());
     }
 }
 
@@ -78,5 +85,6 @@ pub fn outside_of(alloc: Global, input: &[u8], outside: Outside) -> Result<InMem
     Ok(InMemory {
         ends: Paired { source, sink },
         first: 1_704_067_200,
+        people: Vec::new(alloc),
     })
 }

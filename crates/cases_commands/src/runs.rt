@@ -70,6 +70,20 @@ fn push_run(alloc: Global, out: &mut Answers, code: u8, written: &[u8]) {
     push_written(out, written)
 }
 
+fn told(alloc: Global, words: &[String], input: &[u8]) -> Result<(u8, Vec<u8>), Memory> {
+    let mut outfit = outside_of(alloc, input, in_pieces(1_000_000, 1_000_000))?;
+    let status = run(alloc, words, &mut outfit);
+    Ok((status.code(), outfit.people))
+}
+
+/// Writes how a run ends, and what people were told.
+pub fn answer_told(alloc: Global, out: &mut Answers, words: &[String], input: &[u8]) {
+    match told(alloc, words, input) {
+        Ok((code, people)) => push_run(alloc, out, code, people.as_slice()),
+        Err(_) => out.fail(),
+    }
+}
+
 const PIECES: [(usize, usize); 6] = [
     (1, 1_000),
     (2, 7),

@@ -45,7 +45,7 @@ impl Outfit for Outside {
 
     type Time = Turns;
 
-    ghost view = { λ outfit. record { ends = outfit.ends; coming = None } };
+    ghost view = { λ outfit. record { ends = outfit.ends; coming = None; people = None } };
 
     ghost with_ends = { λ outfit ends. record outfit { ends = ends } };
 
@@ -61,6 +61,8 @@ impl Outfit for Outside {
             told: 0,
         }
     }
+
+    fn tell(&mut self, _line: &str) {}
 }
 
 /// An outside that has these messages to give whole, and room for 1,000,000 bytes.

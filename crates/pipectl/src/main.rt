@@ -19,6 +19,6 @@ fn main(rt: HostRuntime) -> ExitCode {
         Err(fault) if fault.kind() != io::ErrorKind::OutOfMemory => words.clear(),
         Err(_) => return Status::Memory.exit_code(),
     }
-    let mut process = Process::new(rt, rt.stdin(), rt.stdout());
+    let mut process = Process::new(rt, rt.stdin(), rt.stdout(), rt.stderr());
     run(rt.alloc(), &words, &mut process).exit_code()
 }

@@ -10,8 +10,8 @@ use Rattle.pl_commands.specs.declared.status.Status.TheVariants as status
 
 pub before_all :
     (command : Option Command) (old : Outside) → IsCompile command →
-    Runs command old old.link status.Memory
+    Runs command old old status.Memory
 before_all None old is = absurd is
 before_all (Some (Replay admin)) old is = absurd is
 before_all (Some (Compile arguments)) old is =
-    (ending.Memory None, refl, ([], none_read old.link.left, omega arith, refl, refl))
+    (ending.Memory None, refl, refl, ([], none_read old.link.left, omega arith, refl, refl))

@@ -1,6 +1,7 @@
 pub mod Acts
 pub mod Messages
 pub mod Outfit
+pub mod People
 pub mod Replay
 pub mod Run
 pub mod Session

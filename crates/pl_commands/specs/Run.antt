@@ -8,6 +8,7 @@ use Rattle.pl_commands.specs.declared.served.Served.{Served}
 use Rattle.pl_commands.specs.declared.status.Status.{Status}
 use Rattle.pl_commands.specs.declared.status.Status.TheVariants as status
 use Rattle.pl_commands.specs.Messages.{Spelled}
+use Rattle.pl_commands.specs.People.{told_of}
 use Rattle.pl_commands.specs.Session.{Point, Session}
 use Rattle.pl_commands.specs.Statuses.{compile_status, status_of}
 use Rattle.pl_commands.specs.Told.{Told, Writes, Begun}
@@ -21,10 +22,12 @@ use Rattle.pl_wire.specs.declared.message.Message.{Message}
 use Rattle.pl_words.specs.declared.command.Command.{Command}
 use Rattle.pl_words.specs.declared.command.Command.TheVariants.{Compile, Replay}
 
--- what the outside of a run tells: its source and sink, and the moments of the next clock
+-- what the outside of a run tells: its source and sink, the moments of the next clock, and what
+-- people were told
 pub record Outside : Type 0 where
   pub link : Told
   pub coming : Option (ℕ → ℕ)
+  pub people : Option (List ℕ)
 
 -- the line that is written where the words are no command
 abbrev pub usage_line : List ℕ
@@ -63,18 +66,22 @@ inflow_of link =
 abbrev pub outflow_of : Told → Outflow
 outflow_of link = record { held = link.held; faults = link.write_faults }
 
--- the bundle of the source, compiled onto the sink
-abbrev pub Compiles : List Argument → Told → Told → Status → Type 0
+-- the bundle of the source, compiled onto the sink, with the line for people, where one is told
+abbrev pub Compiles : List Argument → Outside → Outside → Status → Type 0
 Compiles arguments old new status =
     (ended : Ending)
     × (status ≡ compile_status ended)
-    × RunsOffline arguments ended (inflow_of old) (inflow_of new) (outflow_of old) (outflow_of new)
+    × (new.people ≡ told_of ended old.people)
+    × RunsOffline arguments ended (inflow_of old.link) (inflow_of new.link) (outflow_of old.link)
+    (outflow_of new.link)
 
--- the run of a command, or of words that are none
-abbrev pub Runs : Option Command → Outside → Told → Status → Type 0
-Runs (Some (Replay admin)) old new ending = Replays admin old new ending
-Runs (Some (Compile arguments)) old new ending = Compiles arguments old.link new ending
-Runs None old new ending = (ending ≡ status.Usage) × ShowsUsage old.link new
+-- the run of a command, or of words that are none; people are told of a compilation alone
+abbrev pub Runs : Option Command → Outside → Outside → Status → Type 0
+Runs (Some (Replay admin)) old new ending =
+    Replays admin old new.link ending × (new.people ≡ old.people)
+Runs (Some (Compile arguments)) old new ending = Compiles arguments old new ending
+Runs None old new ending =
+    (ending ≡ status.Usage) × ShowsUsage old.link new.link × (new.people ≡ old.people)
 
 -- why a run ended so: a status names a fault exactly where that count rose
 abbrev pub ReadsCounted : Status → ℕ → ℕ → Type 0

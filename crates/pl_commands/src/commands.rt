@@ -2,6 +2,7 @@
 
 ghost use Rattle.std.specs.Prelude.{◌≡◌, ◌↔◌, None, map, string_bytes};
 ghost use Rattle.pl_commands.specs.Outfit.{outside};
+ghost use Rattle.pl_commands.specs.People.{line_of, told_of};
 ghost use Rattle.pl_commands.specs.Run.{Compiles, Replays, ShowsUsage, Runs, ReadsCounted};
 ghost use Rattle.pl_commands.specs.Run.{WritesCounted};
 ghost use Rattle.pl_commands.specs.Statuses.{compile_status, status_of};
@@ -15,6 +16,7 @@ use crate::serving::write_all;
 use crate::status::Status;
 use pl_alone::Alone;
 use pl_base::{Argument, Digest, List, Memory};
+use pl_budgets::Budget;
 use pl_history::{access_laws, claim_laws};
 use pl_offline::{Ending, compile_bundle};
 use pl_words::{Command, parse};
@@ -31,13 +33,14 @@ const USAGE: &[u8] = b"usage: pipectl replay, serve, compile or rehearse\n";
 /// were taken, 1 and 3 where a read or a write failed, 6 where memory was wanting. `compile`, with
 /// as many `--param NAME=TEXT` as wanted, writes what the bundle of the source compiles to: 0 where
 /// that is the text of the expanded tree, 8 where it is the line of a refusal, 9 where the source
-/// holds no bundle; 10, 1, 3 and 6 as before. Other words are a usage line and 2.
+/// holds no bundle; 10, 1, 3 and 6 as before, and where memory was wanting since a budget was
+/// passed, people are told which. Other words are a usage line and 2.
 pub fn run<O: Outfit>(alloc: Global, words: &[String], outfit: &mut O) -> Status
     ensures usage { (result ≡ Status.Usage)
         ↔ (command_of (map (λ word. string_bytes word) words.now) ≡ None) }
     ensures runs { Runs (command_of (map (λ word. string_bytes word) words.now))
         (outside O.In.Source O.Out.Sink (O.view outfit.old))
-        (outside O.In.Source O.Out.Sink (O.view outfit.new)).link result }
+        (outside O.In.Source O.Out.Sink (O.view outfit.new)) result }
     ensures read_to_its_end { result ≡ Status.Finished
         → IsAtEnd (outside O.In.Source O.Out.Sink (O.view outfit.new)).link }
     ensures reads_counted { ReadsCounted result (O.In.faults (O.view outfit.old).ends.source)
@@ -55,8 +58,9 @@ pub fn run<O: Outfit>(alloc: Global, words: &[String], outfit: &mut O) -> Status
 
 // Answers the messages of the source on the sink.
 fn replay<O: Outfit>(alloc: Global, admin: Digest, outfit: &mut O) -> Status
-    ensures { Replays admin (outside O.In.Source O.Out.Sink (O.view outfit.old))
+    ensures replays { Replays admin (outside O.In.Source O.Out.Sink (O.view outfit.old))
         (outside O.In.Source O.Out.Sink (O.view outfit.new)).link result }
+    ensures people { (O.view outfit.new).people ≡ (O.view outfit.old).people }
 {
     access_laws();
     claim_laws();
@@ -71,12 +75,40 @@ fn replay<O: Outfit>(alloc: Global, admin: Digest, outfit: &mut O) -> Status
 
 // Compiles the bundle of the source onto the sink.
 fn compile<O: Outfit>(alloc: Global, arguments: &List<Argument>, outfit: &mut O) -> Status
-    ensures { Compiles arguments.now (outside O.In.Source O.Out.Sink (O.view outfit.old)).link
-        (outside O.In.Source O.Out.Sink (O.view outfit.new)).link result }
+    ensures { Compiles arguments.now (outside O.In.Source O.Out.Sink (O.view outfit.old))
+        (outside O.In.Source O.Out.Sink (O.view outfit.new)) result }
 {
     let ends = outfit.ends();
     let ending = compile_bundle(alloc, arguments, &mut ends.source, &mut ends.sink);
+    tell_ending(outfit, ending);
     status_of_ending(ending)
+}
+
+// Tells people the budget that a compilation passed, where it passed one.
+fn tell_ending<O: Outfit>(outfit: &mut O, ending: Ending)
+    ensures people { (O.view outfit.new).people ≡ told_of ending (O.view outfit.old).people }
+    ensures ends { (O.view outfit.new).ends ≡ (O.view outfit.old).ends }
+{
+    if let Ending::Memory(Some(budget)) = ending {
+        outfit.tell(line_of(budget));
+    }
+}
+
+// What people are told of a budget that a compilation passed.
+fn line_of(budget: Budget) -> &'static str
+    ensures { result.now ≡ line_of budget }
+{
+    match budget {
+        Budget::Bundle => "pipectl: no memory for the files of the bundle\n",
+        Budget::Files => "pipectl: no memory for the bytes and nodes of all files\n",
+        Budget::Repositories => "pipectl: no memory for the repositories of the root file\n",
+        Budget::Parameters => "pipectl: no memory for the parameters that a file declares\n",
+        Budget::Open => "pipectl: no memory for the nodes in one another, over all calls\n",
+        Budget::Made => "pipectl: no memory for the texts and nodes that are made\n",
+        Budget::Work => "pipectl: no memory for the work of the expansion\n",
+        Budget::Copied => "pipectl: no memory for the copies for stages and legs\n",
+        Budget::Plan => "pipectl: no memory for the text of the plan\n",
+    }
 }
 
 // The status of a compilation, by how it ended.
@@ -99,6 +131,7 @@ fn usage<O: Outfit>(outfit: &mut O) -> Status
     ensures usage { result ≡ Status.Usage }
     ensures shows { ShowsUsage (outside O.In.Source O.Out.Sink (O.view outfit.old)).link
         (outside O.In.Source O.Out.Sink (O.view outfit.new)).link }
+    ensures people { (O.view outfit.new).people ≡ (O.view outfit.old).people }
 {
     let _ = write_all(outfit.ends(), USAGE);
     Status::Usage

@@ -1,5 +1,6 @@
 ghost use Rattle.std.specs.Prelude.{◌≡◌, ◌≤◌, Option};
 ghost use Rattle.std.specs.Borrow.{sem};
+ghost use Rattle.pl_base.specs.Streams.{with_end};
 ghost use Rattle.pl_base.specs.declared.paired.Paired.{Paired};
 ghost use Rattle.pl_commands.specs.Outfit.{View, LendsEnds};
 
@@ -28,7 +29,13 @@ pub trait Outfit {
     /// Gives a clock.
     fn clock(&mut self) -> Self::Time
         ensures coming { Self.Time.coming result ≡ (view self.old).coming }
-        ensures ends { (view self.new).ends ≡ (view self.old).ends };
+        ensures ends { (view self.new).ends ≡ (view self.old).ends }
+        ensures people { (view self.new).people ≡ (view self.old).people };
+
+    /// Tells people a line, where there are any: what fails of that is passed over.
+    fn tell(&mut self, line: &str)
+        ensures { view self.new
+            ≡ record (view self.old) { people = with_end (view self.old).people line.now } };
 
     /// What is put in the place of the ends is the ends, and nothing else changes.
     ghost ends_alone: { (outfit : Self) (ends : Paired Self.In Self.Out)

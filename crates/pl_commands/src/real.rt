@@ -32,14 +32,16 @@ pub struct SystemClock<T> {
 
 /// The streams and the clock of the process.
 #[derive(Drop)]
-pub struct Process<T, R, W> {
+pub struct Process<T, R, W, E> {
     runtime: T,
     ends: Paired<Reading<R>, Writing<W>>,
+    people: E,
 }
 
-impl<T, R, W> Process<T, R, W> {
-    /// A process with these streams. No end was told and no fault counted yet.
-    pub fn new(runtime: T, reader: R, writer: W) -> Process<T, R, W>
+impl<T, R, W, E> Process<T, R, W, E> {
+    /// A process with these streams, of which people read the last. No end was told and no fault
+    /// counted yet.
+    pub fn new(runtime: T, reader: R, writer: W, people: E) -> Process<T, R, W, E>
         ensures unended { result.ends.source.ended ≡ false }
         ensures read_faults { result.ends.source.faults ≡ 0 }
         ensures write_faults { result.ends.sink.faults ≡ 0 }
@@ -53,6 +55,7 @@ impl<T, R, W> Process<T, R, W> {
         Process {
             runtime,
             ends: Paired { source, sink },
+            people,
         }
     }
 }
@@ -124,14 +127,14 @@ impl<T: rt::Clock> Clock for SystemClock<T> {
     }
 }
 
-impl<T: rt::Clock + Copy, R: io::Read, W: io::Write> Outfit for Process<T, R, W> {
+impl<T: rt::Clock + Copy, R: io::Read, W: io::Write, E: io::Write> Outfit for Process<T, R, W, E> {
     type In = Reading<R>;
 
     type Out = Writing<W>;
 
     type Time = SystemClock<T>;
 
-    ghost view = { λ process. record { ends = process.ends; coming = None } };
+    ghost view = { λ process. record { ends = process.ends; coming = None; people = None } };
 
     ghost with_ends = { λ process ends. record process { ends = ends } };
 
@@ -145,5 +148,9 @@ impl<T: rt::Clock + Copy, R: io::Read, W: io::Write> Outfit for Process<T, R, W>
         SystemClock {
             runtime: self.runtime,
         }
+    }
+
+    fn tell(&mut self, line: &str) {
+        let _ = self.people.write_all(line.as_bytes());
     }
 }

@@ -78,7 +78,7 @@ pub fn expanded(
     ensures texts { IfOk result (λ whole.
         AllByRecursion (IsSaid (read_all files.now)) (marks_of whole.tree)) }
 {
-    let mut read = TextFiles::new(alloc, files);
+    let mut read = TextFiles::new(alloc, meter, files);
     let expanded = expand(alloc, meter, &mut read, root, arguments);
     told(alloc, expanded)
 }

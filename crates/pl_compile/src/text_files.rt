@@ -1,7 +1,10 @@
-ghost use Rattle.std.specs.Prelude.{◌≡◌};
+ghost use Rattle.std.specs.Prelude.{◌≡◌, OnOk, OnErr};
+ghost use Rattle.std.specs.FinMap as finite;
+ghost use Rattle.pl_root.specs.Reading.{parsed};
 ghost use Rattle.pl_compile.specs.Reading.{AreOf, read_all};
 
 use pl_base::{ExactCopy, FileKey, FileSet, Memory, Shared};
+use pl_budgets::{Budget, Meter};
 use pl_expand::{Files, MemFiles, Parsed};
 use std::alloc::Global;
 use std::marker::Model;
@@ -9,6 +12,7 @@ use std::marker::Model;
 /// Texts of files, each of which is read as YAML when it is asked for, and once.
 #[derive(Drop)]
 pub(crate) struct TextFiles<'a> {
+    meter: &'a Meter,
     texts: &'a FileSet,
     read: MemFiles,
 }
@@ -29,12 +33,32 @@ impl<'a> Model for TextFiles<'a> {
     ghost invariant = { λ files. AreOf files.texts.now files.read };
 }
 
+/// Reads a text as YAML and puts it at its key. The meter tells of the files where memory is
+/// wanting, and they are as before.
+fn put(
+    alloc: Global,
+    meter: &Meter,
+    read: &mut MemFiles,
+    key: &FileKey,
+    text: &[u8],
+) -> Result<(), Memory>
+    ensures ok { OnOk result
+        (read.new ≡ finite.insert read.old key.now (parsed key.now text.now)) }
+    ensures err { OnErr result (read.new ≡ read.old) }
+{
+    match read.put(alloc, key.copy(alloc)?, text) {
+        Ok(()) => Ok(()),
+        Err(_) => Err(meter.pass(Budget::Files)),
+    }
+}
+
 impl<'a> TextFiles<'a> {
-    /// The files of these texts, of which none is read yet.
-    pub(crate) fn new(alloc: Global, texts: &'a FileSet) -> TextFiles<'a>
+    /// The files of these texts, of which none is read yet. The meter tells where no more are read.
+    pub(crate) fn new(alloc: Global, meter: &'a Meter, texts: &'a FileSet) -> TextFiles<'a>
         ensures { result ≡ texts.now }
     {
         TextFiles {
+            meter,
             texts,
             read: MemFiles::new(alloc),
         }
@@ -51,7 +75,7 @@ impl<'a> Files for TextFiles<'a> {
         let Some(text) = self.texts.get(key) else {
             return Ok(None);
         };
-        self.read.put(alloc, key.copy(alloc)?, text.as_slice())?;
+        put(alloc, self.meter, &mut self.read, key, text.as_slice())?;
         self.read.node(alloc, key)
     }
 }

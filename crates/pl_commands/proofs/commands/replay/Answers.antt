@@ -1,4 +1,4 @@
-use Rattle.std.proofs.Common.{◌≡◌, ◌∙◌, sym, ap, refl, subst, ℕ, [], Option}
+use Rattle.std.proofs.Common.{◌≡◌, ◌∙◌, sym, ap, refl, subst, ℕ, List, [], Option}
 use Rattle.pl_alone.specs.Desk.{Parts}
 use Rattle.pl_base.specs.declared.digest.Digest.{Digest}
 use Rattle.pl_commands.specs.declared.served.Served.{Served}
@@ -18,19 +18,19 @@ use Rattle.pl_commands.proofs.commands.replay.Goals as goal
 abbrev at : Told → Option (ℕ → ℕ) → Parts → Point
 at link coming desk = record { link = link; coming = coming; desk = desk }
 
-abbrev around : Told → Option (ℕ → ℕ) → Outside
-around link coming = record { link = link; coming = coming }
+abbrev around : Told → Option (ℕ → ℕ) → Option (List ℕ) → Outside
+around link coming people = record { link = link; coming = coming; people = people }
 
 -- a session with this clock and this desk is a replay
-replays_by : (admin : Digest) (coming clocked later : Option (ℕ → ℕ)) (first desk : Parts)
-    (old new : Told) (served : Served) (ending : Status)
+replays_by : (admin : Digest) (coming clocked later : Option (ℕ → ℕ)) (people : Option (List ℕ))
+    (first desk : Parts) (old new : Told) (served : Served) (ending : Status)
     → IsSound (opened admin) → IsOrderly (opened admin)
     → clocked ≡ coming → first ≡ record { opening = opened admin; seen = [] }
     → ending ≡ status_of served
     → Session (at old clocked first) (at new later desk) served
-    → Replays admin (around old coming) new ending
-replays_by admin coming clocked later first desk old new served ending sound orderly clock first_is
-    is session =
+    → Replays admin (around old coming people) new ending
+replays_by admin coming clocked later people first desk old new served ending sound orderly clock
+    first_is is session =
     let so_far : Session (at old coming first) (at new later desk) served =
     subst (λ moments. Session (at old moments first) (at new later desk) served) clock session in
     record {
@@ -57,29 +57,30 @@ nothing_replayed admin old sound orderly = record {
   session = ends_at_once (start admin old);
 }
 
-pub returns-in-Err : goal.returns-in-Err
-returns-in-Err g c = nothing_replayed c.args.admin _ (c.access_laws.ensures.sound c.args.admin)
+pub returns-in-Err-clause-replays : goal.returns-in-Err-clause-replays
+returns-in-Err-clause-replays g c = nothing_replayed c.args.admin _ (c.access_laws.ensures.sound c.args.admin)
     (c.claim_laws.ensures.orderly c.args.admin)
 
-pub returns : goal.returns
-returns g c =
+pub returns-clause-replays : goal.returns-clause-replays
+returns-clause-replays g c =
     let tell = told_by_ends g.O.In.Source g.O.Out.Sink in
     let coming = (g.O.Outfit.view c.args.outfit.now).coming in
+    let people = (g.O.Outfit.view c.args.outfit.now).people in
     let outfit = g.O.Outfit.with_ends c.clock-clock.new.self c.replay_link-served.new.link in
     let new_ends =
     ap (λ view. view.ends)
     (g.met.O.Outfit.ends_alone c.clock-clock.new.self c.replay_link-served.new.link) in
     let replays =
-    replays_by c.args.admin coming _ _ _ _ (tell c.ends.result.now)
+    replays_by c.args.admin coming _ _ people _ _ (tell c.ends.result.now)
     (tell c.replay_link-served.new.link) c.replay_link-served.result c.status.result
     (c.access_laws.ensures.sound c.args.admin) (c.claim_laws.ensures.orderly c.args.admin)
     c.clock-clock.ensures.coming c.in-Ok.ensures
     c.status.ensures c.replay_link-served.ensures in
     subst
-    (λ ends. Replays c.args.admin (around (tell ends) coming)
+    (λ ends. Replays c.args.admin (around (tell ends) coming people)
     (tell (g.O.Outfit.view outfit).ends) c.status.result)
     (c.ends.ensures.there ∙ c.clock-clock.ensures.ends)
     (subst
-    (λ ends. Replays c.args.admin (around (tell c.ends.result.now) coming) (tell ends)
+    (λ ends. Replays c.args.admin (around (tell c.ends.result.now) coming people) (tell ends)
     c.status.result)
     (sym new_ends) replays)

@@ -20,12 +20,10 @@ stored c = record {
   new_is =
       c.node-2.ensures.same
       ∙ (c.in_ok-put.ensures.ok
-      ∙ (ap (λ read. finite.insert read c.in_ok-copy.field-0
-      (parsed c.in_ok-copy.field-0 c.as_slice.result.now)) c.node.ensures.same
-      ∙ (ap (λ key. finite.insert c.self.inside.read key (parsed key c.as_slice.result.now))
-      c.in_ok-copy.ensures
+      ∙ (ap (λ read. finite.insert read c.args.key.now
+      (parsed c.args.key.now c.as_slice.result.now)) c.node.ensures.same
       ∙ ap (λ text. finite.insert c.self.inside.read c.args.key.now
-      (parsed c.args.key.now text)) c.as_slice.ensures)));
+      (parsed c.args.key.now text)) c.as_slice.ensures));
 }
 
 pub invariant_of-self-2 : goal.invariant_of-self-2
