@@ -84,3 +84,10 @@ returns-clause-replays g c =
     (λ ends. Replays c.args.admin (around (tell c.ends.result.now) coming people) (tell ends)
     c.status.result)
     (sym new_ends) replays)
+
+pub returns-clause-people : goal.returns-clause-people
+returns-clause-people g c =
+    let same =
+    ap (λ view. view.people)
+    (g.met.O.Outfit.ends_alone c.clock-clock.new.self c.replay_link-served.new.link) in
+    same ∙ c.clock-clock.ensures.people
