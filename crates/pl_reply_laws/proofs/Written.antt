@@ -47,9 +47,12 @@ asked coming [] (turn ∷ turns) later other same a b = absurd (cc same)
 asked coming (turn ∷ turns) [] later other same a b = absurd (cc same)
 asked coming (turn ∷ turns) (next ∷ others) later other same (_, at, tells) (_, also, told) =
     let message : turn.message ≡ next.message = cc same in
-    let more : messages_of turns ≡ messages_of others = cc same in
-    (at ∙ sym also, message, asked (λ call. coming (call + 1)) turns others later other more tells
-    told)
+    let more : messages_of turns ≡ messages_of others = cc same in (
+      at ∙ sym also,
+      message,
+      asked (λ call. coming (call + 1)) turns others later other more tells
+          told,
+    )
 
 -- ---- the session
 
