@@ -2,8 +2,8 @@
 # Counts by callgrind what reading one message of 262,144 bytes of content costs in `pipectl replay`: `pl_wire::asked`, which is
 # all behind the head; of it the copy of a put's content (by how the count grows with the content), and for bodies of JSON
 # `serde_json`'s own reading (`pl_bodies`' value_in: a run with long parameters, one with short ones, capabilities, approvers by
-# their numbers, approvers in any order, patterns, names of pipelines, roles, templates, and many checks of each kind). Prints the
-# counts and their ratios. Needs valgrind and python3, and proves the program first where it isn't proved. Not a part of the gate.
+# their numbers, approvers in any order, patterns, names of pipelines, roles, templates, and many checks of each kind; names of
+# characters of two bytes, short and long, and paths of short segments). Prints the counts and their ratios. Needs valgrind and python3, and proves the program first where it isn't proved. Not a part of the gate.
 set -e
 top=$(cd "$(dirname "$0")/../.." && pwd)
 program=${1:-$top/crates/pipectl/out/pipectl}
@@ -30,16 +30,20 @@ def message(front, content):
     return f"{front} HTTP/1.1\r\nAuthorization: Bearer abc\r\nContent-Length: {len(content)}\r\n\r\n".encode() + content
 
 
+def text(value):
+    return json.dumps(value, ensure_ascii=False).encode()
+
+
 def filled(make):
     count = 1
-    while len(json.dumps(make(2 * count))) <= most:
+    while len(text(make(2 * count))) <= most:
         count *= 2
     step = count
     while step:
-        if len(json.dumps(make(count + step))) <= most:
+        if len(text(make(count + step))) <= most:
             count += step
         step //= 2
-    return json.dumps(make(count)).encode()
+    return text(make(count))
 
 
 asked, head = "pl_wire::asked::asked", "pl_heads::front::read_head"
@@ -70,6 +74,17 @@ for name, front, make in (
         {"kind": "hours", "days": ["Mon"], "zone": "UTC", "start": 0, "end": 1}] * n}),
     ("hours by a rule", "PUT /resources/pool/p", lambda n: {"pipelines": "all", "exclusive": False, "checks": [
         {"kind": "hours", "days": ["Mon"], "zone": "CET-1CEST,M3.5.0,M10.5.0/3", "start": 0, "end": 1}] * n}),
+    ("long pipelines of two bytes a character", "PUT /resources/pool/p", lambda n: {
+        "pipelines": ["é" * 50] * n, "exclusive": False, "checks": []}),
+    ("short pipelines of two bytes a character", "PUT /resources/pool/p", lambda n: {
+        "pipelines": ["é"] * n, "exclusive": False, "checks": []}),
+    ("long pipelines", "PUT /resources/pool/p", lambda n: {"pipelines": ["p" * 100] * n, "exclusive": False, "checks": []}),
+    ("capabilities of two bytes a character", "PUT /agents/linux-1", lambda n: {
+        "pool": "Default", "capabilities": {"é" * 45 + f"{i}": "" for i in range(n)}}),
+    ("paths of short segments", "PUT /resources/pool/p", lambda n: {"pipelines": "all", "exclusive": False, "checks": [
+        {"kind": "requiredTemplate", "templates": [{"repo": "a", "ref": "refs/", "path": "/a" * 128}] * n}]}),
+    ("paths of one segment", "PUT /resources/pool/p", lambda n: {"pipelines": "all", "exclusive": False, "checks": [
+        {"kind": "requiredTemplate", "templates": [{"repo": "a", "ref": "refs/", "path": "/" + "a" * 255}] * n}]}),
 ):
     whole, reading = instructions(message(front, filled(make)), asked, "pl_bodies::content::value_in")
     print(f"{name}: {whole} instructions, {reading} of them serde_json's reading, ratio {whole / reading:.2f}", flush=True)
