@@ -1,0 +1,5 @@
+pub mod Places
+pub mod Filtering
+pub mod Leading
+pub mod Differs
+pub mod Joining

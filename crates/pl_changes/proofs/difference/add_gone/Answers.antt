@@ -1,0 +1,13 @@
+use Rattle.std.proofs.Common.{not}
+use Rattle.pl_changes.proofs.Filtering.{filtered_end, filtered_step}
+use Rattle.pl_changes.specs.Differing.{going, have_place}
+use Rattle.pl_changes.proofs.difference.add_gone.Goals as goal
+
+pub loop-row-preserved : goal.loop-row-preserved
+loop-row-preserved c = filtered_step going (λ row. not (have_place c.args.behind.now row)) _ _
+    c.row-item.result _ _ _ c.loop-row-test.true c.row-item.is c.loop-row.invariant
+    c.in_ok-add_if_gone.ensures
+
+pub returns : goal.returns
+returns c = filtered_end going (λ row. not (have_place c.args.behind.now row)) c.args.before.now
+    c.loop-row.row-index _ _ c.loop-row-test.false c.loop-row.invariant

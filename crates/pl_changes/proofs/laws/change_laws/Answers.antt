@@ -1,0 +1,5 @@
+use Rattle.pl_changes.proofs.Differs.{all_lead, apart, differ, once}
+use Rattle.pl_changes.proofs.laws.change_laws.Goals as goal
+
+pub returns : goal.returns
+returns c = record { lead = all_lead; differ = differ; once = once; apart = apart }

@@ -1,0 +1,12 @@
+use Rattle.std.proofs.lemmas.List.{take_more}
+use Rattle.std.proofs.lemmas.Slice.Zip.{all_zipped_more}
+use Rattle.pl_read.proofs.reading.read_rows.Goals as goal
+
+pub loop-row-preserved : goal.loop-row-preserved
+loop-row-preserved c =
+    rw (
+      take_more _ _ c.row-item.result c.loop-row-test.true,
+      ← c.row-item.is,
+      c.in_ok-push.ensures.items,
+    )
+    (all_zipped_more _ _ _ _ _ c.loop-row.invariant c.in_ok-read_row.ensures)
