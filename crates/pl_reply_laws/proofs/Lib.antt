@@ -1,0 +1,4 @@
+mod Compiled
+mod Desks
+mod Wanted
+mod Written

@@ -1,0 +1,6 @@
+//! That what is answered leaves no choice.
+#![tactic(auto)]
+
+mod laws;
+
+pub use laws::reply_laws;
