@@ -1,6 +1,7 @@
 -- What is compiled leaves no choice: a refusal is the first of the expansion, of the schema or of
 -- the plan, each of which is one.
-use Rattle.std.proofs.Common.{◌≡◌, Ok, Err, List, Result, sym, ap, subst, ◌∙◌, inl, inr, ◌⊎◌}
+use Rattle.std.proofs.Common.{◌≡◌, Ok, Err, List, sym, ap, subst, ◌∙◌, inl, inr}
+use Rattle.std.specs.Prelude.{◌⊎◌, Result}
 use Rattle.pl_base.specs.declared.expanded.Argument.{Argument}
 use Rattle.pl_base.specs.declared.expanded.Expanded.{Expanded}
 use Rattle.pl_base.specs.declared.expanded.Refusal.{Refusal}
@@ -14,7 +15,6 @@ use Rattle.pl_compile.specs.declared.fault.CompileFault.TheVariants as told
 use Rattle.pl_plan.proofs.OneAnswer.{one_answer}
 use Rattle.pl_plan.specs.Plans.{IsPlanOf}
 use Rattle.pl_plan.specs.declared.plan.Compiled.{Compiled}
-use Rattle.pl_schema_parts.specs.declared.pipeline.Pipeline.{Pipeline}
 use Rattle.pl_snapshots.specs.declared.snapshot.Snapshot.{Snapshot}
 use Rattle.pl_sources.specs.Again.{CompilesToOne}
 

@@ -57,7 +57,7 @@ module _ (compiles : CompilesToOne) (steps : OneStep) where
   one_act old moment (Refused fault) (Reply left) Memory one other a b = tt
   one_act old moment (Refused fault) Memory right one other a b = tt
 
-  replied : (left right : Answer) (one other : Parts) → ¬ (left ≡ Memory) → ¬ (right ≡ Memory) →
+  replied : (left right : Answer) (one other : Parts) → (¬ (left ≡ Memory)) → (¬ (right ≡ Memory)) →
       AreOne left one right other → AreSame left one right other
   replied (Reply left) (Reply right) one other l r (reply, parts) = (ap Reply reply, parts)
   replied (Reply left) Memory one other l r is = absurd (r refl)
@@ -82,4 +82,5 @@ module _ (compiles : CompilesToOne) (steps : OneStep) where
       (subst (λ (desk : Parts). Acts desk turns one) same.1 acts) more asked ls rs in
       let turn_is : turn ≡ next =
       λ i. record { moment = moment i; message = message i; answer = same.0 i } in
-      (λ i. turn_is i ∷ rest.0 i, rest.1)
+      let turns_are : turn ∷ turns ≡ next ∷ others = λ i. turn_is i ∷ rest.0 i in
+      (turns_are, rest.1)

@@ -1,10 +1,9 @@
 -- What is to be compiled for a call leaves no choice, and so neither does what it is compiled to.
-use Rattle.std.proofs.Common.{◌≡◌, true, false, Option, Some, None, Result, inl, inr, refl, sym}
+use Rattle.std.proofs.Common.{◌≡◌, true, false, Option, Some, None, inl, inr, refl, sym}
 use Rattle.std.proofs.Common.{ap, subst, ◌∙◌}
 use Rattle.std.proofs.lemmas.Option.{none-some}
 use Rattle.std.specs.FinMap.{same_map}
 use Rattle.pl_base.proofs.FileKeys.{exact_files, files_total}
-use Rattle.pl_base.specs.declared.expanded.Refusal.{Refusal}
 use Rattle.pl_compilation.specs.Made.{IsMade}
 use Rattle.pl_history.specs.Made.{IsMadeFor, WantsAs, WantsFor}
 use Rattle.pl_journal.specs.Log.{Log}

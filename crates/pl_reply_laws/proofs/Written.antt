@@ -3,7 +3,7 @@ use Rattle.std.proofs.Common.{◌≡◌, ℕ, ◌+◌, List, [], ◌∷◌, ◌+
 use Rattle.std.proofs.Common.{subst, ◌∙◌}
 use Rattle.std.proofs.Math.Seq.{take-nil}
 use Rattle.std.specs.Prelude.{IfSome}
-use Rattle.pl_base.specs.Streams.{after_next, with_end, with_front}
+use Rattle.pl_base.specs.Streams.{with_end, with_front}
 use Rattle.pl_commands.proofs.Sessions.{append-nil}
 use Rattle.pl_commands.proofs.Streams.{one_stream}
 use Rattle.pl_commands.specs.Acts.{Tells, Turn, joined, messages_of, replies}
@@ -45,7 +45,8 @@ asked : (coming : ℕ → ℕ) (left right : List Turn) (later other : Option (�
 asked coming [] [] later other same a b = tt
 asked coming [] (turn ∷ turns) later other same a b = absurd (cc same)
 asked coming (turn ∷ turns) [] later other same a b = absurd (cc same)
-asked coming (turn ∷ turns) (next ∷ others) later other same (_, at, tells) (_, also, told) =
+asked coming (turn ∷ turns) (next ∷ others) later other same (within, at, tells)
+    (under, also, told) =
     let message : turn.message ≡ next.message = cc same in
     let more : messages_of turns ≡ messages_of others = cc same in (
       at ∙ sym also,

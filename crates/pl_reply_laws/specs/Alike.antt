@@ -22,4 +22,4 @@ AreAsked (turn ∷ turns) (other ∷ others) = (turn.moment ≡ other.moment)
 -- memory was wanting for none
 abbrev pub AreReplied : List Turn → Type 0
 AreReplied [] = Unit {0}
-AreReplied (turn ∷ turns) = ¬ (turn.answer ≡ Memory) × AreReplied turns
+AreReplied (turn ∷ turns) = (¬ (turn.answer ≡ Memory)) × AreReplied turns
