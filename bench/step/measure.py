@@ -146,7 +146,7 @@ def puts(program):
 
 def queueing(program):
     found = counted(program, [queue], [queue] * 10, b"201")
-    whole, inside = max(found.values()) // 10, found.get("compile")
+    whole, inside = max(found.values()) // 10, found.get("compile_within")
     print(f"queueing a text: {whole}, of which {inside and inside // 10} compile it", flush=True)
 
 
