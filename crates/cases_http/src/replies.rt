@@ -3,8 +3,8 @@
 use crate::answers::Answers;
 use crate::jsons::sample;
 use crate::written::{put_shown, write_line};
-use pl_base::{List, Memory};
-use pl_requests::{Body, Reply};
+use pl_base::{FileKey, List, Memory, Shared, Text};
+use pl_requests::{Body, FileText, Reply};
 use pl_wire::{HttpFault, RequestFault, fault_reply, memory_reply, refused_reply, reply_bytes};
 use std::alloc::Global;
 use std::str;
@@ -30,7 +30,13 @@ fn put_made(alloc: Global, out: &mut Answers, made: Result<Reply, Memory>) {
 }
 
 fn raw(alloc: Global, status: u16, text: &str) -> Result<Reply, Memory> {
-    let body = Body::Raw(List::from_slice(alloc, text.as_bytes())?);
+    let key = FileKey {
+        repo: Text::from_str(alloc, "main")?,
+        git_ref: Text::from_str(alloc, "refs/heads/main")?,
+        path: Text::from_str(alloc, "/a.yml")?,
+    };
+    let text = List::from_slice(alloc, text.as_bytes())?;
+    let body = Body::File(Shared::new(alloc, FileText { key, text })?);
     Ok(Reply { status, body })
 }
 

@@ -19,7 +19,7 @@ use Rattle.pl_jobs.specs.Reports.{ended_otherwise, has_outputs, is_outcome, is_t
 use Rattle.pl_jobs.specs.Reports.{reported}
 use Rattle.pl_journal.specs.Log.{Log}
 use Rattle.pl_journal.specs.Runs.{canceling, queueing, run_told}
-use Rattle.pl_journal.specs.Settings.{admin, by, file}
+use Rattle.pl_journal.specs.Settings.{admin, by, file, file_put}
 use Rattle.pl_open_runs.specs.Open.{is_open}
 use Rattle.pl_queueing.specs.Queueing.{Made, next_run, queue, unknown_use}
 use Rattle.pl_requests.specs.declared.request.JobName.{JobName}
@@ -70,7 +70,7 @@ module _ (log : Log) where
   files_removed key = cond_by (Fine log) (is_some (file key log.facts)) _ _ tt tt
 
   files_got : (key : FileKey) → Fine log (get_file log.facts key)
-  files_got key = or_by (Fine log) _ (file key log.facts) _ (λ text. tt) tt
+  files_got key = or_by (Fine log) _ (file_put key log.facts) _ (λ told. tt) tt
 
   pipeline_set : (told : PipelineSetting) → Fine log (set_pipeline told)
   pipeline_set told = cond_by (Fine log) (is told.name (codes "text")) _ _ tt tt

@@ -13,6 +13,7 @@ use Rattle.pl_facts.specs.declared.fact.Event.{Event}
 use Rattle.pl_facts.specs.declared.fact.Event.TheVariants as event
 use Rattle.pl_facts.specs.declared.fact.Fact.{Fact}
 use Rattle.pl_requests.specs.declared.settings.AgentSetting.{AgentSetting}
+use Rattle.pl_requests.specs.declared.settings.FileText.{FileText}
 use Rattle.pl_requests.specs.declared.settings.PipelineSetting.{PipelineSetting}
 use Rattle.pl_requests.specs.declared.settings.PrincipalSetting.{PrincipalSetting}
 use Rattle.pl_requests.specs.declared.settings.ResourceSetting.{ResourceSetting}
@@ -23,6 +24,10 @@ use Rattle.pl_log.specs.Keys.{File, Pipeline, Resource, Principal, Agent, Token,
 use Rattle.pl_log.specs.Latest.{latest}
 
 -- ---- what one fact tells
+
+abbrev pub file_told : Event → Option FileText
+file_told (event.FilePut file) = Some file
+file_told _ = None
 
 abbrev pub text_told : Event → Option (List ℕ)
 text_told (event.FilePut file) = Some file.text
@@ -76,7 +81,10 @@ default_pool = record {
 
 -- ---- look-ups
 
--- a file that was removed later isn't there
+-- a file that was removed later isn't there; what was put, and its text
+abbrev pub file_put : FileKey → List Fact → Option FileText
+file_put key facts = by file_told (latest_about (File key) facts)
+
 abbrev pub file : FileKey → List Fact → Option (List ℕ)
 file key facts = by text_told (latest_about (File key) facts)
 

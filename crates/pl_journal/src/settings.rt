@@ -7,9 +7,9 @@ ghost use Rattle.pl_journal.specs.Settings as spec;
 use crate::about::Logged;
 use crate::journal::Journal;
 use crate::looking::fact_of;
-use crate::told::{agent_told, pipeline_told, principal_told, resource_told, text_told};
-use pl_base::{Bytes, Digest, FileKey, ResourceKey, Text};
-use pl_facts::{AgentSetting, PipelineSetting, PrincipalSetting, ResourceSetting};
+use crate::told::{agent_told, file_told, pipeline_told, principal_told, resource_told, text_told};
+use pl_base::{Bytes, Digest, FileKey, ResourceKey, Shared, Text};
+use pl_facts::{AgentSetting, FileText, PipelineSetting, PrincipalSetting, ResourceSetting};
 use pl_log::{Key, SecondKey, Test};
 
 impl Journal {
@@ -20,6 +20,17 @@ impl Journal {
     {
         match self.latest(Key::File(key)) {
             Some(fact) => text_told(&fact.event),
+            None => None,
+        }
+    }
+
+    /// The file of a key as it was put last, for whoever shares it, or None where it wasn't put or
+    /// was removed since.
+    pub fn file_put(&self, key: &FileKey) -> Option<&Shared<FileText>>
+        ensures { option_copied result ≡ spec.file_put key.now self.now.facts }
+    {
+        match self.latest(Key::File(key)) {
+            Some(fact) => file_told(&fact.event),
             None => None,
         }
     }

@@ -7,8 +7,19 @@ ghost use Rattle.pl_journal.specs.Settings as settings;
 
 use pl_base::{Bytes, List, Outcome, Shared, Text};
 use pl_facts::{
-    AgentSetting, Event, PipelineSetting, PrincipalSetting, QueuedRun, ResourceSetting, Rule,
+    AgentSetting, Event, FileText, PipelineSetting, PrincipalSetting, QueuedRun, ResourceSetting,
+    Rule,
 };
+
+/// The file that was put.
+pub(crate) fn file_told(event: &Event) -> Option<&Shared<FileText>>
+    ensures { option_copied result ≡ settings.file_told event.now }
+{
+    match event {
+        Event::FilePut(file) => Some(file),
+        _ => None,
+    }
+}
 
 /// The text of a file that was put.
 pub(crate) fn text_told(event: &Event) -> Option<&Bytes>

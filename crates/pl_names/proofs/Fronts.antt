@@ -3,7 +3,8 @@ use Rattle.std.proofs.Common.{inl, inr, ◌≡◌, ◌≢◌, ℕ, true, false, 
 use Rattle.std.specs.Prelude.{◌==◌, ◌&&◌}
 use Rattle.std.proofs.lemmas.Bool.Decides.{nat_tests}
 use Rattle.std.proofs.lemmas.Bool.{cases_Bool}
-use Rattle.pl_names.specs.Names.{are_segments, has_segments, slash}
+use Rattle.pl_names.specs.Bytes.{slash}
+use Rattle.pl_names.specs.Names.{are_segments, has_segments}
 
 equal : (byte : ℕ) → (byte == slash) ≡ true → byte ≡ slash
 equal byte here = grind (arith, nat_tests)

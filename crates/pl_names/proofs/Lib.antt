@@ -1,2 +1,3 @@
+pub mod Controls
 pub mod Fronts
-pub mod Printable
+pub mod Segments

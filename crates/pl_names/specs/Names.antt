@@ -6,10 +6,7 @@ use Rattle.std.specs.List.{list_all, list_any, slice_split, starts_with}
 use Rattle.std.specs.Str.{chars}
 use Rattle.pl_base.specs.Texts.{is}
 use Rattle.pl_base.specs.declared.place.FileKey.{FileKey}
-
--- a byte of one of ASCII's printable characters, from the space to the tilde
-abbrev pub is_printable : ℕ → Bool
-is_printable byte = nat_le 32 byte && nat_le byte 126
+use Rattle.pl_names.specs.Bytes.{slash}
 
 -- from one byte to so many, and no control character (U+0000 to U+001F and U+007F to U+009F)
 abbrev pub is_plain : ℕ → List ℕ → Bool
@@ -32,9 +29,6 @@ abbrev pub is_ref : List ℕ → Bool
 is_ref text = nat_le (length text) 128 && starts_with nat_eq text (codes "refs/")
 
 -- a path is slashes, each with a segment behind it, which isn't empty, `.` or `..`
-abbrev pub slash : ℕ
-slash = 47
-
 abbrev pub is_segment : List ℕ → Bool
 is_segment text =
     not (is text (codes "") || (is text (codes ".") || is text (codes "..")))

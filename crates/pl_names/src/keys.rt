@@ -1,5 +1,6 @@
 ghost use Rattle.std.specs.Prelude.{◌≡◌};
-ghost use Rattle.pl_names.specs.Names.{are_segments, has_segments, is_segment};
+ghost use Rattle.pl_names.specs.Bytes.{ends_badly, goes_wrong, slash};
+ghost use Rattle.pl_names.specs.Names.{are_segments, has_segments};
 ghost use Rattle.pl_names.specs.Names.{is_key, is_path, is_ref, is_repository};
 
 use crate::names::is_plain;
@@ -42,14 +43,33 @@ fn has_segments(text: &str) -> bool
 fn are_segments(text: &str) -> bool
     ensures { result ≡ are_segments text.now }
 {
-    text.split('/').all(|segment| is_segment(segment))
+    !go_wrong(text.as_bytes())
 }
 
-/// Whether a segment is neither empty nor `.` nor `..`.
-fn is_segment(text: &str) -> bool
-    ensures { result ≡ is_segment text.now }
+/// Whether a segment of these bytes, which stand behind a slash, is empty or `.` or `..`. All are
+/// looked at, whatever is found, so that many are looked at in one step.
+fn go_wrong(bytes: &[u8]) -> bool
+    ensures { result ≡ goes_wrong slash slash slash bytes.now }
 {
-    !matches!(text, "" | "." | "..")
+    let mut first = b'/';
+    let mut second = b'/';
+    let mut third = b'/';
+    let mut wrong = false;
+    for byte in bytes {
+        wrong = wrong | ((*byte == b'/') & ends_badly(third, second, first));
+        third = second;
+        second = first;
+        first = *byte;
+    }
+    wrong | ends_badly(third, second, first)
+}
+
+/// Whether the segment that ends with these three bytes, the last one at the end, is empty or `.` or
+/// `..`.
+fn ends_badly(third: u8, second: u8, first: u8) -> bool
+    ensures { result ≡ ends_badly third second first }
+{
+    (first == b'/') | ((first == b'.') & ((second == b'/') | ((second == b'.') & (third == b'/'))))
 }
 
 /// Whether a key of a file keeps the rules of repositories, refs and paths. It takes no memory.

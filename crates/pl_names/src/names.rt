@@ -1,8 +1,9 @@
 ghost use Rattle.std.specs.Prelude.{◌≡◌};
 ghost use Rattle.std.specs.Char.{is_control};
-ghost use Rattle.std.specs.List.{list_all, list_any};
+ghost use Rattle.std.specs.List.{list_any};
 ghost use Rattle.std.specs.Str.{chars};
-ghost use Rattle.pl_names.specs.Names.{is_label, is_name, is_plain, is_printable};
+ghost use Rattle.pl_names.specs.Bytes.{ends_control, has_control_behind};
+ghost use Rattle.pl_names.specs.Names.{is_label, is_name, is_plain};
 
 /// Whether a text has from one byte to so many, and no control character (U+0000 to U+001F and
 /// U+007F to U+009F). It takes no memory.
@@ -27,26 +28,31 @@ pub fn is_label(text: &str) -> bool
     !text.is_empty() && !has_control(text)
 }
 
-/// Whether a text has a control character. Where all of its bytes are printable ones of ASCII it is
-/// told without reading its characters.
+/// Whether a text has a control character.
 fn has_control(text: &str) -> bool
     ensures { result ≡ list_any is_control (chars text.now) }
 {
-    if are_printable(text.as_bytes()) {
-        return false;
+    have_control(text.as_bytes())
+}
+
+/// Whether a control character ends at one of these bytes. All are looked at, whatever is found, so
+/// that many are looked at in one step.
+fn have_control(bytes: &[u8]) -> bool
+    ensures { result ≡ has_control_behind 0 bytes.now }
+{
+    let mut last = 0;
+    let mut found = false;
+    for byte in bytes {
+        found = found | ends_control(last, *byte);
+        last = *byte;
     }
-    text.chars().any(|character| character.is_control())
+    found
 }
 
-/// Whether bytes are those of ASCII's printable characters, the space among them.
-fn are_printable(bytes: &[u8]) -> bool
-    ensures { result ≡ list_all is_printable bytes.now }
+/// Whether a byte ends a control character, where this one stands before it: one below 32, 127, or
+/// behind 194 one below 160.
+fn ends_control(last: u8, byte: u8) -> bool
+    ensures { result ≡ ends_control last byte }
 {
-    bytes.iter().all(|byte| is_printable(*byte))
-}
-
-fn is_printable(byte: u8) -> bool
-    ensures { result ≡ is_printable byte }
-{
-    32 <= byte && byte <= 126
+    (byte < 32) | (byte == 127) | ((last == 194) & (byte < 160))
 }

@@ -1,4 +1,5 @@
-use pl_base::{Bytes, Memory};
+use crate::settings::FileText;
+use pl_base::{Memory, Shared};
 use pl_json::{Json, Member, Members};
 use std::alloc::Global;
 
@@ -9,12 +10,13 @@ pub struct Reply {
     pub body: Body,
 }
 
-/// What a reply holds: nothing, a JSON value, or a file's bytes.
+/// What a reply holds: nothing, a JSON value, or a file, whose text is sent as it is and which the
+/// reply shares with whoever keeps it.
 #[derive(Debug, Drop)]
 pub enum Body {
     Empty,
     Json(Json),
-    Raw(Bytes),
+    File(Shared<FileText>),
 }
 
 impl Reply {

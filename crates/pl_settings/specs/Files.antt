@@ -8,7 +8,7 @@ use Rattle.pl_facts.specs.Sizes.{counted}
 use Rattle.pl_facts.specs.declared.fact.Event.TheVariants as event
 use Rattle.pl_facts.specs.declared.fact.Fact.{Fact}
 use Rattle.pl_journal.specs.Log.{Log, version}
-use Rattle.pl_journal.specs.Settings.{file}
+use Rattle.pl_journal.specs.Settings.{file, file_put}
 use Rattle.pl_requests.specs.declared.reply.Body.TheVariants as body
 use Rattle.pl_requests.specs.declared.reply.Reply.{Reply}
 use Rattle.pl_requests.specs.declared.settings.FileText.{FileText}
@@ -29,8 +29,8 @@ abbrev pub remove_file : Log → FileKey → Answer
 remove_file log key = if is_some (file key log.facts)
     then with_fact (versioned log) (event.FileRemoved key) else refused 404 rules.FileUnknown
 
--- its bytes as they are
+-- its bytes as they were put last
 abbrev pub get_file : List Fact → FileKey → Answer
 get_file facts key = option_map_or
-    (λ text. without_fact (record { status = 200; body = body.Raw text }))
-    (file key facts) (refused 404 rules.FileUnknown)
+    (λ told. without_fact (record { status = 200; body = body.File told }))
+    (file_put key facts) (refused 404 rules.FileUnknown)

@@ -4,7 +4,7 @@ ghost use Rattle.std.specs.Prelude.{◌≡◌, IfOk};
 ghost use Rattle.pl_settings.specs.Files as spec;
 
 use pl_answers::{Answer, numbered};
-use pl_base::{Bytes, ExactCopy, FileKey, Memory, Shared};
+use pl_base::{ExactCopy, FileKey, Memory, Shared};
 use pl_facts::Event;
 use pl_journal::Journal;
 use pl_requests::{Body, FileText, Reply, Rule};
@@ -53,15 +53,15 @@ pub fn remove_file(
     Ok(Answer::with_fact(reply, event))
 }
 
-/// What `GET /files/{repo}/{ref}/{path}` is answered: 200 with the file's bytes. 404 `file.unknown`
-/// where it isn't there. Nothing happens by it. Memory where memory is wanting.
+/// What `GET /files/{repo}/{ref}/{path}` is answered: 200 with the file's bytes, which the answer
+/// shares with the journal. 404 `file.unknown` where it isn't there. Nothing happens by it. Memory
+/// where memory is wanting.
 pub fn get_file(alloc: Global, journal: &Journal, key: &FileKey) -> Result<Answer, Memory>
     ensures { IfOk result (λ answer. answer ≡ spec.get_file journal.now.facts key.now) }
 {
-    match journal.file(key) {
-        Some(text) => {
-            let text = Bytes::from_slice(alloc, text.as_slice())?;
-            let body = Body::Raw(text);
+    match journal.file_put(key) {
+        Some(file) => {
+            let body = Body::File(file.copy(alloc)?);
             Ok(Answer::without_fact(Reply { status: 200, body }))
         }
         None => Answer::refusal(alloc, 404, &Rule::FileUnknown),

@@ -151,7 +151,9 @@ pub fn reply_bytes(alloc: Global, reply: &Reply) -> Result<Bytes, Memory>
     match &reply.body {
         Body::Empty => without_content(alloc, reply.status),
         Body::Json(json) => with_json(alloc, reply.status, json),
-        Body::Raw(bytes) => with_content(alloc, reply.status, "text/plain", bytes.as_slice()),
+        Body::File(file) => {
+            with_content(alloc, reply.status, "text/plain", file.text.as_slice())
+        }
     }
 }
 

@@ -1,0 +1,29 @@
+-- What bytes in UTF-8 tell: control characters, and the ends of segments of a path.
+use Rattle.std.specs.Prelude.{ℕ, nat_lt, Bool, false, ◌==◌, ◌&&◌, ◌||◌, List, [], ◌∷◌}
+
+-- a byte that ends a control character, where this one stands before it: those below 128 are one
+-- byte, and the others are 194 and a byte below 160
+abbrev pub ends_control : ℕ → ℕ → Bool
+ends_control last byte = (nat_lt byte 32 || byte == 127) || (last == 194 && nat_lt byte 160)
+
+abbrev pub has_control_behind : ℕ → List ℕ → Bool
+has_control_behind last [] = false
+has_control_behind last (byte ∷ bytes) =
+    ends_control last byte || has_control_behind byte bytes
+
+abbrev pub slash : ℕ
+slash = 47
+
+abbrev pub dot : ℕ
+dot = 46
+
+-- a segment that is empty, `.` or `..` ends with these three bytes, the last one at the end
+abbrev pub ends_badly : ℕ → ℕ → ℕ → Bool
+ends_badly third second first =
+    first == slash || (first == dot && (second == slash || (second == dot && third == slash)))
+
+-- such a segment ends somewhere in bytes, which stand behind these three
+abbrev pub goes_wrong : ℕ → ℕ → ℕ → List ℕ → Bool
+goes_wrong third second first [] = ends_badly third second first
+goes_wrong third second first (byte ∷ bytes) =
+    (byte == slash && ends_badly third second first) || goes_wrong second first byte bytes
