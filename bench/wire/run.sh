@@ -3,7 +3,9 @@
 # all behind the head; of it the copy of a put's content (by how the count grows with the content), and for bodies of JSON
 # `serde_json`'s own reading (`pl_bodies`' value_in: a run with long parameters, one with short ones, capabilities, approvers by
 # their numbers, approvers in any order, patterns, names of pipelines, roles, templates, and many checks of each kind; names of
-# characters of two bytes, short and long, and paths of short segments). Prints the counts and their ratios. Needs valgrind and python3, and proves the program first where it isn't proved. Not a part of the gate.
+# characters of two bytes, short and long, names of each length, and paths of short segments), and of a get what one more of them
+# takes in all, of a file of 131,072 and of 262,144 bytes. Prints the counts and their ratios. Needs valgrind and python3, and
+# proves the program first where it isn't proved. Not a part of the gate.
 set -e
 top=$(cd "$(dirname "$0")/../.." && pwd)
 program=${1:-$top/crates/pipectl/out/pipectl}
@@ -34,6 +36,13 @@ def text(value):
     return json.dumps(value, ensure_ascii=False).encode()
 
 
+def all_of(data):
+    """Returns the instructions of the whole program."""
+    command = ["valgrind", "--tool=callgrind", "--callgrind-out-file=/dev/null", program, "replay", "--admin", admin]
+    told = subprocess.run(command, input=data, stdout=subprocess.DEVNULL, stderr=subprocess.PIPE).stderr.decode()
+    return int(re.search(r"Collected : (\d+)", told)[1])
+
+
 def filled(make):
     count = 1
     while len(text(make(2 * count))) <= most:
@@ -52,6 +61,9 @@ half, whole = (instructions(data, asked, asked)[0] for data in put)
 heads = instructions(put[1], head, head)[0]
 copy = 2 * (whole - half)
 print(f"a put: {heads + whole} instructions, {heads} of them for the head and {copy} for the copy, ratio {(heads + whole) / (heads + copy):.2f}")
+get = message("GET /files/app/refs%2Fheads%2Fmain/%2Fci.yml", b"")
+half, whole = ((all_of(data + 3 * get) - all_of(data + get)) // 2 for data in put)
+print(f"a get: {whole} instructions in all, {2 * (whole - half)} of them grow with the file")
 for name, front, make in (
     ("long parameters", "POST /runs", lambda n: {"pipeline": "ci", "ref": "refs/heads/main", "parameters": {"a": "x" * n}}),
     ("short parameters", "POST /runs", lambda n: {"pipeline": "ci", "ref": "refs/heads/main", "parameters": {f"p{i}": "v" for i in range(n)}}),
@@ -79,6 +91,10 @@ for name, front, make in (
     ("short pipelines of two bytes a character", "PUT /resources/pool/p", lambda n: {
         "pipelines": ["é"] * n, "exclusive": False, "checks": []}),
     ("long pipelines", "PUT /resources/pool/p", lambda n: {"pipelines": ["p" * 100] * n, "exclusive": False, "checks": []}),
+    *((f"pipelines of {n} bytes", "PUT /resources/pool/p", lambda k, n=n: {"pipelines": ["p" * n] * k, "exclusive": False, "checks": []})
+        for n in (5, 15, 31, 63)),
+    *((f"pipelines of {n} bytes, two a character", "PUT /resources/pool/p", lambda k, n=n: {
+        "pipelines": ["é" * (n // 2)] * k, "exclusive": False, "checks": []}) for n in (15, 31, 63)),
     ("capabilities of two bytes a character", "PUT /agents/linux-1", lambda n: {
         "pool": "Default", "capabilities": {"é" * 45 + f"{i}": "" for i in range(n)}}),
     ("paths of short segments", "PUT /resources/pool/p", lambda n: {"pipelines": "all", "exclusive": False, "checks": [
