@@ -1,8 +1,6 @@
 -- What a desk makes of a message that it is given, and what it answers.
-use Rattle.std.specs.Prelude.{◌≡◌, ◌+◌, ◌++◌, ℕ, max, true, List, [], ◌∷◌, length}
+use Rattle.std.specs.Prelude.{◌≡◌, ◌+◌, ◌++◌, ℕ, max, List, [], ◌∷◌, length}
 use Rattle.pl_alone.specs.declared.alone.Alone.{Alone}
-use Rattle.pl_alone.specs.declared.alone.Answer.{Answer}
-use Rattle.pl_alone.specs.declared.alone.Answer.TheVariants.{Reply, Memory}
 use Rattle.pl_base.specs.declared.digest.Digest.{Digest}
 use Rattle.pl_facts.specs.declared.entry.Entry.{Entry}
 use Rattle.pl_facts.specs.declared.fact.Fact.{Fact}
@@ -13,10 +11,11 @@ use Rattle.pl_history.specs.Made.{IsMadeFor}
 use Rattle.pl_history.specs.History.{Opening, held_of, log_of}
 use Rattle.pl_journal.specs.Log.{Log, last_moment}
 use Rattle.pl_queueing.specs.Queueing.{Made}
-use Rattle.pl_requests.specs.WellFormed.{is_request}
 use Rattle.pl_requests.specs.declared.call.Call.{Call}
 use Rattle.pl_requests.specs.declared.reply.Reply.{Reply as Replied}
 use Rattle.pl_requests.specs.declared.request.Request.{Request}
+use Rattle.pl_sessions.specs.declared.answer.Answer.{Answer}
+use Rattle.pl_sessions.specs.declared.answer.Answer.TheVariants.{Reply, KeeperFault, Memory}
 use Rattle.pl_step.specs.Step.{IsStep, stepped_with}
 use Rattle.pl_wire.specs.Refusals.{reply_to_refused}
 use Rattle.pl_wire.specs.declared.message.Message.{Message}
@@ -32,11 +31,6 @@ parts desk = record { opening = desk.core.opening; seen = desk.core.entries }
 
 abbrev pub log : Parts → Log
 log desk = log_of desk.opening desk.seen
-
--- a request is well-formed where it keeps the rules and limits of its fields
-abbrev pub IsWellFormed : Message → Type 0
-IsWellFormed (Ask caller request) = is_request request ≡ true
-IsWellFormed (Refused fault) = Unit {0}
 
 -- the call that a request is: its moment is the later of the clock's and the last entry's
 abbrev pub call_at : Parts → ℕ → Digest → Request → Call
@@ -69,11 +63,13 @@ pub record Serves (old : Parts) (call : Call) (reply : Replied) (new : Parts) : 
       IsOrderly old.opening → IsAnswered old.opening old.seen call (stepped_with reply added)
 
 -- The answer is the step's reply, and the call an entry where it adds facts; or memory was wanting,
--- and the desk is as before. A message that is no request gets the reply of its fault, and leaves
--- the desk as it was.
+-- and the desk is as before. There is no keeper that could fail. A message that is no request gets
+-- the reply of its fault, and leaves the desk as it was.
 abbrev pub Act : Parts → ℕ → Message → Answer → Parts → Type 0
 Act old moment (Ask caller request) (Reply reply) new =
     Serves old (call_at old moment caller request) reply new
+Act old moment (Ask caller request) KeeperFault new = ⊥
 Act old moment (Ask caller request) Memory new = new ≡ old
 Act old moment (Refused fault) (Reply reply) new = (reply ≡ reply_to_refused fault) × (new ≡ old)
+Act old moment (Refused fault) KeeperFault new = ⊥
 Act old moment (Refused fault) Memory new = new ≡ old

@@ -1,25 +1,20 @@
 ghost use Rattle.std.specs.Prelude.{◌≡◌, ◌≤◌, [], true, IfOk, OnErr};
-ghost use Rattle.pl_alone.specs.Desk.{IsWellFormed, Serves};
+ghost use Rattle.pl_alone.specs.Desk.{Act, Serves, call_at, parts};
 ghost use Rattle.pl_core.specs.State.{log as log_of_core};
 ghost use Rattle.pl_due.specs.Fit.{last_moment as last_of_all};
 ghost use Rattle.pl_history.specs.Made.{IsMadeFor};
 ghost use Rattle.pl_history.specs.History.{opened};
 ghost use Rattle.pl_journal.specs.Log.{last_moment};
 ghost use Rattle.pl_requests.specs.WellFormed.{is_request, is_well_formed};
+ghost use Rattle.pl_wire.specs.declared.message.Message.TheVariants as asks;
 
 use pl_base::{Digest, Memory, Moment, Refusal, Shared};
 use pl_compilation::compiled;
 use pl_core::{Call, Core, Reply, Request};
 use pl_plan::Compiled;
+use pl_sessions::{Answer, Desk};
 use pl_wire::{Message, refused_reply};
 use std::alloc::Global;
-
-/// What a message is answered: the service's reply, or that memory is wanting.
-#[derive(Drop)]
-pub enum Answer {
-    Reply(Reply),
-    Memory,
-}
 
 /// A desk for one link, without a lock. Its entries name the seat 0.
 #[derive(Drop)]
@@ -28,9 +23,6 @@ pub struct Alone {
 }
 
 impl Alone {
-    ghost use Rattle.pl_alone.specs.Desk.{Act, call_at, parts};
-    ghost use Rattle.pl_wire.specs.declared.message.Message.TheVariants as asks;
-
     /// A desk of a service that was just opened, with the digest of its admin's token. Memory where
     /// memory is wanting.
     pub fn open(alloc: Global, admin: Digest) -> Result<Alone, Memory>
@@ -39,21 +31,6 @@ impl Alone {
         Ok(Alone {
             core: Core::new(alloc, admin)?,
         })
-    }
-
-    /// Answers a message at a moment that a clock tells. Where memory is wanting, nothing changes.
-    pub fn act(&mut self, alloc: Global, moment: Moment, message: Message) -> Answer
-        requires moment { moment ≤ last_of_all }
-        requires well_formed { IsWellFormed message }
-        ensures { Act (parts self.old) moment message result (parts self.new) }
-    {
-        match message {
-            Message::Ask { caller, request } => self.ask(alloc, moment, caller, request),
-            Message::Refused(fault) => match refused_reply(alloc, fault) {
-                Ok(reply) => Answer::Reply(reply),
-                Err(Memory) => Answer::Memory,
-            },
-        }
     }
 
     // Answers a request of a caller at a moment, or where that is later at the last entry's.
@@ -89,6 +66,22 @@ impl Alone {
         // They are a legal history.
         let _entries = self.core.entries();
         Ok(reply)
+    }
+}
+
+impl Desk for Alone {
+    ghost acts = { λ old moment message answer new.
+        Act (parts old) moment message answer (parts new) };
+
+    // Where memory is wanting, nothing changes.
+    fn act(&mut self, alloc: Global, moment: Moment, message: Message) -> Answer {
+        match message {
+            Message::Ask { caller, request } => self.ask(alloc, moment, caller, request),
+            Message::Refused(fault) => match refused_reply(alloc, fault) {
+                Ok(reply) => Answer::Reply(reply),
+                Err(Memory) => Answer::Memory,
+            },
+        }
     }
 }
 

@@ -3,4 +3,4 @@
 
 mod alone;
 
-pub use alone::{Alone, Answer};
+pub use alone::Alone;

@@ -1,8 +1,9 @@
 -- How a session over whole messages ends.
 use Rattle.std.proofs.Common.{◌≡◌, ℕ, ◌<◌, List, [], ◌∷◌, ◌++◌, length, refl, sym, ◌∙◌, ap, subst}
-use Rattle.std.proofs.Common.{arith, length-append, Option, Some, None}
+use Rattle.std.proofs.Common.{arith, false, length-append, Option, Some, None}
 use Rattle.std.specs.Prelude.{IfSome}
 use Rattle.std.proofs.Math.Seq.{take-nil}
+use Rattle.pl_alone.specs.Desk.{Act, Parts}
 use Rattle.pl_base.specs.Streams.{with_front}
 use Rattle.pl_wire.specs.declared.message.Message.{Message}
 use Rattle.pl_wire.specs.Message.{IsMessage, IsPartial, IsBad, OneReading}
@@ -10,18 +11,18 @@ use Rattle.pl_heads.specs.declared.fault.HttpFault.{HttpFault}
 use Rattle.pl_wire.proofs.Readings.{partial_none, bad_none, stay}
 use Rattle.pl_wire.proofs.Nothing.{nothing_none, nothing_not_bad}
 use Rattle.pl_base.specs.declared.digest.Digest.{Digest}
-use Rattle.pl_commands.specs.declared.served.Served.{Served}
-use Rattle.pl_commands.specs.declared.served.Served.TheVariants as served
+use Rattle.pl_sessions.specs.declared.served.Served.{Served}
+use Rattle.pl_sessions.specs.declared.served.Served.TheVariants as served
 use Rattle.pl_commands.specs.declared.status.Status.{Status}
-use Rattle.pl_commands.specs.Acts.{messages_of}
-use Rattle.pl_commands.specs.Messages.{Spelled, NoneFirst}
+use Rattle.pl_sessions.specs.Acts.{messages_of}
+use Rattle.pl_sessions.specs.Messages.{Spelled, NoneFirst}
 use Rattle.pl_commands.specs.Run.{Outside, Replays, FinishesUnlessBroken}
 use Rattle.pl_streams.specs.Whole.{taken_limit}
-use Rattle.pl_commands.specs.Session.{Point, Session}
+use Rattle.pl_sessions.specs.Session.{Point, Session}
 use Rattle.pl_commands.specs.Statuses.{status_of}
-use Rattle.pl_commands.specs.Told.{Told}
-use Rattle.pl_commands.proofs.Sessions.{append-nil, Spelled-more}
-use Rattle.pl_commands.proofs.Streams.{one_stream}
+use Rattle.pl_sessions.specs.Told.{Told}
+use Rattle.pl_sessions.proofs.Sessions.{append-nil, Spelled-more}
+use Rattle.pl_sessions.proofs.Streams.{one_stream}
 
 -- ---- lists
 
@@ -80,9 +81,9 @@ not_bad one bytes read rest more messages others fault whole all spelled bad =
     nothing_not_bad fault (subst (λ b. IsBad b fault) (no_front rest more none) bad)
 
 whole_session : OneReading
-    → (old new : Point) (bytes : List ℕ) (messages : List Message) (ending : Served)
-    → old.link.left ≡ Some bytes → Spelled bytes messages [] → length bytes < taken_limit → Session
-    old new ending
+    → (old new : Point Parts) (bytes : List ℕ) (messages : List Message) (ending : Served)
+    → old.link.left ≡ Some bytes → Spelled bytes messages [] → length bytes < taken_limit
+    → Session Act false old new ending
     → FinishesUnlessBroken (status_of ending)
 whole_session one old new bytes messages served.Ended left whole short s = tt
 whole_session one old new bytes messages (served.Cut len) left whole short s =
@@ -97,6 +98,7 @@ whole_session one old new bytes messages served.Spent left whole short s =
     let told_all = told_is s.read new.link.left bytes (sym left ∙ s.reads) in
     not_shorter s.read told_all.0 taken_limit (subst (λ b. length b < taken_limit) told_all.2 short)
     s.ends.1
+whole_session one old new bytes messages served.Stopped left whole short s = tt
 whole_session one old new bytes messages served.ReadFault left whole short s = tt
 whole_session one old new bytes messages served.WriteFault left whole short s = tt
 whole_session one old new bytes messages served.Memory left whole short s = tt

@@ -1,22 +1,24 @@
 -- What a run of the program does, by its words and by what it has of the outside.
-use Rattle.std.specs.Prelude.{◌≡◌, ◌<◌, ℕ, List, [], length, ◌⊎◌, Option, Some, None, codes}
-use Rattle.pl_alone.specs.Desk.{Parts}
+use Rattle.std.specs.Prelude.{◌≡◌, ◌≢◌, ◌<◌, ℕ, false, List, [], length, ◌⊎◌, Option, Some, None}
+use Rattle.std.specs.Prelude.{codes}
+use Rattle.pl_alone.specs.Desk.{Act, Parts}
 use Rattle.pl_base.specs.Counts.{one_more}
 use Rattle.pl_base.specs.declared.digest.Digest.{Digest}
 use Rattle.pl_base.specs.declared.expanded.Argument.{Argument}
-use Rattle.pl_commands.specs.declared.served.Served.{Served}
 use Rattle.pl_commands.specs.declared.status.Status.{Status}
 use Rattle.pl_commands.specs.declared.status.Status.TheVariants as status
-use Rattle.pl_commands.specs.Messages.{Spelled}
 use Rattle.pl_commands.specs.People.{told_of}
-use Rattle.pl_commands.specs.Session.{Point, Session}
 use Rattle.pl_commands.specs.Statuses.{compile_status, status_of}
-use Rattle.pl_commands.specs.Told.{Told, Writes, Begun}
 use Rattle.pl_history.specs.Access.{IsSound}
 use Rattle.pl_history.specs.Claims.{IsOrderly}
 use Rattle.pl_history.specs.History.{opened}
 use Rattle.pl_offline.specs.Running.{Runs as RunsOffline}
 use Rattle.pl_offline.specs.declared.ending.Ending.{Ending}
+use Rattle.pl_sessions.specs.Messages.{Spelled}
+use Rattle.pl_sessions.specs.Session.{Point, Session}
+use Rattle.pl_sessions.specs.Told.{Told, Writes, Begun}
+use Rattle.pl_sessions.specs.declared.served.Served.{Served}
+use Rattle.pl_sessions.specs.declared.served.Served.TheVariants.{Stopped}
 use Rattle.pl_streams.specs.Whole.{Inflow, Outflow, taken_limit}
 use Rattle.pl_wire.specs.declared.message.Message.{Message}
 use Rattle.pl_words.specs.declared.command.Command.{Command}
@@ -39,15 +41,15 @@ ShowsUsage old new =
     Writes usage_line old new ⊎ Begun usage_line (one_more old.write_faults) old new
 
 -- where a replay starts: at a service that was just opened
-abbrev pub start : Digest → Outside → Point
+abbrev pub start : Digest → Outside → Point Parts
 start admin outside = record {
   link = outside.link;
   coming = outside.coming;
   desk = record { opening = opened admin; seen = [] };
 }
 
--- One session from the source to the sink. The service is opened for the first time, so that what
--- is said of sound and of orderly openings holds of it.
+-- One session from the source to the sink, which goes on behind a shutdown. The service is opened
+-- for the first time, so that what is said of sound and of orderly openings holds of it.
 pub record Replays (admin : Digest) (old : Outside) (new : Told) (ending : Status) : Type 0 where
   pub served : Served
   pub later : Option (ℕ → ℕ)
@@ -55,8 +57,10 @@ pub record Replays (admin : Digest) (old : Outside) (new : Told) (ending : Statu
   pub sound : IsSound (opened admin)
   pub orderly : IsOrderly (opened admin)
   pub ending_is : ending ≡ status_of served
+  pub goes_on : served ≢ Stopped
   pub session :
-      Session (start admin old) (record { link = new; coming = later; desk = desk }) served
+      Session Act false (start admin old) (record { link = new; coming = later; desk = desk })
+      served
 
 -- a link's source and its sink
 abbrev pub inflow_of : Told → Inflow

@@ -2,8 +2,8 @@
 use Rattle.std.specs.Prelude.{ℕ}
 use Rattle.pl_commands.specs.declared.status.Status.{Status}
 use Rattle.pl_commands.specs.declared.status.Status.TheVariants as status
-use Rattle.pl_commands.specs.declared.served.Served.{Served}
-use Rattle.pl_commands.specs.declared.served.Served.TheVariants as served
+use Rattle.pl_sessions.specs.declared.served.Served.{Served}
+use Rattle.pl_sessions.specs.declared.served.Served.TheVariants as served
 use Rattle.pl_offline.specs.declared.ending.Ending.{Ending}
 use Rattle.pl_offline.specs.declared.ending.Ending.TheVariants as ending
 
@@ -18,12 +18,13 @@ code_of status.Refused = 8
 code_of status.NotWhole = 9
 code_of status.Spent = 10
 
--- the status of a replay, by how its link was served until
+-- the status of a link that was served, by how it was until
 abbrev pub status_of : Served → Status
 status_of served.Ended = status.Finished
 status_of (served.Cut len) = status.NotWhole
 status_of (served.Bad fault) = status.NotWhole
 status_of served.Spent = status.Spent
+status_of served.Stopped = status.Finished
 status_of served.ReadFault = status.ReadFault
 status_of served.WriteFault = status.WriteFault
 status_of served.Memory = status.Memory

@@ -6,19 +6,17 @@ ghost use Rattle.pl_commands.specs.People.{line_of, told_of};
 ghost use Rattle.pl_commands.specs.Run.{Compiles, Replays, ShowsUsage, Runs, ReadsCounted};
 ghost use Rattle.pl_commands.specs.Run.{WritesCounted};
 ghost use Rattle.pl_commands.specs.Statuses.{compile_status, status_of};
-ghost use Rattle.pl_commands.specs.Told.{IsAtEnd};
+ghost use Rattle.pl_sessions.specs.Told.{IsAtEnd};
 ghost use Rattle.pl_words.specs.Words.{command_of};
 
 use crate::outfit::Outfit;
-use crate::replay::replay_link;
-use crate::served::Served;
-use crate::serving::write_all;
 use crate::status::Status;
 use pl_alone::Alone;
 use pl_base::{Argument, Digest, List, Memory};
 use pl_budgets::Budget;
 use pl_history::{access_laws, claim_laws};
 use pl_offline::{Ending, compile_bundle};
+use pl_sessions::{Served, replay_link, write_all};
 use pl_words::{Command, parse};
 use std::alloc::Global;
 
@@ -137,7 +135,7 @@ fn usage<O: Outfit>(outfit: &mut O) -> Status
     Status::Usage
 }
 
-// The status of a replay, by how its link was served until.
+// The status of a link that was served, by how it was until.
 fn status(served: Served) -> Status
     ensures { result ≡ status_of served }
 {
@@ -145,6 +143,7 @@ fn status(served: Served) -> Status
         Served::Ended => Status::Finished,
         Served::Cut { .. } | Served::Bad(_) => Status::NotWhole,
         Served::Spent => Status::Spent,
+        Served::Stopped => Status::Finished,
         Served::ReadFault => Status::ReadFault,
         Served::WriteFault => Status::WriteFault,
         Served::Memory => Status::Memory,

@@ -2,18 +2,14 @@
 //! bundles compiled. The outside of a process is here too.
 #![tactic(auto)]
 
-mod buffer;
 mod commands;
 mod laws;
 mod outfit;
 mod real;
-mod replay;
-mod served;
-mod serving;
 mod status;
 
 pub use commands::run;
-pub use laws::{one_stream, rests_are_open, whole_input_finishes};
+pub use laws::whole_input_finishes;
 pub use outfit::Outfit;
 pub use real::{Process, Reading, SystemClock, Writing};
 pub use status::Status;

@@ -1,15 +1,15 @@
 -- What a desk answers leaves no choice, nor do the desks behind many messages.
 use Rattle.std.proofs.Common.{◌≡◌, ℕ, List, [], ◌∷◌, refl, sym, ap, subst, ◌∙◌}
 use Rattle.pl_alone.specs.Desk.{Act, Parts, Serves, call_at, log, seen_with}
-use Rattle.pl_alone.specs.declared.alone.Answer.{Answer}
-use Rattle.pl_alone.specs.declared.alone.Answer.TheVariants.{Reply, Memory}
-use Rattle.pl_commands.specs.Acts.{Acts, Turn}
 use Rattle.pl_facts.specs.declared.fact.Fact.{Fact}
 use Rattle.pl_history.specs.History.{held_of}
 use Rattle.pl_journal.specs.Log.{Log}
 use Rattle.pl_queueing.specs.Queueing.{Made}
 use Rattle.pl_requests.specs.declared.call.Call.{Call}
 use Rattle.pl_requests.specs.declared.reply.Reply.{Reply as Replied}
+use Rattle.pl_sessions.specs.Acts.{Acts, Turn}
+use Rattle.pl_sessions.specs.declared.answer.Answer.{Answer}
+use Rattle.pl_sessions.specs.declared.answer.Answer.TheVariants.{Reply, KeeperFault, Memory}
 use Rattle.pl_sources.specs.Again.{CompilesToOne}
 use Rattle.pl_step.specs.Step.{IsStep, stepped_with}
 use Rattle.pl_step.specs.declared.held.Held.{Held}
@@ -50,21 +50,27 @@ module _ (compiles : CompilesToOne) (steps : OneStep) where
       AreOne left one right other
   one_act old moment (Ask caller asked) (Reply left) (Reply right) one other a b =
       one_served old (call_at old moment caller asked) left right one other a b
+  one_act old moment (Ask caller asked) (Reply left) KeeperFault one other a b = b
   one_act old moment (Ask caller asked) (Reply left) Memory one other a b = tt
+  one_act old moment (Ask caller asked) KeeperFault right one other a b = a
   one_act old moment (Ask caller asked) Memory right one other a b = tt
   one_act old moment (Refused fault) (Reply left) (Reply right) one other a b =
       (a.0 ∙ sym b.0, a.1 ∙ sym b.1)
+  one_act old moment (Refused fault) (Reply left) KeeperFault one other a b = b
   one_act old moment (Refused fault) (Reply left) Memory one other a b = tt
+  one_act old moment (Refused fault) KeeperFault right one other a b = a
   one_act old moment (Refused fault) Memory right one other a b = tt
 
   replied : (left right : Answer) (one other : Parts) → (¬ (left ≡ Memory)) → (¬ (right ≡ Memory)) →
       AreOne left one right other → AreSame left one right other
   replied (Reply left) (Reply right) one other l r (reply, parts) = (ap Reply reply, parts)
+  replied (Reply left) KeeperFault one other l r is = absurd is
   replied (Reply left) Memory one other l r is = absurd (r refl)
+  replied KeeperFault right one other l r is = absurd is
   replied Memory right one other l r is = absurd (l refl)
 
   pub one_turns : (old : Parts) (left right : List Turn) (one other : Parts) →
-      Acts old left one → Acts old right other → AreAsked left right →
+      Acts Act old left one → Acts Act old right other → AreAsked left right →
       AreReplied left → AreReplied right → (left ≡ right) × (one ≡ other)
   one_turns old [] [] one other a b asked l r = (refl, a ∙ sym b)
   one_turns old [] (turn ∷ turns) one other a b asked l r = absurd asked
@@ -79,7 +85,7 @@ module _ (compiles : CompilesToOne) (steps : OneStep) where
       replied turn.answer next.answer between middle l r
       (one_act old next.moment next.message turn.answer next.answer between middle of acted) in
       let rest : (turns ≡ others) × (one ≡ other) = one_turns middle turns others one other
-      (subst (λ (desk : Parts). Acts desk turns one) same.1 acts) more asked ls rs in
+      (subst (λ (desk : Parts). Acts Act desk turns one) same.1 acts) more asked ls rs in
       let turn_is : turn ≡ next =
       λ i. record { moment = moment i; message = message i; answer = same.0 i } in
       let turns_are : turn ∷ turns ≡ next ∷ others = λ i. turn_is i ∷ rest.0 i in

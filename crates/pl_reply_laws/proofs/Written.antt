@@ -1,15 +1,16 @@
 -- What a session writes leaves no choice.
-use Rattle.std.proofs.Common.{◌≡◌, ℕ, ◌+◌, List, [], ◌∷◌, ◌++◌, Option, Some, None, sym, ap}
+use Rattle.std.proofs.Common.{◌≡◌, ℕ, ◌+◌, false, List, [], ◌∷◌, ◌++◌, Option, Some, None, sym, ap}
 use Rattle.std.proofs.Common.{subst, ◌∙◌}
 use Rattle.std.proofs.Math.Seq.{take-nil}
 use Rattle.std.specs.Prelude.{IfSome}
+use Rattle.pl_alone.specs.Desk.{Act, Parts}
 use Rattle.pl_base.specs.Streams.{with_end, with_front}
-use Rattle.pl_commands.proofs.Sessions.{append-nil}
-use Rattle.pl_commands.proofs.Streams.{one_stream}
-use Rattle.pl_commands.specs.Acts.{Tells, Turn, joined, messages_of, replies}
-use Rattle.pl_commands.specs.Messages.{NoneFirst, Spelled}
-use Rattle.pl_commands.specs.Session.{Point, Session}
-use Rattle.pl_commands.specs.declared.served.Served.TheVariants.{Ended}
+use Rattle.pl_sessions.proofs.Sessions.{append-nil}
+use Rattle.pl_sessions.proofs.Streams.{one_stream}
+use Rattle.pl_sessions.specs.Acts.{Tells, Turn, joined, messages_of, replies}
+use Rattle.pl_sessions.specs.Messages.{NoneFirst, Spelled}
+use Rattle.pl_sessions.specs.Session.{Point, Session}
+use Rattle.pl_sessions.specs.declared.served.Served.TheVariants.{Ended}
 use Rattle.pl_sources.specs.Again.{CompilesToOne}
 use Rattle.pl_wire.proofs.Nothing.{nothing_none}
 use Rattle.pl_wire.specs.Message.{IsMessage, OneReading}
@@ -57,9 +58,9 @@ asked coming (turn ∷ turns) (next ∷ others) later other same (within, at, te
 
 -- ---- the session
 
-pub one_session : OneReading → CompilesToOne → OneStep → (old new other : Point)
+pub one_session : OneReading → CompilesToOne → OneStep → (old new other : Point Parts)
     (bytes : List ℕ) (coming : ℕ → ℕ) → old.link.left ≡ Some bytes → old.coming ≡ Some coming →
-    (left : Session old new Ended) → (right : Session old other Ended) →
+    (left : Session Act false old new Ended) → (right : Session Act false old other Ended) →
     AreReplied left.turns → AreReplied right.turns →
     (new.link.held ≡ other.link.held) × (new.desk ≡ other.desk)
 one_session reads compiles steps old new other bytes coming there tells left right l r =

@@ -1,14 +1,16 @@
 -- Answers that are one, and turns that ask the same.
 use Rattle.std.specs.Prelude.{◌≡◌, List, [], ◌∷◌}
 use Rattle.pl_alone.specs.Desk.{Parts}
-use Rattle.pl_alone.specs.declared.alone.Answer.{Answer}
-use Rattle.pl_alone.specs.declared.alone.Answer.TheVariants.{Reply, Memory}
-use Rattle.pl_commands.specs.Acts.{Turn}
+use Rattle.pl_sessions.specs.Acts.{Turn}
+use Rattle.pl_sessions.specs.declared.answer.Answer.{Answer}
+use Rattle.pl_sessions.specs.declared.answer.Answer.TheVariants.{Reply, KeeperFault, Memory}
 
--- two replies of a desk, and the desks behind them; want of memory is free
+-- two replies of a desk, and the desks behind them; want of memory is free, and no keeper fails
 abbrev pub AreOne : Answer → Parts → Answer → Parts → Type 0
 AreOne (Reply left) one (Reply right) other = (left ≡ right) × (one ≡ other)
+AreOne (Reply left) one KeeperFault other = ⊥
 AreOne (Reply left) one Memory other = Unit {0}
+AreOne KeeperFault one right other = ⊥
 AreOne Memory one right other = Unit {0}
 
 -- the same messages at the same moments

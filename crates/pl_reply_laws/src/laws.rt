@@ -1,14 +1,14 @@
-ghost use Rattle.std.specs.Prelude.{◌≡◌, ℕ, List, Option, Some};
+ghost use Rattle.std.specs.Prelude.{◌≡◌, ℕ, false, List, Option, Some};
 ghost use Rattle.pl_alone.specs.Desk.{Act, Parts};
-ghost use Rattle.pl_alone.specs.declared.alone.Answer.{Answer};
-ghost use Rattle.pl_commands.specs.Acts.{Acts, Turn};
-ghost use Rattle.pl_commands.specs.Session.{Point, Session};
-ghost use Rattle.pl_commands.specs.declared.served.Served.TheVariants.{Ended};
 ghost use Rattle.pl_history.specs.Made.{IsMadeFor, WantsFor};
 ghost use Rattle.pl_journal.specs.Log.{Log};
 ghost use Rattle.pl_queueing.specs.Queueing.{Made};
 ghost use Rattle.pl_reply_laws.specs.Alike.{AreAsked, AreOne, AreReplied};
 ghost use Rattle.pl_requests.specs.declared.call.Call.{Call};
+ghost use Rattle.pl_sessions.specs.Acts.{Acts, Turn};
+ghost use Rattle.pl_sessions.specs.Session.{Point, Session};
+ghost use Rattle.pl_sessions.specs.declared.answer.Answer.{Answer};
+ghost use Rattle.pl_sessions.specs.declared.served.Served.TheVariants.{Ended};
 ghost use Rattle.pl_snapshots.specs.declared.snapshot.Snapshot.{Snapshot};
 ghost use Rattle.pl_wire.specs.declared.message.Message.{Message};
 
@@ -33,11 +33,11 @@ pub fn reply_laws()
         (one other : Parts) → Act old moment message left one → Act old moment message right other →
         AreOne left one right other }
     ensures acts { (old : Parts) (left right : List Turn) (one other : Parts) →
-        Acts old left one → Acts old right other → AreAsked left right →
+        Acts Act old left one → Acts Act old right other → AreAsked left right →
         AreReplied left → AreReplied right → (left ≡ right) × (one ≡ other) }
-    ensures session { (old new other : Point) (bytes : List ℕ) (coming : ℕ → ℕ) →
+    ensures session { (old new other : Point Parts) (bytes : List ℕ) (coming : ℕ → ℕ) →
         old.link.left ≡ Some bytes → old.coming ≡ Some coming →
-        (left : Session old new Ended) → (right : Session old other Ended) →
+        (left : Session Act false old new Ended) → (right : Session Act false old other Ended) →
         AreReplied left.turns → AreReplied right.turns →
         (new.link.held ≡ other.link.held) × (new.desk ≡ other.desk) }
 {

@@ -1,21 +1,23 @@
-use Rattle.std.proofs.Common.{◌≡◌, ◌∙◌, sym, ap, refl, subst, ℕ, List, [], Option}
-use Rattle.pl_alone.specs.Desk.{Parts}
+use Rattle.std.proofs.Common.{◌≡◌, ◌≢◌, ◌∙◌, sym, ap, refl, subst, ℕ, false, List, [], Option}
+use Rattle.pl_alone.specs.Desk.{Act, Parts, parts}
 use Rattle.pl_base.specs.declared.digest.Digest.{Digest}
-use Rattle.pl_commands.specs.declared.served.Served.{Served}
-use Rattle.pl_commands.specs.declared.served.Served.TheVariants as served
+use Rattle.pl_commands.specs.Run.{Outside, Replays, start}
+use Rattle.pl_commands.specs.Statuses.{status_of}
+use Rattle.pl_commands.specs.Told.{told_by_ends}
 use Rattle.pl_commands.specs.declared.status.Status.{Status}
 use Rattle.pl_commands.specs.declared.status.Status.TheVariants as status
-use Rattle.pl_commands.specs.Run.{Outside, Replays, start}
-use Rattle.pl_commands.specs.Session.{Point, Session}
-use Rattle.pl_commands.specs.Statuses.{status_of}
-use Rattle.pl_commands.specs.Told.{Told, told_by_ends}
 use Rattle.pl_history.specs.Access.{IsSound}
 use Rattle.pl_history.specs.Claims.{IsOrderly}
 use Rattle.pl_history.specs.History.{opened}
-use Rattle.pl_commands.proofs.Endings.{ends_at_once}
+use Rattle.pl_sessions.proofs.Endings.{ends_at_once}
+use Rattle.pl_sessions.proofs.Through.{session_through}
+use Rattle.pl_sessions.specs.Session.{Point, Session}
+use Rattle.pl_sessions.specs.Told.{Told}
+use Rattle.pl_sessions.specs.declared.served.Served.{Served}
+use Rattle.pl_sessions.specs.declared.served.Served.TheVariants as endings
 use Rattle.pl_commands.proofs.commands.replay.Goals as goal
 
-abbrev at : Told → Option (ℕ → ℕ) → Parts → Point
+abbrev at : Told → Option (ℕ → ℕ) → Parts → Point Parts
 at link coming desk = record { link = link; coming = coming; desk = desk }
 
 abbrev around : Told → Option (ℕ → ℕ) → Option (List ℕ) → Outside
@@ -26,13 +28,14 @@ replays_by : (admin : Digest) (coming clocked later : Option (ℕ → ℕ)) (peo
     (first desk : Parts) (old new : Told) (served : Served) (ending : Status)
     → IsSound (opened admin) → IsOrderly (opened admin)
     → clocked ≡ coming → first ≡ record { opening = opened admin; seen = [] }
-    → ending ≡ status_of served
-    → Session (at old clocked first) (at new later desk) served
+    → ending ≡ status_of served → served ≢ endings.Stopped
+    → Session Act false (at old clocked first) (at new later desk) served
     → Replays admin (around old coming people) new ending
 replays_by admin coming clocked later people first desk old new served ending sound orderly clock
-    first_is is session =
-    let so_far : Session (at old coming first) (at new later desk) served =
-    subst (λ moments. Session (at old moments first) (at new later desk) served) clock session in
+    first_is is goes_on session =
+    let so_far : Session Act false (at old coming first) (at new later desk) served =
+    subst (λ moments. Session Act false (at old moments first) (at new later desk) served) clock
+    session in
     record {
       served = served;
       later = later;
@@ -40,25 +43,29 @@ replays_by admin coming clocked later people first desk old new served ending so
       sound = sound;
       orderly = orderly;
       ending_is = is;
+      goes_on = goes_on;
       session =
-          subst (λ parts. Session (at old coming parts) (at new later desk) served) first_is so_far;
+          subst (λ parts. Session Act false (at old coming parts) (at new later desk) served)
+          first_is so_far;
     }
 
 -- where there is no desk nothing is replayed
 nothing_replayed : (admin : Digest) (old : Outside) → IsSound (opened admin) →
     IsOrderly (opened admin) → Replays admin old old.link status.Memory
 nothing_replayed admin old sound orderly = record {
-  served = served.Memory;
+  served = endings.Memory;
   later = old.coming;
   desk = record { opening = opened admin; seen = [] };
   sound = sound;
   orderly = orderly;
   ending_is = refl;
+  goes_on = λ is. absurd (cc is);
   session = ends_at_once (start admin old);
 }
 
 pub returns-in-Err-clause-replays : goal.returns-in-Err-clause-replays
-returns-in-Err-clause-replays g c = nothing_replayed c.args.admin _ (c.access_laws.ensures.sound c.args.admin)
+returns-in-Err-clause-replays g c =
+    nothing_replayed c.args.admin _ (c.access_laws.ensures.sound c.args.admin)
     (c.claim_laws.ensures.orderly c.args.admin)
 
 pub returns-clause-replays : goal.returns-clause-replays
@@ -75,7 +82,9 @@ returns-clause-replays g c =
     (tell c.replay_link-served.new.link) c.replay_link-served.result c.status.result
     (c.access_laws.ensures.sound c.args.admin) (c.claim_laws.ensures.orderly c.args.admin)
     c.clock-clock.ensures.coming c.in-Ok.ensures
-    c.status.ensures c.replay_link-served.ensures in
+    c.status.ensures c.replay_link-served.ensures.goes_on
+    (session_through parts Act false _ _ c.replay_link-served.result
+    c.replay_link-served.ensures.session) in
     subst
     (λ ends. Replays c.args.admin (around (tell ends) coming people)
     (tell (g.O.Outfit.view outfit).ends) c.status.result)

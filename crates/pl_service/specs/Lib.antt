@@ -1,0 +1,4 @@
+pub mod Ahead
+pub mod Desk
+pub mod Grown
+pub mod Past
