@@ -1,0 +1,4 @@
+pub mod Chains
+pub mod Ending
+pub mod Sofar
+pub mod Through

@@ -1,0 +1,4 @@
+pub mod Chain
+pub mod Crew
+pub mod Ends
+pub mod Works
