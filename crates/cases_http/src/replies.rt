@@ -36,7 +36,7 @@ fn raw(alloc: Global, status: u16, text: &str) -> Result<Reply, Memory> {
         path: Text::from_str(alloc, "/a.yml")?,
     };
     let text = List::from_slice(alloc, text.as_bytes())?;
-    let body = Body::File(Shared::new(alloc, FileText { key, text })?);
+    let body = Body::Raw(Shared::new(alloc, FileText { key, text })?);
     Ok(Reply { status, body })
 }
 

@@ -1,9 +1,7 @@
 ghost use Rattle.std.specs.Prelude.{◌≡◌, [], IfOk};
 ghost use Rattle.std.specs.Option.{option_copied};
 ghost use Rattle.pl_base.specs.declared.value.Value.{out-Value};
-ghost use Rattle.pl_directives.specs.Complaints.{refused};
 ghost use Rattle.pl_directives.specs.Gives.{Gives};
-ghost use Rattle.pl_directives.specs.declared.fault.ExpandProblem.TheVariants.{WrongKind};
 ghost use Rattle.pl_calls.specs.Calls.{path_text, pairs_from, arguments_at, arguments_behind};
 ghost use Rattle.pl_calls.specs.Calls.{call_with, call_of, given_across};
 ghost use Rattle.pl_calls.specs.Seeing.{GivesPairs, GivesFound, GivesCall, pairs_of};
@@ -11,7 +9,7 @@ ghost use Rattle.pl_calls.specs.Seeing.{GivesPairs, GivesFound, GivesCall, pairs
 use pl_base::{
     Crossing, ExactCopy, List, MarkedNode, MarkedPair, Memory, Place, SharedList, Text, Value,
 };
-use pl_directives::{ExpandFault, ExpandProblem, complain};
+use pl_directives::{ExpandFault, ExpandProblem, refuse};
 use pl_expr::to_text;
 use pl_frame::cross;
 use pl_params::Given;
@@ -27,20 +25,16 @@ pub struct Call<'i> {
     pub arguments: Option<&'i List<MarkedPair>>,
 }
 
-/// X9 at a place.
-fn wrong<T>(alloc: Global, place: &Place) -> Result<T, ExpandFault>
-    ensures { Gives result (refused WrongKind place.now) }
-{
-    let first = complain(alloc, ExpandProblem::WrongKind, place)?;
-    Err(ExpandFault::Refused(first))
-}
-
 /// The text of a path. X9 where it is a list or a mapping.
 pub fn path_text(alloc: Global, node: &MarkedNode) -> Result<Text, ExpandFault>
     ensures { Gives result (path_text node.now) }
 {
     match &node.value {
-        Value::Array(_) | Value::Object(_) => wrong(alloc, &node.origin.source),
+        Value::Array(_) | Value::Object(_) => refuse(
+            alloc,
+            ExpandProblem::WrongKind,
+            &node.origin.source,
+        ),
         atom => Ok(to_text(alloc, atom)?),
     }
 }
@@ -51,7 +45,7 @@ pub fn pairs_from(alloc: Global, node: &MarkedNode) -> Result<&List<MarkedPair>,
 {
     match &node.value {
         Value::Object(pairs) => Ok(pairs),
-        _ => wrong(alloc, &node.origin.source),
+        _ => refuse(alloc, ExpandProblem::WrongKind, &node.origin.source),
     }
 }
 
@@ -63,7 +57,7 @@ pub fn arguments_at(alloc: Global, pair: &MarkedPair) -> Result<&List<MarkedPair
     if pair.key.as_str() == "parameters" {
         pairs_from(alloc, &pair.item)
     } else {
-        wrong(alloc, &pair.key_origin.source)
+        refuse(alloc, ExpandProblem::WrongKind, &pair.key_origin.source)
     }
 }
 
@@ -109,9 +103,9 @@ pub fn call_of(alloc: Global, item: &MarkedNode) -> Result<Call<'_>, ExpandFault
     match &item.value {
         Value::Object(pairs) => match pairs.as_slice() {
             [path, rest @ ..] => call_with(alloc, at, &path.item, rest),
-            [] => wrong(alloc, at),
+            [] => refuse(alloc, ExpandProblem::WrongKind, at),
         },
-        _ => wrong(alloc, at),
+        _ => refuse(alloc, ExpandProblem::WrongKind, at),
     }
 }
 

@@ -1,9 +1,7 @@
 ghost use Rattle.std.specs.Prelude.{◌≡◌, IfOk};
 ghost use Rattle.std.specs.Option.{option_copied};
-ghost use Rattle.pl_directives.specs.Complaints.{refused};
 ghost use Rattle.pl_directives.specs.Gives.{Gives};
 ghost use Rattle.pl_directives.specs.declared.fault.ExpandProblem.TheVariants.{ExtendsInTemplate};
-ghost use Rattle.pl_directives.specs.declared.fault.ExpandProblem.TheVariants.{WrongKind};
 ghost use Rattle.pl_calls.specs.Judging.{form_key, stray, may_stand, template_in, body_in};
 ghost use Rattle.pl_calls.specs.Judging.{mapping_in, held, may_give, fits, body_fits};
 ghost use Rattle.pl_template.specs.Forms.{form_of};
@@ -14,7 +12,7 @@ ghost use Rattle.pl_calls.specs.Reaching.{node_in};
 use crate::files::Parsed;
 use crate::parts::key_place;
 use pl_base::{List, Memory, Node, NodeBody, NodePair, Place, Text};
-use pl_directives::{ExpandFault, ExpandProblem, Form, complain};
+use pl_directives::{ExpandFault, ExpandProblem, Form, refuse};
 use pl_params::under;
 use pl_template::{ScalarForm, scalar_form};
 use pl_yaml::YamlFault;
@@ -40,19 +38,10 @@ pub fn node_in(alloc: Global, file: &Parsed) -> Result<&Node, ExpandFault>
     match file {
         Parsed::Good(node) => Ok(node),
         Parsed::Bad(YamlFault::Refused(code, place)) => {
-            let first = complain(alloc, ExpandProblem::BadFile(*code), place)?;
-            Err(ExpandFault::Refused(first))
+            refuse(alloc, ExpandProblem::BadFile(*code), place)
         }
         Parsed::Bad(YamlFault::Memory) => Err(ExpandFault::Memory),
     }
-}
-
-/// X9 at a place.
-fn wrong<T>(alloc: Global, place: &Place) -> Result<T, ExpandFault>
-    ensures { Gives result (refused WrongKind place.now) }
-{
-    let first = complain(alloc, ExpandProblem::WrongKind, place)?;
-    Err(ExpandFault::Refused(first))
 }
 
 /// The pairs of a template. X9 where it is no mapping, X10 where it extends another one.
@@ -60,14 +49,11 @@ pub fn template_in(alloc: Global, node: &Node) -> Result<&List<NodePair>, Expand
     ensures { GivesPairs result (template_in node.now) }
 {
     let NodeBody::Map(pairs) = &node.body else {
-        return wrong(alloc, &node.place);
+        return refuse(alloc, ExpandProblem::WrongKind, &node.place);
     };
     match key_place("extends", pairs) {
         None => Ok(pairs),
-        Some(place) => {
-            let first = complain(alloc, ExpandProblem::ExtendsInTemplate, place)?;
-            Err(ExpandFault::Refused(first))
-        }
+        Some(place) => refuse(alloc, ExpandProblem::ExtendsInTemplate, place),
     }
 }
 
@@ -102,11 +88,11 @@ pub fn body_in<'n>(
     ensures { GivesNode result (body_in form place.now pairs.now) }
 {
     let Some(body) = under(form_key(form), pairs) else {
-        return wrong(alloc, place);
+        return refuse(alloc, ExpandProblem::WrongKind, place);
     };
     match stray(form, pairs) {
         None => Ok(body),
-        Some(place) => wrong(alloc, place),
+        Some(place) => refuse(alloc, ExpandProblem::WrongKind, place),
     }
 }
 
@@ -143,5 +129,5 @@ pub fn judge_body(alloc: Global, form: Form, body: &Node) -> Result<(), ExpandFa
     if fits(alloc, form, body)? {
         return Ok(());
     }
-    wrong(alloc, &body.place)
+    refuse(alloc, ExpandProblem::WrongKind, &body.place)
 }

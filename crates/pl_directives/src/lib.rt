@@ -24,7 +24,7 @@ pub use keys::{MadeKey, key_by};
 pub use manner::{Kind, Manner};
 pub use misfit::Misfit;
 pub use progress::{Chain, Content, Counted, Progress};
-pub use refusing::{complain, enter};
+pub use refusing::{complain, enter, refuse};
 pub use region::{Form, Region, Standing};
 pub use scalars::{counted_value_at, scalar_value};
 pub use straying::{given_value, judge_key, told};

@@ -1,5 +1,5 @@
 ghost use Rattle.std.specs.Prelude.{◌≡◌, IfOk};
-ghost use Rattle.pl_directives.specs.Complaints.{complaint};
+ghost use Rattle.pl_directives.specs.Complaints.{complaint, refused};
 ghost use Rattle.pl_directives.specs.Counting.{counted, entered};
 ghost use Rattle.pl_directives.specs.Gives.{Gives};
 
@@ -16,6 +16,14 @@ pub fn complain(alloc: Global, problem: ExpandProblem, place: &Place) -> Result<
 {
     let place = place.copy(alloc)?;
     Ok(Complaint { problem, place })
+}
+
+/// The refusal of a node for a problem, at that place. Memory where memory is wanting.
+pub fn refuse<T>(alloc: Global, problem: ExpandProblem, place: &Place) -> Result<T, ExpandFault>
+    ensures { Gives result (refused problem place.now) }
+{
+    let first = complain(alloc, problem, place)?;
+    Err(ExpandFault::Refused(first))
 }
 
 /// So many nodes more, which are met at that place.

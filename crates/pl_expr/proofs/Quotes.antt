@@ -1,9 +1,9 @@
--- Quoted texts, and look-ups in a loop.
+-- Quoted texts.
 use Rattle.std.proofs.Common.{◌≡◌, ℕ, zero, suc, ◌+◌, ◌<◌, Bool, true, false, not, ◌==◌, Option}
 use Rattle.std.proofs.Common.{Some, None, List, [], ◌∷◌, ◌++◌, length, get_or, drop, take, map}
 use Rattle.std.proofs.Common.{if◌then◌else◌, refl, ap, sym, ◌∙◌, append_assoc, arith}
-use Rattle.std.specs.List.{find, prefix_len, list_all}
-use Rattle.std.proofs.lemmas.List.{at_drop_more, drop_more, append-nil, take_all, take_more}
+use Rattle.std.specs.List.{prefix_len, list_all}
+use Rattle.std.proofs.lemmas.List.{drop_more, append-nil, take_all, take_more}
 use Rattle.std.proofs.lemmas.List.{take-append-drop, map-append}
 use Rattle.std.proofs.lemmas.List.Sums.{prefix_len_stops}
 use Rattle.std.proofs.lemmas.Bool.{and_parts, false≢true, ne_eqb}
@@ -12,18 +12,6 @@ use Rattle.pl_expr.specs.Grammar.{is_plain, unquoted, with_byte}
 use Rattle.pl_reading.specs.Bytes.{begins_with}
 use Rattle.pl_expr.specs.declared.expr.Expr.{Expr}
 use Rattle.pl_expr.specs.Trees.{quoted, listed, printed}
-
--- ---- a look-up in a loop
-
-pub find_drop_yes :
-    {X : Type 0} (p : X → Bool) (xs : List X) (i : ℕ) (d : X) → i < length xs →
-    p (get_or xs i d) ≡ true → find p (drop i xs) ≡ Some (get_or xs i d)
-find_drop_yes p xs i d within passes = at_drop_more (find p) xs i d within ∙ rw passes refl
-
-pub find_drop_no :
-    {X : Type 0} (p : X → Bool) (xs : List X) (i : ℕ) (d : X) → i < length xs →
-    p (get_or xs i d) ≡ false → find p (drop i xs) ≡ find p (drop (i + 1) xs)
-find_drop_no p xs i d within fails = at_drop_more (find p) xs i d within ∙ rw fails refl
 
 -- ---- reading up to the closing quote
 

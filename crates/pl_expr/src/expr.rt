@@ -231,7 +231,7 @@ impl Function {
 ghost use Rattle.std.specs.Prelude.{◌≡◌, find};
 ghost use Rattle.pl_expr.specs.Functions.{names};
 
-#[tactic(auto, using(crate::proofs::Quotes::find_drop_yes, crate::proofs::Quotes::find_drop_no))]
+#[tactic(auto, using(pl_base::proofs::Finding::find_drop_yes, pl_base::proofs::Finding::find_drop_no))]
 fn first_named(functions: &[Function], mode: Mode, word: &str) -> Option<Function>
     ensures { result ≡ find (names mode word.now) functions.now }
 {

@@ -45,7 +45,7 @@ use Rattle.pl_calls.specs.Reaching.{Opens}
 use Rattle.pl_recursion.specs.Expanding.{part_of, done}
 use Rattle.pl_recursion.specs.Following.{scope_of}
 use Rattle.pl_recursion.specs.Levels.{followed}
-use Rattle.pl_recursion.specs.Settling.{node_settling}
+use Rattle.pl_recursion.specs.Settling.{node_settling, with_item}
 use Rattle.pl_extends.specs.declared.extending.Extension.{Extension}
 use Rattle.pl_extends.specs.declared.rooting.RootFilling.{RootFilling}
 use Rattle.pl_extends.specs.Extending.{extended, value_extended}
@@ -115,9 +115,6 @@ named_put key origin node opens frame filling used =
     key_put (is key (codes "extends")) key origin node opens frame filling used
 
 -- ---- a pair that an expression gave
-
-abbrev pub with_item : MarkedPair → MarkedNode → MarkedPair
-with_item pair item = record { key = pair.key; key_origin = pair.key_origin; item = item }
 
 abbrev pub item_put : MarkedPair → RootFilling → Counted → Result RootFilling ExpandFault
 item_put pair filling one =

@@ -5,9 +5,8 @@ ghost use Rattle.std.specs.Option.{option_copied};
 ghost use Rattle.pl_calls.specs.Gives.{GivesFrom};
 ghost use Rattle.pl_calls.specs.Nodes.{GivesPairs};
 ghost use Rattle.pl_calls.specs.Judging.{stray, unless_at, may_give};
-ghost use Rattle.pl_directives.specs.Complaints.{refused};
 ghost use Rattle.pl_directives.specs.Gives.{Gives};
-ghost use Rattle.pl_directives.specs.declared.fault.ExpandProblem.TheVariants.{WrongKind, KeyTwice};
+ghost use Rattle.pl_directives.specs.declared.fault.ExpandProblem.TheVariants.{KeyTwice};
 ghost use Rattle.pl_directives.specs.declared.region.Region.TheVariants.{Free};
 ghost use Rattle.pl_frame.specs.Doubles.{first_double};
 ghost use Rattle.pl_recursion.specs.Following.{scope_of};
@@ -34,7 +33,7 @@ use pl_calls::{
 };
 use pl_directives::{
     Chain, Content, Counted, ExpandFault, ExpandProblem, Kind, Progress, Region, Standing, begin,
-    complain, enter, scalar_value,
+    enter, refuse, scalar_value,
 };
 use pl_frame::{Frame, first_double};
 use pl_recursion::{
@@ -68,14 +67,6 @@ const EXTENDED: Standing = Standing {
     calls: LEVELS_LEFT,
 };
 
-/// X9 at a place.
-fn wrong<T>(alloc: Global, place: &Place) -> Result<T, ExpandFault>
-    ensures { Gives result (refused WrongKind place.now) }
-{
-    let first = complain(alloc, ExpandProblem::WrongKind, place)?;
-    Err(ExpandFault::Refused(first))
-}
-
 /// The path. X9 where there is none.
 fn path_in(
     alloc: Global,
@@ -88,7 +79,7 @@ fn path_in(
 {
     match under("template", pairs) {
         Some(path) => expand_path(alloc, path, frame, count),
-        None => wrong(alloc, place),
+        None => refuse(alloc, ExpandProblem::WrongKind, place),
     }
 }
 
@@ -100,7 +91,7 @@ fn mapping_from(alloc: Global, one: Counted) -> Result<SettledPairs, ExpandFault
     let MarkedNode { origin, value } = node;
     match value {
         Value::Object(pairs) => Ok(SettledPairs { pairs, count }),
-        _ => wrong(alloc, &origin.source),
+        _ => refuse(alloc, ExpandProblem::WrongKind, &origin.source),
     }
 }
 
@@ -139,7 +130,7 @@ fn argument_behind<F: Files>(
     match pair.key.as_str() {
         "template" => Ok(before),
         "parameters" => value_from(alloc, &pair.item, frame, before.count, reach),
-        _ => wrong(alloc, &pair.key_place),
+        _ => refuse(alloc, ExpandProblem::WrongKind, &pair.key_place),
     }
 }
 
@@ -194,7 +185,7 @@ fn extended_pairs(alloc: Global, node: &Node) -> Result<&List<NodePair>, ExpandF
     let pairs = template_in(alloc, node)?;
     match stray(pairs) {
         None => Ok(pairs),
-        Some(place) => wrong(alloc, place),
+        Some(place) => refuse(alloc, ExpandProblem::WrongKind, place),
     }
 }
 
@@ -252,10 +243,7 @@ pub fn judge_keys(alloc: Global, pairs: &List<MarkedPair>) -> Result<(), ExpandF
 {
     match first_double(alloc, pairs)? {
         None => Ok(()),
-        Some(place) => {
-            let first = complain(alloc, ExpandProblem::KeyTwice, &place)?;
-            Err(ExpandFault::Refused(first))
-        }
+        Some(place) => refuse(alloc, ExpandProblem::KeyTwice, &place),
     }
 }
 
@@ -455,7 +443,7 @@ fn extend_given<F: Files>(
         key.now at.now pairs.now frame.now count) }
 {
     let Some(path) = item_under("template", pairs) else {
-        return wrong(alloc, at);
+        return refuse(alloc, ExpandProblem::WrongKind, at);
     };
     let text = path_text(alloc, path)?;
     let arguments = arguments_given(alloc, pairs)?;
@@ -482,7 +470,7 @@ pub fn extend_value<F: Files>(
     let at = &node.origin.source;
     match &node.value {
         Value::Object(pairs) => extend_given(alloc, key, at, pairs, frame, count, reach),
-        _ => wrong(alloc, place),
+        _ => refuse(alloc, ExpandProblem::WrongKind, place),
     }
 }
 
@@ -561,7 +549,7 @@ fn extend_text<F: Files>(
         (may_give (form_of text.now)) opens key.now place.now text.now frame.now count) }
 {
     if !may_give(alloc, text)? {
-        return wrong(alloc, place);
+        return refuse(alloc, ExpandProblem::WrongKind, place);
     }
     let one = scalar_value(alloc, text, frame, place, count)?;
     extend_value(alloc, key, place, &one.node, frame, one.count, reach)
@@ -586,6 +574,6 @@ pub fn extend<F: Files>(
     match &node.body {
         NodeBody::Map(pairs) => extend_pairs(alloc, key, node, pairs, frame, count, reach),
         NodeBody::Scalar(text) => extend_text(alloc, key, place, text, frame, count, reach),
-        NodeBody::Seq(_) => wrong(alloc, place),
+        NodeBody::Seq(_) => refuse(alloc, ExpandProblem::WrongKind, place),
     }
 }

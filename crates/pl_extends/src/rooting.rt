@@ -8,7 +8,7 @@ ghost use Rattle.pl_directives.specs.Gives.{Gives};
 ghost use Rattle.pl_directives.specs.Misfits.{problem_of};
 ghost use Rattle.pl_extends.specs.Rooting.{filled_with, chained, counting, has_form, misplaced};
 ghost use Rattle.pl_extends.specs.Rooting.{extends_misplaced, form_misplaced, unless_misplaced};
-ghost use Rattle.pl_extends.specs.Rooting.{extended_behind, key_put, named_put, with_item};
+ghost use Rattle.pl_extends.specs.Rooting.{extended_behind, key_put, named_put};
 ghost use Rattle.pl_extends.specs.Rooting.{item_put};
 ghost use Rattle.pl_extends.specs.Rooting.{given_by, given_put, all_given_put, value_put, text_put};
 ghost use Rattle.pl_extends.specs.Rooting.{pairs_put, turns_put, asked_put};
@@ -26,7 +26,7 @@ use pl_directives::{
     Standing, Turns, complain, enter, key_asks, put_pair, scalar_value,
 };
 use pl_frame::{Frame, within};
-use pl_recursion::{MOST_LEVELS, MOST_OPEN, Scope, fill_key, settle_node};
+use pl_recursion::{MOST_LEVELS, MOST_OPEN, Scope, fill_key, settle_node, with_item};
 use std::alloc::Global;
 
 /// The root's pairs so far, and what the template gives that it extends.
@@ -199,19 +199,6 @@ fn put_named<F: Files>(
 {
     unless_misplaced(alloc, misplaced(&filling, &made.key), &made.origin.source)?;
     put_key(alloc, made, node, frame, filling, reach)
-}
-
-/// A pair with another value.
-fn with_item(alloc: Global, pair: &MarkedPair, item: MarkedNode) -> Result<MarkedPair, Memory>
-    ensures { IfOk result (λ other. other ≡ with_item pair.now item) }
-{
-    let key = pair.key.copy(alloc)?;
-    let key_origin = pair.key_origin.copy(alloc)?;
-    Ok(MarkedPair {
-        key,
-        key_origin,
-        item,
-    })
 }
 
 /// A pair that an expression gave, once the calls in it were followed.

@@ -22,7 +22,7 @@ pub use counting::count_nodes;
 pub use doubles::first_double;
 pub use expressions::expression_at;
 pub use frame::{Frame, Loop, Parameter, Variable, Variables};
-pub use loops::{pair_object, within};
+pub use loops::{pair_object, property, within};
 pub use moving::cross;
 pub use origins::{literal_at, made_at};
 pub use problem::{ExpressionFault, ExpressionProblem};

@@ -42,16 +42,22 @@ pub fn pair_object(
         value: Value::Str(pair.key),
     };
     let mut pairs = List::new(alloc);
-    pairs.push(named(alloc, &origin, "key", key)?)?;
-    pairs.push(named(alloc, &origin, "value", pair.item)?)?;
+    pairs.push(property(alloc, &origin, "key", key)?)?;
+    pairs.push(property(alloc, &origin, "value", pair.item)?)?;
     Ok(MarkedNode {
         origin,
         value: Value::Object(pairs),
     })
 }
 
-/// A property of that name, whose key has that origin.
-fn named(alloc: Global, origin: &Origin, name: &str, item: MarkedNode) -> Result<MarkedPair, Memory>
+/// A property of that name, whose key has that origin, and what it holds. Memory where memory is
+/// wanting.
+pub fn property(
+    alloc: Global,
+    origin: &Origin,
+    name: &str,
+    item: MarkedNode,
+) -> Result<MarkedPair, Memory>
     ensures { IfOk result (λ pair. pair ≡ named origin.now name.now item) }
 {
     let key = Text::from_str(alloc, name)?;

@@ -1,5 +1,9 @@
 -- What bytes in UTF-8 tell: control characters, and the ends of segments of a path.
-use Rattle.std.specs.Prelude.{ℕ, nat_lt, Bool, false, ◌==◌, ◌&&◌, ◌||◌, List, [], ◌∷◌}
+use Rattle.std.specs.Prelude.{ℕ, nat_lt, nat_le, Bool, false, ◌==◌, ◌&&◌, ◌||◌, List, [], ◌∷◌}
+
+-- a byte of one of ASCII's printable characters, from the space to the tilde
+abbrev pub is_printable : ℕ → Bool
+is_printable byte = nat_le 32 byte && nat_le byte 126
 
 -- a byte that ends a control character, where this one stands before it: those below 128 are one
 -- byte, and the others are 194 and a byte below 160

@@ -1,8 +1,8 @@
 ghost use Rattle.std.specs.Prelude.{◌≡◌};
 ghost use Rattle.std.specs.Char.{is_control};
-ghost use Rattle.std.specs.List.{list_any};
+ghost use Rattle.std.specs.List.{list_all, list_any};
 ghost use Rattle.std.specs.Str.{chars};
-ghost use Rattle.pl_names.specs.Bytes.{ends_control, has_control_behind};
+ghost use Rattle.pl_names.specs.Bytes.{ends_control, has_control_behind, is_printable};
 ghost use Rattle.pl_names.specs.Names.{is_label, is_name, is_plain};
 
 /// Whether a text has from one byte to so many, and no control character (U+0000 to U+001F and
@@ -28,11 +28,28 @@ pub fn is_label(text: &str) -> bool
     !text.is_empty() && !has_control(text)
 }
 
-/// Whether a text has a control character.
+/// Whether a text has a control character. Of a text of ASCII's printable characters, as most are,
+/// it is told byte by byte.
 fn has_control(text: &str) -> bool
     ensures { result ≡ list_any is_control (chars text.now) }
 {
+    if are_printable(text.as_bytes()) {
+        return false;
+    }
     have_control(text.as_bytes())
+}
+
+/// Whether bytes are those of ASCII's printable characters, the space among them.
+fn are_printable(bytes: &[u8]) -> bool
+    ensures { result ≡ list_all is_printable bytes.now }
+{
+    bytes.iter().all(|byte| is_printable(*byte))
+}
+
+fn is_printable(byte: u8) -> bool
+    ensures { result ≡ is_printable byte }
+{
+    32 <= byte && byte <= 126
 }
 
 /// Whether a control character ends at one of these bytes. All are looked at, whatever is found, so

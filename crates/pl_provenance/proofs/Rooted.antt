@@ -82,7 +82,8 @@ use Rattle.pl_root.specs.declared.root_key.RootKey.TheVariants as key
 use Rattle.pl_extends.specs.Extending.{extended, value_extended}
 use Rattle.pl_extends.specs.Rooting.{Rooting, filled_with, chained, counting, misplaced}
 use Rattle.pl_extends.specs.Rooting.{unless_misplaced, extended_behind, key_put, named_put}
-use Rattle.pl_extends.specs.Rooting.{with_item, item_put, given_by, given_put, all_given_put}
+use Rattle.pl_extends.specs.Rooting.{item_put, given_by, given_put, all_given_put}
+use Rattle.pl_recursion.specs.Settling.{with_item}
 use Rattle.pl_extends.specs.Rooting.{value_put, text_put, list_put, pairs_put, mapping_put}
 use Rattle.pl_extends.specs.Rooting.{node_put, turns_put, asked_put, pair_put, node_seen}
 use Rattle.pl_extends.specs.Rooting.{body_seen, pair_seen}

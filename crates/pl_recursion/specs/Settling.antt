@@ -73,11 +73,13 @@ items_behind (node ∷ nodes) scope before used =
 
 -- ---- pairs: the key tells the region
 
+-- a pair with another value
+abbrev pub with_item : MarkedPair → MarkedNode → MarkedPair
+with_item pair item = record { key = pair.key; key_origin = pair.key_origin; item = item }
+
 abbrev pub pairs_and : SettledPairs → MarkedPair → Counted → SettledPairs
 pairs_and before pair one = record {
-  pairs =
-      before.pairs
-      ++ record { key = pair.key; key_origin = pair.key_origin; item = one.node } ∷ [];
+  pairs = before.pairs ++ with_item pair one.node ∷ [];
   count = one.count;
 }
 

@@ -3,31 +3,14 @@ ghost use Rattle.pl_base.specs.declared.value.Value.{out-Value, Str, Object};
 ghost use Rattle.pl_eval.specs.LookUps.{made};
 ghost use Rattle.pl_directives.specs.Gives.{Gives};
 ghost use Rattle.pl_recursion.specs.Levels.{variable_item, items_of, items_from};
-ghost use Rattle.pl_recursion.specs.Settling.{items_with, items_and, pairs_and};
+ghost use Rattle.pl_recursion.specs.Settling.{items_with, items_and, pairs_and, with_item};
 ghost use Rattle.pl_frame.specs.Names.{named};
 
 use crate::followed::{Followed, SettledPairs};
 use pl_base::{ExactCopy, List, MarkedNode, MarkedPair, Memory, Origin, Place, Text, Value};
 use pl_directives::{Counted, ExpandFault, ExpandProblem, Form, complain};
+use pl_frame::property;
 use std::alloc::Global;
-
-/// A property of that name, whose key has that origin.
-fn property(
-    alloc: Global,
-    origin: &Origin,
-    name: &str,
-    item: MarkedNode,
-) -> Result<MarkedPair, Memory>
-    ensures { IfOk result (λ pair. pair ≡ named origin.now name.now item) }
-{
-    let key = Text::from_str(alloc, name)?;
-    let key_origin = origin.copy(alloc)?;
-    Ok(MarkedPair {
-        key,
-        key_origin,
-        item,
-    })
-}
 
 /// The name of a variable's item.
 fn name_of(alloc: Global, origin: &Origin, name: Text) -> Result<MarkedPair, Memory>
@@ -159,18 +142,13 @@ pub fn pairs_and(
         count: _,
     } = before;
     let Counted { node, count } = one;
-    pairs.push(with_value(alloc, pair, node)?)?;
+    pairs.push(with_item(alloc, pair, node)?)?;
     Ok(SettledPairs { pairs, count })
 }
 
-/// A pair with another value.
-fn with_value(alloc: Global, pair: &MarkedPair, item: MarkedNode) -> Result<MarkedPair, Memory>
-    ensures { IfOk result (λ other. other ≡ record {
-      key = pair.now.key;
-      key_origin =
-          pair.now.key_origin;
-      item = item;
-    }) }
+/// A copy of a pair with another value in its place. Memory where memory is wanting.
+pub fn with_item(alloc: Global, pair: &MarkedPair, item: MarkedNode) -> Result<MarkedPair, Memory>
+    ensures { IfOk result (λ other. other ≡ with_item pair.now item) }
 {
     let key = pair.key.copy(alloc)?;
     let key_origin = pair.key_origin.copy(alloc)?;

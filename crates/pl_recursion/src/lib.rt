@@ -16,6 +16,6 @@ mod settling;
 pub use expanding::{expand_node, expand_path, fill_key, fill_pair};
 pub use followed::{Followed, SettledPairs};
 pub use following::{MOST_LEVELS, MOST_OPEN};
-pub use items::variable_items;
+pub use items::{variable_items, with_item};
 pub use scope::Scope;
 pub use settling::settle_node;

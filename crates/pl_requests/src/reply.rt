@@ -16,7 +16,7 @@ pub struct Reply {
 pub enum Body {
     Empty,
     Json(Json),
-    File(Shared<FileText>),
+    Raw(Shared<FileText>),
 }
 
 impl Reply {

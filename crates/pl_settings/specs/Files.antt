@@ -32,5 +32,5 @@ remove_file log key = if is_some (file key log.facts)
 -- its bytes as they were put last
 abbrev pub get_file : List Fact → FileKey → Answer
 get_file facts key = option_map_or
-    (λ told. without_fact (record { status = 200; body = body.File told }))
+    (λ told. without_fact (record { status = 200; body = body.Raw told }))
     (file_put key facts) (refused 404 rules.FileUnknown)

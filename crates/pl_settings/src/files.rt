@@ -61,7 +61,7 @@ pub fn get_file(alloc: Global, journal: &Journal, key: &FileKey) -> Result<Answe
 {
     match journal.file_put(key) {
         Some(file) => {
-            let body = Body::File(file.copy(alloc)?);
+            let body = Body::Raw(file.copy(alloc)?);
             Ok(Answer::without_fact(Reply { status: 200, body }))
         }
         None => Answer::refusal(alloc, 404, &Rule::FileUnknown),

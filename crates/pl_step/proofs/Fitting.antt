@@ -158,7 +158,7 @@ module _ (log : Log) (moment : ℕ) (who : List ℕ) (made : Made) (runs : CanRu
       (with_fact (files.versioned log) (event.FileRemoved key)) (refused 404 rules.FileUnknown)
       tt tt)
   fits (request.GetFile key) answer is = subst Fits (sym is)
-      (if_some (λ told. without_fact (record { status = 200; body = body.File told }))
+      (if_some (λ told. without_fact (record { status = 200; body = body.Raw told }))
       (settings.file_put key log.facts) (refused 404 rules.FileUnknown) (λ told. tt) tt)
   fits (request.SetPipeline told) answer is = subst Fits (sym is)
       (if_so (is_text told.name (codes "text")) (refused 409 rules.PipelineReserved)

@@ -3,7 +3,7 @@ use Rattle.std.specs.Prelude.{ℕ, List, [], ◌++◌, length, codes, if◌then�
 use Rattle.std.specs.Fmt.{decimal}
 use Rattle.pl_requests.specs.declared.reply.Reply.{Reply}
 use Rattle.pl_requests.specs.declared.reply.Body.{Body}
-use Rattle.pl_requests.specs.declared.reply.Body.TheVariants.{Empty, File}
+use Rattle.pl_requests.specs.declared.reply.Body.TheVariants.{Empty, Raw}
 use Rattle.pl_requests.specs.declared.reply.Body.TheVariants as body
 use Rattle.pl_wire.specs.Json.{json_text}
 use Rattle.pl_wire.specs.Message.{crlf}
@@ -50,7 +50,7 @@ abbrev pub written_body : Body → List ℕ
 written_body Empty = crlf
 written_body (body.Json value) = with_headers (codes "application/json")
     (json_text value)
-written_body (File told) = with_headers (codes "text/plain") told.text
+written_body (Raw told) = with_headers (codes "text/plain") told.text
 
 -- a reply as it is sent
 unfoldable pub written : Reply → List ℕ

@@ -151,9 +151,7 @@ pub fn reply_bytes(alloc: Global, reply: &Reply) -> Result<Bytes, Memory>
     match &reply.body {
         Body::Empty => without_content(alloc, reply.status),
         Body::Json(json) => with_json(alloc, reply.status, json),
-        Body::File(file) => {
-            with_content(alloc, reply.status, "text/plain", file.text.as_slice())
-        }
+        Body::Raw(file) => { with_content(alloc, reply.status, "text/plain", file.text.as_slice()) }
     }
 }
 
