@@ -32,7 +32,7 @@ same_row left right e = ap (λ (p : Place × List ℕ). record {
     (exact_pairs nat_cmp (slice_cmp nat_cmp) exact_unsigned exact_bytes) exact_bytes
     (place left, left.body) (place right, right.body) (is_equal (row_cmp left right) e))
 
-row_itself : (row : Row) → is_eq (row_cmp row row) ≡ true
+pub row_itself : (row : Row) → is_eq (row_cmp row row) ≡ true
 row_itself row =
     ap (λ (o : Ordering). is_eq (ordering_then o (slice_cmp nat_cmp row.body row.body)))
     (tied_itself places_total (place row)) ∙ ap is_eq (tied_itself nat_list_cmp_total row.body)
@@ -41,7 +41,7 @@ untold : (b : Bool) → not b ≡ false → b ≡ true
 untold true e = refl
 untold false e = absurd (true≢false e)
 
-told : (b : Bool) → not b ≡ true → b ≡ false
+pub told : (b : Bool) → not b ≡ true → b ≡ false
 told true e = absurd (true≢false (sym e))
 told false e = refl
 
@@ -89,7 +89,7 @@ both P Q R leads [] left right = left
 both P Q R leads (x ∷ xs) left right =
     (leads x left.0 right.0, both P Q R leads xs left.1 right.1)
 
-own : (rows : List Row) → Apart rows →
+pub own : (rows : List Row) → Apart rows →
     AllByRecursion (λ row. row_in (place row) rows ≡ Some row) rows
 own [] apart = apart
 own (row ∷ rows) apart = (

@@ -107,7 +107,7 @@ pub is_false : (b c : Bool) → (b || c) ≡ false → (b ≡ false) × (c ≡ f
 is_false true c e = absurd (true≢false e)
 is_false false c e = (refl, e)
 
-or_false : (b c : Bool) → b ≡ false → c ≡ false → (b || c) ≡ false
+pub or_false : (b c : Bool) → b ≡ false → c ≡ false → (b || c) ≡ false
 or_false true c e f = absurd (true≢false e)
 or_false false c e f = f
 

@@ -3,3 +3,4 @@ pub mod Filtering
 pub mod Leading
 pub mod Differs
 pub mod Joining
+pub mod There

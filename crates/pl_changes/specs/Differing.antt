@@ -65,13 +65,18 @@ come old new = filter (λ row. not (have_row old row)) new
 abbrev pub differing : List Row → List Row → List Change
 differing old new = map going (gone old new) ++ map coming (come old new)
 
+-- At a place the old and the new rows are what stands there before and behind, or they don't differ
+-- there, and what stands there before and behind doesn't either.
+abbrev pub TellAt : ℕ × List ℕ → List Row → Option Row → (old new : List Row) → Type 0
+TellAt at before behind old new =
+    ((row_in at old ≡ row_in at before) × (row_in at new ≡ behind)) ⊎
+    ((row_in at old ≡ row_in at new) × (row_in at before ≡ behind))
+
 -- The old and the new rows are looked at among all rows before and behind, so that nothing is
--- overlooked: at each place they are what stands there before and behind, or they don't differ
--- there, and those before and behind don't either.
+-- overlooked.
 abbrev pub OverlookNothing : (before behind old new : List Row) → Type 0
 OverlookNothing before behind old new = (at : ℕ × List ℕ) →
-    ((row_in at old ≡ row_in at before) × (row_in at new ≡ row_in at behind)) ⊎
-    ((row_in at old ≡ row_in at new) × (row_in at before ≡ row_in at behind))
+    TellAt at before (row_in at behind) old new
 
 -- no two changes are of one place
 abbrev pub AreOnePerPlace : List Change → Type 0

@@ -1,0 +1,6 @@
+//! Where rows stand: their tables, and their keys in bytes.
+#![tactic(auto)]
+
+mod laws;
+
+pub use laws::place_laws;

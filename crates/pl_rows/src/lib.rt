@@ -1,0 +1,6 @@
+//! The rows of a state: which they are.
+#![tactic(auto)]
+
+mod laws;
+
+pub use laws::rows_laws;

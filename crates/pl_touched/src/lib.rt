@@ -1,0 +1,6 @@
+//! Which rows facts can change: those of the places that they touch.
+#![tactic(auto)]
+
+mod laws;
+
+pub use laws::touching_laws;
