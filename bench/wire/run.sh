@@ -55,7 +55,10 @@ def filled(make):
     return text(make(count))
 
 
-asked, head = "pl_wire::asked::asked", "pl_heads::front::read_head"
+names = subprocess.run(["nm", program], capture_output=True, text=True).stdout
+# a build may put `asked` into its caller, which hashes the token besides
+asked = "pl_wire::asked::asked" if " pl_wire::asked::asked\n" in names else "pl_wire::next::message_of"
+head = "pl_heads::front::read_head"
 put = [message("PUT /files/app/refs%2Fheads%2Fmain/%2Fci.yml", b"x" * size) for size in (most // 2, most)]
 half, whole = (instructions(data, asked, asked)[0] for data in put)
 heads = instructions(put[1], head, head)[0]
