@@ -1,4 +1,4 @@
-ghost use Rattle.std.specs.Prelude.{◌≡◌};
+ghost use Rattle.std.specs.Prelude.{◌≡◌, ◌≤◌, ◌*◌, ◌/◌, length, take};
 ghost use Rattle.std.specs.Char.{is_control};
 ghost use Rattle.std.specs.List.{list_all, list_any};
 ghost use Rattle.std.specs.Str.{chars};
@@ -28,15 +28,19 @@ pub fn is_label(text: &str) -> bool
     !text.is_empty() && !has_control(text)
 }
 
-/// Whether a text has a control character. Of a text of ASCII's printable characters, as most are,
-/// it is told byte by byte.
+/// Whether a text has a control character. Where it has more than 16 bytes it is told by pieces of
+/// them, and else, where all are printable ones of ASCII, without reading its characters.
 fn has_control(text: &str) -> bool
     ensures { result ≡ list_any is_control (chars text.now) }
 {
-    if are_printable(text.as_bytes()) {
+    let bytes = text.as_bytes();
+    if bytes.len() > 16 {
+        return have_control(bytes);
+    }
+    if are_printable(bytes) {
         return false;
     }
-    have_control(text.as_bytes())
+    text.chars().any(|character| character.is_control())
 }
 
 /// Whether bytes are those of ASCII's printable characters, the space among them.
@@ -52,12 +56,39 @@ fn is_printable(byte: u8) -> bool
     32 <= byte && byte <= 126
 }
 
-/// Whether a control character ends at one of these bytes. All are looked at, whatever is found, so
-/// that many are looked at in one step.
+/// Whether a control character ends at one of the bytes, which are at least 17: the pieces of 16 of
+/// them and the last 16 are looked at, of which some may be in a piece too.
 fn have_control(bytes: &[u8]) -> bool
+    requires { 17 ≤ length bytes.now }
     ensures { result ≡ has_control_behind 0 bytes.now }
 {
+    let (_, end) = bytes.split_at(bytes.len() - 17);
+    match end {
+        [last, piece @ ..] => pieces_have(bytes) | piece_has(*last, piece),
+        [] => false,
+    }
+}
+
+/// The same of the bytes in pieces of 16, without those behind the last piece.
+fn pieces_have(bytes: &[u8]) -> bool
+    ensures { result ≡ has_control_behind 0 (take (16 * (length bytes.now / 16)) bytes.now) }
+{
     let mut last = 0;
+    let mut found = false;
+    for at in 0..bytes.len() / 16 {
+        let piece = &bytes[16 * at..16 * at + 16];
+        found = found | piece_has(last, piece);
+        last = piece[15];
+    }
+    found
+}
+
+/// Whether a control character ends at one of these bytes, where this one stands before them. All
+/// are looked at, whatever is found, so that the bytes of a piece are looked at in one step.
+fn piece_has(before: u8, bytes: &[u8]) -> bool
+    ensures { result ≡ has_control_behind before bytes.now }
+{
+    let mut last = before;
     let mut found = false;
     for byte in bytes {
         found = found | ends_control(last, *byte);

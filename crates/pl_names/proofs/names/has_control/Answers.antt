@@ -5,13 +5,13 @@ use Rattle.pl_names.proofs.Controls.{told}
 use Rattle.pl_names.proofs.Printable.{no_control}
 use Rattle.pl_names.proofs.names.has_control.Goals as goal
 
+pub returns-then-bytes-gt16 : goal.returns-then-bytes-gt16
+returns-then-bytes-gt16 c =
+    c.have_control.ensures ∙ ap (has_control_behind 0) c.as_bytes-bytes.ensures.value
+    ∙ told c.args.text.now c.utf8.text
+
 pub returns-then-are_printable : goal.returns-then-are_printable
 returns-then-are_printable c =
     no_control c.args.text.now c.are_printable.result
-    (c.are_printable.ensures ∙ ap (list_all is_printable) c.as_bytes.ensures.value)
+    (c.are_printable.ensures ∙ ap (list_all is_printable) c.as_bytes-bytes.ensures.value)
     c.if-are_printable.true
-
-pub returns : goal.returns
-returns c =
-    c.have_control.ensures ∙ ap (has_control_behind 0) c.as_bytes-2.ensures.value
-    ∙ told c.args.text.now c.utf8.text
