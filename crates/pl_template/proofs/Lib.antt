@@ -4,3 +4,4 @@ pub mod Cuts
 pub mod Judging
 pub mod Pieces
 pub mod Shapes
+pub mod Dollars

@@ -1,4 +1,6 @@
-ghost use Rattle.std.specs.Prelude.{◌≡◌, ◌↔◌, ◌+◌, ◌++◌, ◌∷◌, [], length, IsTrue, IfOk, OnOk};
+ghost use Rattle.std.specs.Prelude.{◌≡◌, ◌↔◌, ◌+◌, ◌++◌, ◌∷◌, ◌==◌, [], length, IsTrue, IfOk};
+ghost use Rattle.std.specs.Prelude.{OnOk};
+ghost use Rattle.std.specs.List.{list_any};
 ghost use Rattle.pl_template.specs.declared.forms.Piece.TheVariants.{Expression};
 ghost use Rattle.pl_template.specs.Cutting.{holds_opening, pieces_of};
 ghost use Rattle.pl_template.specs.Forms.{form_of};
@@ -9,11 +11,22 @@ use crate::forms::{Piece, ScalarForm};
 use pl_base::{List, Memory, Text};
 use std::alloc::Global;
 
+/// Whether a `$` stands in a text. Most texts have none, and one byte is sought faster than three.
+fn has_dollar(text: &str) -> bool
+    ensures { result ≡ list_any (λ byte. byte == 36) text.now }
+{
+    text.as_bytes().contains(&b'$')
+}
+
 /// Whether `${{` stands anywhere in a text. It takes no memory.
 pub fn begins_expression(text: &Text) -> bool
     ensures { result ≡ holds_opening text.now }
 {
-    text.as_str().contains("${{")
+    let text = text.as_str();
+    if !has_dollar(text) {
+        return false;
+    }
+    text.contains("${{")
 }
 
 /// How expressions stand in a scalar's text (Microsoft Learn, Azure Pipelines, "Template
@@ -26,6 +39,9 @@ pub fn scalar_form(alloc: Global, text: &Text) -> Result<ScalarForm, Memory>
     ensures { IfOk result (λ form. form ≡ form_of text.now) }
 {
     let text = text.as_str();
+    if !has_dollar(text) {
+        return Ok(ScalarForm::Plain);
+    }
     let Some((front, behind)) = text.split_once("${{") else {
         return Ok(ScalarForm::Plain);
     };

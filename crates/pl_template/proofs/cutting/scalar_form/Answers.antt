@@ -1,8 +1,14 @@
 use Rattle.std.proofs.Common.{◌∙◌, ap, sym}
 use Rattle.std.proofs.lemmas.Bool.{false≢true}
 use Rattle.pl_template.specs.Forms.{form_of}
+use Rattle.pl_template.proofs.Dollars.{plain_without}
 use Rattle.pl_template.proofs.Shapes.{plain, unclosed, not_cut, whole, joined}
 use Rattle.pl_template.proofs.cutting.scalar_form.Goals as goal
+
+pub returns-then-not-has_dollar : goal.returns-then-not-has_dollar
+returns-then-not-has_dollar c =
+    plain_without c.as_str-text.result.now (sym c.has_dollar.ensures ∙ c.if-not-has_dollar.true)
+    ∙ ap form_of c.as_str-text.ensures
 
 pub returns-in_default : goal.returns-in_default
 returns-in_default c = plain _ c.in_default.ensures.cases ∙ ap form_of c.as_str-text.ensures
