@@ -1,7 +1,7 @@
-ghost use Rattle.std.specs.Prelude.{◌≡◌, ◌++◌, IfOk};
+ghost use Rattle.std.specs.Prelude.{◌≡◌, ◌∷◌, ◌++◌, [], IfOk};
 ghost use Rattle.pl_directives.specs.Contents.{begun, items_content, pairs_content};
 ghost use Rattle.pl_directives.specs.Contents.{as_items, as_pairs, items_behind, pairs_behind};
-ghost use Rattle.pl_directives.specs.Contents.{add_items, add_pairs};
+ghost use Rattle.pl_directives.specs.Contents.{add_items, add_pairs, put_pair};
 ghost use Rattle.pl_directives.specs.Gives.{Gives};
 ghost use Rattle.pl_directives.specs.Misfits.{problem_of};
 
@@ -182,6 +182,41 @@ fn pairs_behind(
     }
 }
 
+/// One more behind those that are there.
+fn with_one<T: Drop>(all: List<T>, one: T) -> Result<List<T>, Memory>
+    ensures { IfOk result (λ more. more ≡ all ++ one ∷ []) }
+{
+    let mut more = all;
+    more.push(one)?;
+    Ok(more)
+}
+
+fn item_behind(alloc: Global, item: MarkedNode, content: Content) -> Result<Content, ExpandFault>
+    ensures { Gives result (items_behind item.origin.source (item ∷ []) content) }
+{
+    match content {
+        Content::Unknown => Ok(Content::Items(with_one(List::new(alloc), item)?)),
+        Content::Items(items) => Ok(Content::Items(with_one(items, item)?)),
+        Content::Pairs(_) => {
+            let first = complain(alloc, ExpandProblem::WrongKind, &item.origin.source)?;
+            Err(ExpandFault::Refused(first))
+        }
+    }
+}
+
+fn pair_behind(alloc: Global, pair: MarkedPair, content: Content) -> Result<Content, ExpandFault>
+    ensures { Gives result (pairs_behind pair.key_origin.source (pair ∷ []) content) }
+{
+    match content {
+        Content::Unknown => Ok(Content::Pairs(with_one(List::new(alloc), pair)?)),
+        Content::Pairs(pairs) => Ok(Content::Pairs(with_one(pairs, pair)?)),
+        Content::Items(_) => {
+            let first = complain(alloc, ExpandProblem::WrongKind, &pair.key_origin.source)?;
+            Err(ExpandFault::Refused(first))
+        }
+    }
+}
+
 /// Items behind those that are there.
 pub fn add_items(
     alloc: Global,
@@ -222,6 +257,44 @@ pub fn add_pairs(
     Ok(Progress {
         content,
         chain,
+        count,
+    })
+}
+
+/// An item behind those that are there.
+pub fn put_item(
+    alloc: Global,
+    item: MarkedNode,
+    progress: Progress,
+) -> Result<Progress, ExpandFault>
+    ensures { Gives result (add_items item.origin.source (item ∷ []) progress) }
+{
+    let Progress {
+        content,
+        chain,
+        count,
+    } = progress;
+    let content = item_behind(alloc, item, content)?;
+    Ok(Progress {
+        content,
+        chain,
+        count,
+    })
+}
+
+/// A pair of its own, which ends a chain of branches.
+pub fn put_pair(
+    alloc: Global,
+    pair: MarkedPair,
+    count: u32,
+    progress: Progress,
+) -> Result<Progress, ExpandFault>
+    ensures { Gives result (put_pair pair count progress) }
+{
+    let content = pair_behind(alloc, pair, progress.content)?;
+    Ok(Progress {
+        content,
+        chain: Chain::Closed,
         count,
     })
 }

@@ -18,7 +18,9 @@ mod wholes;
 
 pub use action::{Action, Turns};
 pub use asking::key_asks;
-pub use contents::{add_items, add_pairs, as_items, as_pairs, begin, begin_spliced};
+pub use contents::{
+    add_items, add_pairs, as_items, as_pairs, begin, begin_spliced, put_item, put_pair,
+};
 pub use fault::{Complaint, ExpandFault, ExpandProblem};
 pub use keys::{MadeKey, key_by};
 pub use manner::{Kind, Manner};
@@ -28,4 +30,4 @@ pub use refusing::{complain, enter, refuse};
 pub use region::{Form, Region, Standing};
 pub use scalars::{counted_value_at, scalar_value};
 pub use straying::{given_value, judge_key, told};
-pub use wholes::{absorb, finish, object_of, put_pair};
+pub use wholes::{absorb, finish, object_of};

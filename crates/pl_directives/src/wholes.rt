@@ -1,15 +1,15 @@
 ghost use Rattle.std.specs.Prelude.{◌≡◌};
 ghost use Rattle.pl_frame.specs.Origins.{literal_at};
-ghost use Rattle.pl_directives.specs.Contents.{object_of, node_of, finished, absorbed, put_pair};
+ghost use Rattle.pl_directives.specs.Contents.{object_of, node_of, finished, absorbed};
 ghost use Rattle.pl_directives.specs.Gives.{Gives};
 ghost use Rattle.pl_directives.specs.Misfits.{problem_of};
 
 use crate::contents::{add_items, add_pairs, as_items, as_pairs};
 use crate::fault::{ExpandFault, ExpandProblem};
 use crate::misfit::Misfit;
-use crate::progress::{Chain, Content, Counted, Progress};
+use crate::progress::{Content, Counted, Progress};
 use crate::refusing::complain;
-use pl_base::{ExactCopy, List, MarkedNode, MarkedPair, Origin, Place, Value};
+use pl_base::{List, MarkedNode, MarkedPair, Origin, Place, Value};
 use pl_frame::{Frame, first_double, literal_at};
 use std::alloc::Global;
 
@@ -86,19 +86,4 @@ pub fn absorb(
         }
         _ => Err(ExpandFault::Refused(complain(alloc, misfit.problem(), place)?)),
     }
-}
-
-/// A pair of its own, which ends a chain of branches.
-pub fn put_pair(
-    alloc: Global,
-    pair: MarkedPair,
-    count: u32,
-    progress: Progress,
-) -> Result<Progress, ExpandFault>
-    ensures { Gives result (put_pair pair count progress) }
-{
-    let place = pair.key_origin.source.copy(alloc)?;
-    let mut pairs = List::new(alloc);
-    pairs.push(pair)?;
-    add_pairs(alloc, &place, pairs, progress.at(Chain::Closed, count))
 }
