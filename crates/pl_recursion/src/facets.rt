@@ -5,11 +5,12 @@ ghost use Rattle.pl_recursion.specs.Expanding.{entry_of, facet_of, kind_of, part
 ghost use Rattle.pl_directives.specs.Manners.{is_directive, is_insert, is_other, first_kind};
 ghost use Rattle.pl_directives.specs.Manners.{first_other, is_unclosed, first_unclosed};
 ghost use Rattle.pl_directives.specs.Manners.{closed_manner, filled_manner, manner_of};
+ghost use Rattle.pl_template.specs.Cutting.{holds_opening};
 ghost use Rattle.pl_template.specs.Keys.{form_of_key};
 
 use pl_base::{ExactCopy, List, Memory, Node, NodeBody, NodePair, Place};
 use pl_directives::{Kind, Manner};
-use pl_template::{KeyForm, ScalarForm, key_form, scalar_form};
+use pl_template::{KeyForm, ScalarForm, begins_expression, key_form, scalar_form};
 use std::alloc::Global;
 
 /// How a mapping stands in its sequence, by the forms of its keys and the kinds of its values.
@@ -20,7 +21,20 @@ pub fn manner_of(alloc: Global, pairs: &List<NodePair>) -> Result<Manner, Memory
     if pairs.is_empty() {
         return Ok(Manner::Empty);
     }
+    if !has_expression(pairs) {
+        return Ok(Manner::Stays);
+    }
     filled_manner(alloc, pairs)
+}
+
+/// Whether an expression begins in one of the keys. It takes no memory.
+fn has_expression(pairs: &List<NodePair>) -> bool
+    ensures { result ≡ list_any (λ pair. holds_opening pair.key) pairs.now }
+{
+    pairs
+        .as_slice()
+        .iter()
+        .any(|pair| begins_expression(&pair.key))
 }
 
 /// The same of a mapping that has a key. Where an expression in a key has no end, that is told

@@ -1,8 +1,7 @@
-ghost use Rattle.std.specs.Prelude.{◌≡◌, ◌∷◌, []};
+ghost use Rattle.std.specs.Prelude.{◌≡◌};
 ghost use Rattle.pl_frame.specs.Origins.{literal_at};
 ghost use Rattle.pl_calls.specs.Gives.{GivesFrom};
-ghost use Rattle.pl_directives.specs.Contents.{with_chain, with_count, add_items};
-ghost use Rattle.pl_directives.specs.Gives.{Gives};
+ghost use Rattle.pl_directives.specs.Contents.{with_chain, with_count};
 ghost use Rattle.pl_directives.specs.declared.progress.Chain.TheVariants.{Closed};
 ghost use Rattle.pl_directives.specs.declared.progress.Content.TheVariants.{Pairs};
 ghost use Rattle.pl_recursion.specs.Following.{scope_of};
@@ -11,9 +10,11 @@ ghost use Rattle.pl_recursion.specs.Putting.{add_item, splice, spread};
 
 use crate::following::follow;
 use crate::scope::Scope;
-use pl_base::{ExactCopy, List, MarkedNode, MarkedPair, Place, Value};
+use pl_base::{List, MarkedNode, MarkedPair, Place, Value};
 use pl_calls::{Files, Reach};
-use pl_directives::{Chain, Content, Counted, ExpandFault, Progress, add_items, object_of};
+use pl_directives::{
+    Chain, Content, Counted, ExpandFault, Progress, add_items, object_of, put_item,
+};
 use pl_frame::literal_at;
 use std::alloc::Global;
 
@@ -39,16 +40,6 @@ pub fn add_item<F: Files>(
         }
         None => put_item(alloc, item, progress),
     }
-}
-
-/// An item that is no call.
-fn put_item(alloc: Global, item: MarkedNode, progress: Progress) -> Result<Progress, ExpandFault>
-    ensures { Gives result (add_items item.origin.source (item ∷ []) progress) }
-{
-    let place = item.origin.source.copy(alloc)?;
-    let mut items = List::new(alloc);
-    items.push(item)?;
-    add_items(alloc, &place, items, progress)
 }
 
 /// An item behind those that are there, which ends a chain of branches.
