@@ -27,7 +27,7 @@ fn push_step(alloc: Global, text: &mut Text, step: &PlanStep) -> Result<(), Memo
     push_within(text, "step")?;
     push_word(text, step.form.as_str())?;
     text.push_str(" ")?;
-    push_place(alloc, text, &origin.source)?;
+    push_place(text, &origin.source)?;
     text.push_str(" via")?;
     let crossings = origin.crossings.to_vec(alloc)?;
     push_crossings(text, crossings.as_slice())?;

@@ -1,6 +1,7 @@
 ghost use Rattle.std.specs.Prelude.{◌≡◌, ◌++◌, ◌∷◌, decimal, flat_map, IfOk, OnOk};
 ghost use Rattle.pl_report.specs.Places.{and_word, key_text, place_text, refusal_line};
 
+use itoa::Buffer;
 use pl_base::{FileKey, List, Memory, Place, Refusal, Text};
 use std::alloc::Global;
 
@@ -14,12 +15,12 @@ pub fn push_word(text: &mut Text, word: &str) -> Result<(), Memory>
 }
 
 /// Puts a number behind a text, parted by a colon.
-fn push_number(alloc: Global, text: &mut Text, number: u32) -> Result<(), Memory>
+fn push_number(text: &mut Text, number: u32) -> Result<(), Memory>
     ensures { OnOk result (text.new ≡ text.old ++ 58 ∷ decimal number) }
 {
-    let digits = number.to_string(alloc)?;
+    let mut digits = Buffer::new();
     text.push_str(":")?;
-    text.push_str(digits.as_str())
+    text.push_str(digits.format(number))
 }
 
 /// Puts a file's key behind a text, as `REPO REF PATH`. Memory where memory is wanting; then a
@@ -34,12 +35,12 @@ pub fn push_key(text: &mut Text, key: &FileKey) -> Result<(), Memory>
 
 /// Puts a place behind a text, as `REPO REF PATH:LINE:COL`. Memory where memory is wanting; then a
 /// beginning of it may stand there.
-pub fn push_place(alloc: Global, text: &mut Text, place: &Place) -> Result<(), Memory>
+pub fn push_place(text: &mut Text, place: &Place) -> Result<(), Memory>
     ensures { OnOk result (text.new ≡ text.old ++ place_text place.now) }
 {
     push_key(text, &place.file)?;
-    push_number(alloc, text, place.line)?;
-    push_number(alloc, text, place.col)
+    push_number(text, place.line)?;
+    push_number(text, place.col)
 }
 
 /// Puts details behind a text, each behind a space.
@@ -60,7 +61,7 @@ pub fn refusal_line(alloc: Global, refusal: &Refusal) -> Result<Text, Memory>
     let mut line = Text::from_str(alloc, "refused")?;
     push_word(&mut line, refusal.code.as_str())?;
     line.push_str(" ")?;
-    push_place(alloc, &mut line, &refusal.place)?;
+    push_place(&mut line, &refusal.place)?;
     push_details(&mut line, &refusal.detail)?;
     line.push_str("\n")?;
     Ok(line)
