@@ -1,6 +1,6 @@
 -- Whether bytes are a text, and how many parts a line has.
-use Rattle.std.proofs.Common.{inl, inr, ◌≡◌, ◌<◌, ℕ, List, Some, None, true, length, refl, ap, sym}
-use Rattle.std.proofs.Common.{arith}
+use Rattle.std.proofs.Common.{inl, inr, ◌≡◌, ◌<◌, ℕ, List, Some, None, true, false, length}
+use Rattle.std.proofs.Common.{refl, ap, sym, arith}
 use Rattle.std.specs.Prelude.{◌∷◌, [], codes, nat_eq, if◌then◌else◌}
 use Rattle.std.specs.Cmp.Lexicographic.{pointwise}
 use Rattle.std.specs.List.{slice_split}
@@ -32,6 +32,13 @@ pub readable :
 readable key told same rules =
     let here = cond_some (are_texts told) told key (sym same) in
     rw here.0 (rw (ap is_key here.1) (rw rules (ap Some (sym here.1))))
+
+pub unreadable :
+    (key told : FileKey) → Some key ≡ (if are_texts told then Some told else None) →
+    is_key key ≡ false → None ≡ (if is_readable told then Some told else None)
+unreadable key told same breaks =
+    let here = cond_some (are_texts told) told key (sym same) in
+    rw here.0 (rw (ap is_key here.1) (rw breaks refl))
 
 -- ---- parts
 
