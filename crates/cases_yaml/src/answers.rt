@@ -2,7 +2,6 @@
 use crate::nodes::{push_node, push_refused};
 use pl_base::{FileKey, Node};
 use pl_cases::Answers;
-use pl_step_list::step_list;
 use pl_yaml::{YamlFault, read, write};
 use std::alloc::Global;
 
@@ -11,7 +10,6 @@ pub fn push_answer(alloc: Global, out: &mut Answers, file: &FileKey, question: &
     match question {
         "node" => push_read(alloc, out, file, text),
         "what is told" => push_told(alloc, out, file, text),
-        "node of a step list" => push_step_list(alloc, out, file, text),
         "what is written" => push_written(alloc, out, file, text),
         "node of what is written" => push_read_again(alloc, out, file, text),
         _ => out.push("no such question"),
@@ -35,14 +33,6 @@ fn push_told(alloc: Global, out: &mut Answers, file: &FileKey, text: &[u8]) {
 fn push_fault(alloc: Global, out: &mut Answers, fault: &YamlFault) {
     match fault.to_string(alloc) {
         Ok(told) => out.push(told.as_str()),
-        Err(_) => out.fail(),
-    }
-}
-
-fn push_step_list(alloc: Global, out: &mut Answers, file: &FileKey, text: &[u8]) {
-    match step_list(alloc, text, file) {
-        Ok(Some(node)) => push_node(alloc, out, &node, true),
-        Ok(None) => out.push("none"),
         Err(_) => out.fail(),
     }
 }

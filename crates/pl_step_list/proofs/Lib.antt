@@ -1,4 +1,0 @@
-pub mod LineLemmas
-pub mod ScriptLemmas
-pub mod SpellingLemmas
-pub mod StepLemmas
