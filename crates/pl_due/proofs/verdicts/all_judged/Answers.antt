@@ -32,14 +32,14 @@ loop-place-preserved c =
     let told = c.in_ok-fails.ensures in
     let fails = c.in_ok-fails.field-0.fails in
     let picked = c.in_ok-fails.field-0.picked in
-    elim c.match-picked-4.branch [
+    elim c.match-picked-2.branch [
       | in-Some-picked+in_ok-push w ↦
           one_more facts c.args.moment places i at within is old c.loop-place.invariant fails picked
-          told w.in-Some-picked.stage c.match-picked-4.eligible c.in_default.is w.in-Some-picked.is
+          told w.in-Some-picked.stage c.match-picked-2.eligible c.in_default.is w.in-Some-picked.is
           (w.eligible-is ∙ w.in_ok-push.ensures.ok)
       | in_default-picked w ↦
           no_more facts c.args.moment places i at within is old c.loop-place.invariant fails picked
-          told c.match-picked-4.eligible c.in_default.is w.in_default-picked.is w.eligible-is
+          told c.match-picked-2.eligible c.in_default.is w.in_default-picked.is w.eligible-is
     ]
 
 pub returns : goal.returns
