@@ -7,6 +7,9 @@ use pl_plan::Plan;
 use pl_report::push_key;
 use std::alloc::Global;
 
+/// How many bytes the text of a plan has room for at first: most plans are small.
+const ROOM: usize = 4_096;
+
 /// Puts the line of the template that the root file extends behind a text, where there is one.
 fn push_extends(text: &mut Text, extends: &Option<FileKey>) -> Result<(), Memory>
     ensures { OnOk result (text.new ≡ text.old ++ extends_line extends.now) }
@@ -40,7 +43,7 @@ fn push_extends(text: &mut Text, extends: &Option<FileKey>) -> Result<(), Memory
 pub fn plan_text(alloc: Global, plan: &Plan) -> Result<Text, Memory>
     ensures { IfOk result (λ text. text ≡ plan_text plan.now) }
 {
-    let mut text = Text::new(alloc);
+    let mut text = Text::from_string(String::with_capacity(alloc, ROOM)?);
     push_extends(&mut text, &plan.extends)?;
     push_stages(alloc, &mut text, plan.stages.as_slice())?;
     Ok(text)
