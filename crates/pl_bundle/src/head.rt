@@ -53,8 +53,20 @@ fn one_behind<'a>(repo: &'a [u8], git_ref: &'a [u8], path: &'a [u8]) -> Option<H
     }
 }
 
-/// The parts of a line that names a file, or None where it isn't of that form.
+/// The parts of a line that names a file, or None where it isn't of that form. Most lines begin
+/// otherwise, and one look at their first byte tells them.
 pub(crate) fn head_of(line: &[u8]) -> Option<Head<'_>>
+    ensures { key_of line.now ≡ option_map key_in result }
+{
+    if line.first() == Some(&b'%') {
+        parted(line)
+    } else {
+        None
+    }
+}
+
+/// The parts of a line that names a file, or None where it isn't of that form, by its first space.
+fn parted(line: &[u8]) -> Option<Head<'_>>
     ensures { key_of line.now ≡ option_map key_in result }
 {
     match cut(b' ', content(line)) {

@@ -217,7 +217,8 @@ fn pair_behind(alloc: Global, pair: MarkedPair, content: Content) -> Result<Cont
     }
 }
 
-/// Items behind those that are there.
+/// Items behind those that are there. Refused with WrongKind at `place` where pairs are there;
+/// Memory where memory is wanting.
 pub fn add_items(
     alloc: Global,
     place: &Place,
@@ -239,7 +240,8 @@ pub fn add_items(
     })
 }
 
-/// Pairs behind those that are there.
+/// Pairs behind those that are there. Refused with WrongKind at `place` where items are there;
+/// Memory where memory is wanting.
 pub fn add_pairs(
     alloc: Global,
     place: &Place,
@@ -261,7 +263,8 @@ pub fn add_pairs(
     })
 }
 
-/// An item behind those that are there.
+/// An item behind those that are there. Refused with WrongKind at the item where pairs are there;
+/// Memory where memory is wanting.
 pub fn put_item(
     alloc: Global,
     item: MarkedNode,
@@ -282,7 +285,8 @@ pub fn put_item(
     })
 }
 
-/// A pair of its own, which ends a chain of branches.
+/// A pair of its own, which ends a chain of branches. Refused with WrongKind at the pair's key where
+/// items are there; Memory where memory is wanting.
 pub fn put_pair(
     alloc: Global,
     pair: MarkedPair,

@@ -3,7 +3,7 @@ use Rattle.std.specs.List.{slice_split}
 use Rattle.pl_bundle.specs.Bundles.{is_space, key_by}
 use Rattle.pl_bundle.proofs.Cutting.{parts_cut, parts_whole}
 use Rattle.pl_bundle.proofs.Texts.{one_part}
-use Rattle.pl_bundle.proofs.head.head_of.Goals as goal
+use Rattle.pl_bundle.proofs.head.parted.Goals as goal
 
 pub returns-in-None : goal.returns-in-None
 returns-in-None c =
