@@ -1,3 +1,4 @@
 pub mod Behind
+pub mod Suspects
 pub mod Rising
 pub mod Texts

@@ -4,6 +4,7 @@
 mod checks;
 mod endings;
 mod lists;
+mod marks;
 mod numbers;
 
 pub use checks::{are_checks, is_check};

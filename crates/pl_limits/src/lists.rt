@@ -8,6 +8,7 @@ ghost use Rattle.pl_limits.specs.Limits.{are_rising, by_bytes, by_length, rises,
 ghost use Rattle.pl_limits.specs.Limits.{same_text};
 ghost use Rattle.pl_names.specs.Names.{is_name};
 
+use crate::marks::suspects;
 use pl_base::{Bytes, List, Memory, Text};
 use pl_names::is_name;
 use pl_rules::Day;
@@ -104,15 +105,15 @@ fn is_output(told: &(Text, Text)) -> bool
 }
 
 /// Whether no text stands twice. Texts of which each is longer than the one before it, or as long
-/// and behind it byte by byte, are gone through once, without memory; others are sorted, and then
-/// each comes before the next.
+/// and behind it byte by byte, are gone through once, without memory. Of others those that share a
+/// place by their hashes are sorted, and then each comes before the next.
 pub(crate) fn are_distinct_texts(alloc: Global, texts: &[Text]) -> Result<bool, Memory>
     ensures { IfOk result (λ are. are ≡ are_distinct same_text texts.now) }
 {
     if rise_by_length(texts) {
         return Ok(true);
     }
-    let mut sorted = borrowed(alloc, texts)?;
+    let mut sorted = suspects(alloc, texts)?;
     sorted.sort()?;
     Ok(rise_by_bytes(sorted.as_slice()))
 }
@@ -151,17 +152,6 @@ fn lengths_rise(first: &str, rest: &[Text]) -> bool
         }
     }
     true
-}
-
-/// The texts as std's string slices, in their order.
-fn borrowed<'a>(alloc: Global, texts: &'a [Text]) -> Result<Vec<&'a str>, Memory>
-    ensures { IfOk result (λ all. map (λ text. text.now) all.items ≡ texts.now) }
-{
-    let mut all = Vec::with_capacity(alloc, texts.len())?;
-    for text in texts {
-        all.push(text.as_str())?;
-    }
-    Ok(all)
 }
 
 /// Whether each text comes before the next one, byte by byte.

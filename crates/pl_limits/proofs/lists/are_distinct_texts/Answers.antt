@@ -1,3 +1,4 @@
+use Rattle.std.proofs.Common.{map, refl, ◌∙◌}
 use Rattle.pl_limits.proofs.Texts.{rising_by_bytes, rising_by_length}
 use Rattle.pl_limits.proofs.lists.are_distinct_texts.Goals as goal
 
@@ -8,7 +9,7 @@ returns-then-rise_by_length c =
 
 pub returns : goal.returns
 returns c =
-    rising_by_bytes (λ text. text.now) c.args.texts.now c.in_ok-sorted.sorted.items
-    c.sort.new.self.items c.rise_by_bytes.result c.in_ok-sorted.ensures
+    rising_by_bytes (λ text. text.now) (map (λ text. text.now) c.in_ok-sorted.sorted.items)
+    c.in_ok-sorted.sorted.items c.sort.new.self.items c.rise_by_bytes.result refl
     c.in_ok-sort.ensures.permutation c.in_ok-sort.ensures.sorted
-    (rw c.as_slice.ensures.value at c.rise_by_bytes.ensures)
+    (rw c.as_slice.ensures.value at c.rise_by_bytes.ensures) ∙ c.in_ok-sorted.ensures
