@@ -1,7 +1,7 @@
 #!/bin/sh
 # Counts by callgrind what reading one message of 262,144 bytes of content costs in `pipectl replay`: `pl_wire::asked`, which is
 # all behind the head; of it the copy of a put's content (by how the count grows with the content), and for bodies of JSON
-# `serde_json`'s own reading (`pl_bodies`' value_in: a run with long parameters, one with short ones, capabilities, approvers by
+# what `serde_json`'s own reading of them takes in a small proved program (reads.rt.in; and letting its value go besides: a run with long parameters, one with short ones, capabilities, approvers by
 # their numbers, approvers in any order, patterns, names of pipelines, roles, templates, and many checks of each kind; names of
 # characters of two bytes, short and long, names of each length, and paths of short segments), and of a get what one more of them
 # takes in all, of a file of 131,072 and of 262,144 bytes. Prints the counts and their ratios. Needs valgrind and python3, and
@@ -10,10 +10,18 @@ set -e
 top=$(cd "$(dirname "$0")/../.." && pwd)
 program=${1:-$top/crates/pipectl/out/pipectl}
 [ -n "$1" ] || "$top/tools/prove"
-python3 - "$program" <<'PYTHON'
+work=$(mktemp -d)
+trap 'rm -rf "$work"' EXIT
+mkdir -p "$work/crates/reads/src"
+echo "reads: serde_json" >"$work/crates.txt"
+cp "$top/bench/wire/reads.rt.in" "$work/crates/reads/src/main.rt"
+cp "$top/HANDLES" "$work/"
+(cd "$work/crates/reads" && rt run </dev/null >"$work/log" 2>&1) || true
+[ -x "$work/crates/reads/out/reads" ] || { cat "$work/log" >&2; exit 1; }
+python3 - "$program" "$work/crates/reads/out/reads" <<'PYTHON'
 import json, re, subprocess, sys, tempfile
 
-program = sys.argv[1]
+program, reads = sys.argv[1:]
 admin = "ba7816bf8f01cfea414140de5dae2223b00361a396177a9cb410ff61f20015ad"
 most = 262144
 
@@ -26,6 +34,17 @@ def instructions(data, within, of):
         told = subprocess.run(["callgrind_annotate", "--inclusive=yes", "--threshold=100", out.name], capture_output=True, text=True).stdout
     found = {name: int(count.replace(",", "")) for count, name in re.findall(r"^ *([\d,]+) .*:((?:pl_|serde_)\S+)", told, re.M)}
     return found[within], found.get(of, 0)
+
+
+def read_alone(content):
+    """Returns the instructions of `serde_json`'s reading of a content, and those of letting its value go."""
+    found = []
+    for within in ("reads::reading", "reads::letting_go"):
+        with tempfile.NamedTemporaryFile() as out:
+            command = ["valgrind", "--tool=callgrind", f"--callgrind-out-file={out.name}", f"--toggle-collect={within}", reads]
+            told = subprocess.run(command, input=content, stdout=subprocess.DEVNULL, stderr=subprocess.PIPE).stderr.decode()
+        found.append(int(re.search(r"Collected : (\d+)", told)[1]))
+    return found
 
 
 def message(front, content):
@@ -105,6 +124,8 @@ for name, front, make in (
     ("paths of one segment", "PUT /resources/pool/p", lambda n: {"pipelines": "all", "exclusive": False, "checks": [
         {"kind": "requiredTemplate", "templates": [{"repo": "a", "ref": "refs/", "path": "/" + "a" * 255}] * n}]}),
 ):
-    whole, reading = instructions(message(front, filled(make)), asked, "pl_bodies::content::value_in")
-    print(f"{name}: {whole} instructions, {reading} of them serde_json's reading, ratio {whole / reading:.2f}", flush=True)
+    content = filled(make)
+    whole = instructions(message(front, content), asked, asked)[0]
+    reading, letting_go = read_alone(content)
+    print(f"{name}: {whole} instructions, serde_json's reading {reading}, letting go {letting_go}, ratio {whole / reading:.2f}", flush=True)
 PYTHON

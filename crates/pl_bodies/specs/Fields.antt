@@ -1,12 +1,11 @@
 -- Objects and their fields, lists and their items.
 use Rattle.std.specs.Prelude.{ℕ, List, [], ◌∷◌, Option, Some, None, Result, Ok, Err}
 use Rattle.std.specs.Prelude.{if◌then◌else◌}
-use Rattle.std.specs.Ordering.{is_eq, nat_cmp}
-use Rattle.std.specs.Cmp.Lexicographic.{slice_cmp}
 use Rattle.serde_json.specs.Data.{Data, Items, no_items, item, Members, no_members, member}
-use Rattle.serde_json.specs.Find.{as_array, as_object, get_member}
+use Rattle.serde_json.specs.Find.{as_array, as_object, get}
 use Rattle.pl_base.specs.declared.expanded.Argument.{Argument}
 use Rattle.pl_reading.specs.Steps.{◌>>=◌}
+use Rattle.pl_trees.specs.Trees.{has_only}
 use Rattle.pl_bodies.specs.declared.fault.BodyFault.{BodyFault}
 use Rattle.pl_bodies.specs.declared.fault.BodyFault.TheVariants.{Bad}
 use Rattle.pl_bodies.specs.Atoms.{text_of}
@@ -16,34 +15,21 @@ use Rattle.pl_bodies.specs.Meaning.{wanted}
 abbrev pub Meant : Type 0 → Type 0
 Meant X = Data → Result X BodyFault
 
-abbrev pub object_of : Meant Members
-object_of value = wanted (as_object value)
+-- an object that has no other fields than those of these names
+abbrev pub only : List (List ℕ) → Meant (Unit {0})
+only names value = if has_only names value then Ok tt else Err Bad
 
--- the members without the one of this name
-abbrev pub without : List ℕ → Members → Members
-without name no_members = no_members
-without name (member other value more) = if is_eq (slice_cmp nat_cmp name other) then more
-    else member other value (without name more)
-
--- a field that must be there, and the other members
-abbrev pub field : {X : Type 0} → Meant X → List ℕ → Members → Result (X × Members) BodyFault
-field meant name members =
-    wanted (get_member name members) >>= meant >>= λ value. Ok (value, without name members)
+-- a field that must be there
+abbrev pub field : {X : Type 0} → Meant X → List ℕ → Meant X
+field meant name value = wanted (get name value) >>= meant
 
 abbrev pub given_or : {X : Type 0} → Meant X → X → Option Data → Result X BodyFault
 given_or meant default None = Ok default
 given_or meant default (Some value) = meant value
 
--- a field with a default, and the other members
-abbrev pub field_or :
-    {X : Type 0} → Meant X → X → List ℕ → Members → Result (X × Members) BodyFault
-field_or meant default name members =
-    given_or meant default (get_member name members) >>= λ value. Ok (value, without name members)
-
--- no member is left, so that an object has no other fields than those that were taken
-abbrev pub no_more : Members → Result (Unit {0}) BodyFault
-no_more no_members = Ok tt
-no_more (member name value more) = Err Bad
+-- a field with a default
+abbrev pub field_or : {X : Type 0} → Meant X → X → List ℕ → Meant X
+field_or meant default name value = given_or meant default (get name value)
 
 -- each item of a list
 abbrev pub each : {X : Type 0} → Meant X → Items → Result (List X) BodyFault
@@ -62,7 +48,7 @@ each_named make (member name value more) =
     text_of value >>= λ text. each_named make more >>= λ rest. Ok (make name text ∷ rest)
 
 abbrev pub texts_by_name : {X : Type 0} → (List ℕ → List ℕ → X) → Meant (List X)
-texts_by_name make value = object_of value >>= each_named make
+texts_by_name make value = wanted (as_object value) >>= each_named make
 
 -- the items of texts that stand by names: pairs, and arguments of a run
 abbrev pub pair : List ℕ → List ℕ → List ℕ × List ℕ

@@ -3,36 +3,42 @@
 ghost use Rattle.std.specs.Prelude.{◌≡◌};
 ghost use Rattle.pl_bodies.specs.Atoms.{digest_of, flag_of, number_of, small, text_of, zone_in};
 ghost use Rattle.pl_bodies.specs.Atoms.{zone_of};
-ghost use Rattle.pl_bodies.specs.Meaning.{Gives, wanted};
+ghost use Rattle.pl_bodies.specs.Meaning.{Gives, Seen, wanted};
+ghost use Rattle.pl_trees.specs.Trees.{seen};
 
 use crate::fault::BodyFault;
 use crate::field::Field;
+use json::Value;
 use pl_base::{Digest, Text};
 use pl_digests::digest_in;
+use pl_trees::{flag_in, number_in, text_in};
 use pl_zones::{Zone, ZoneFault};
-use serde_json::Value;
 use std::alloc::Global;
+
+/// The text that a value is. Bad where it is none.
+pub(crate) fn word_in<'v>(value: &Value<'v>) -> Result<&'v str, BodyFault>
+    ensures { Seen (λ text. text.now) result (text_of (seen value.now)) }
+{
+    match text_in(value) {
+        Some(text) => Ok(text),
+        None => Err(BodyFault::Bad),
+    }
+}
 
 impl Field for Text {
     ghost meant = { text_of };
 
-    fn read(_alloc: Global, value: Value) -> Result<Text, BodyFault> {
-        match value {
-            Value::String(text) => Ok(Text::from_string(text)),
-            Value::Null => Err(BodyFault::Bad),
-            Value::Bool(_) => Err(BodyFault::Bad),
-            Value::Number(_) => Err(BodyFault::Bad),
-            Value::Array(_) => Err(BodyFault::Bad),
-            Value::Object(_) => Err(BodyFault::Bad),
-        }
+    fn read(alloc: Global, value: &Value<'_>) -> Result<Text, BodyFault> {
+        let text = word_in(value)?;
+        Ok(Text::from_str(alloc, text)?)
     }
 }
 
 impl Field for bool {
     ghost meant = { flag_of };
 
-    fn read(_alloc: Global, value: Value) -> Result<bool, BodyFault> {
-        match value.as_bool() {
+    fn read(_alloc: Global, value: &Value<'_>) -> Result<bool, BodyFault> {
+        match flag_in(value) {
             Some(flag) => Ok(flag),
             None => Err(BodyFault::Bad),
         }
@@ -53,8 +59,8 @@ fn small(number: u64) -> Result<u32, BodyFault>
 impl Field for u32 {
     ghost meant = { number_of };
 
-    fn read(_alloc: Global, value: Value) -> Result<u32, BodyFault> {
-        match value.as_u64() {
+    fn read(_alloc: Global, value: &Value<'_>) -> Result<u32, BodyFault> {
+        match number_in(value) {
             Some(number) => small(number),
             None => Err(BodyFault::Bad),
         }
@@ -64,8 +70,8 @@ impl Field for u32 {
 impl Field for Digest {
     ghost meant = { digest_of };
 
-    fn read(alloc: Global, value: Value) -> Result<Digest, BodyFault> {
-        let text = Text::read(alloc, value)?;
+    fn read(_alloc: Global, value: &Value<'_>) -> Result<Digest, BodyFault> {
+        let text = word_in(value)?;
         match digest_in(text.as_bytes()) {
             Some(digest) => Ok(digest),
             None => Err(BodyFault::Bad),
@@ -88,7 +94,7 @@ fn zone_in(alloc: Global, text: &Text) -> Result<Zone, BodyFault>
 impl Field for Zone {
     ghost meant = { zone_of };
 
-    fn read(alloc: Global, value: Value) -> Result<Zone, BodyFault> {
+    fn read(alloc: Global, value: &Value<'_>) -> Result<Zone, BodyFault> {
         let text = Text::read(alloc, value)?;
         zone_in(alloc, &text)
     }

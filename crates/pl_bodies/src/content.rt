@@ -1,25 +1,22 @@
 ghost use Rattle.std.specs.Prelude.{◌≡◌};
-ghost use Rattle.serde_json.specs.View.{view};
-ghost use Rattle.pl_bodies.specs.Meaning.{Gives, Seen, data_in, none_in};
+ghost use Rattle.pl_bodies.specs.Meaning.{Gives, Seen, none_in, wanted};
+ghost use Rattle.pl_trees.specs.Trees.{data_in, seen};
 
 use crate::fault::BodyFault;
-use serde_json::Value;
+use json::{Scratch, Value};
 use std::alloc::Global;
 
-/// The JSON value that a content is: it is UTF-8, and `serde_json` reads it.
-#[tactic(auto, unfolding(crate::specs::Meaning::data_in))]
-pub(crate) fn value_in(alloc: Global, content: &[u8]) -> Result<Value, BodyFault>
-    ensures { Seen view result (data_in content.now) }
+/// The JSON value that a content is. Bad where it is none.
+pub(crate) fn value_in<'v>(
+    alloc: Global,
+    content: &'v [u8],
+    scratch: &'v mut Scratch,
+) -> Result<Value<'v>, BodyFault>
+    ensures { Seen (λ value. seen value) result (wanted (data_in content.now)) }
 {
-    match Value::from_slice(alloc, content) {
-        Ok(value) => Ok(value),
-        Err(error) => {
-            if error.is_memory() {
-                Err(BodyFault::Memory)
-            } else {
-                Err(BodyFault::Bad)
-            }
-        }
+    match pl_trees::value_in(alloc, content, scratch)? {
+        Some(value) => Ok(value),
+        None => Err(BodyFault::Bad),
     }
 }
 

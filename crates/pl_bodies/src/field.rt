@@ -1,15 +1,15 @@
 //! Fields of objects.
 
-ghost use Rattle.std.specs.Prelude.{Result};
+ghost use Rattle.std.specs.Prelude.{Result, map};
 ghost use Rattle.serde_json.specs.Data.{Data};
-ghost use Rattle.serde_json.specs.View.{members_view, view};
-ghost use Rattle.pl_bodies.specs.Fields.{field, field_or};
-ghost use Rattle.pl_bodies.specs.Meaning.{Gives, Takes};
+ghost use Rattle.pl_bodies.specs.Fields.{field, field_or, only};
+ghost use Rattle.pl_bodies.specs.Meaning.{Gives};
+ghost use Rattle.pl_trees.specs.Trees.{seen};
 ghost use Rattle.pl_bodies.specs.declared.fault.BodyFault.{BodyFault as the_fault};
 
 use crate::fault::BodyFault;
-use crate::members::{Members, take};
-use serde_json::Value;
+use json::Value;
+use pl_trees::{get, has_only};
 use std::alloc::Global;
 
 /// What can be a field's value.
@@ -17,37 +17,46 @@ pub(crate) trait Field: Drop {
     /// What a value says.
     ghost meant: { Data → Result Self the_fault };
 
-    /// What a value says, whose texts it takes over. Bad where it says nothing.
-    fn read(alloc: Global, value: Value) -> Result<Self, BodyFault>
-        ensures { Gives result (meant (view value)) };
+    /// What a value says. Bad where it says nothing.
+    fn read(alloc: Global, value: &Value<'_>) -> Result<Self, BodyFault>
+        ensures { Gives result (meant (seen value.now)) };
 }
 
-/// Takes a field out that must be there.
+/// That a value is an object with no other fields than these.
+pub(crate) fn only(object: &Value<'_>, names: &[&str]) -> Result<(), BodyFault>
+    ensures { Gives result (only (map (λ name. name.now) names.now) (seen object.now)) }
+{
+    if has_only(object, names) {
+        Ok(())
+    } else {
+        Err(BodyFault::Bad)
+    }
+}
+
+/// A field that must be there.
 pub(crate) fn required<F: Field>(
     alloc: Global,
-    members: &mut Members,
+    object: &Value<'_>,
     name: &str,
 ) -> Result<F, BodyFault>
-    ensures { Takes result (members_view members.new.entries)
-        (field F.meant name.now (members_view members.old.entries)) }
+    ensures { Gives result (field F.meant name.now (seen object.now)) }
 {
-    match take(members, name) {
+    match get(object, name) {
         Some(value) => F::read(alloc, value),
         None => Err(BodyFault::Bad),
     }
 }
 
-/// Takes a field out, or its default where it isn't there.
+/// A field, or its default where it isn't there.
 pub(crate) fn optional<F: Field>(
     alloc: Global,
-    members: &mut Members,
+    object: &Value<'_>,
     name: &str,
     default: F,
 ) -> Result<F, BodyFault>
-    ensures { Takes result (members_view members.new.entries)
-        (field_or F.meant default name.now (members_view members.old.entries)) }
+    ensures { Gives result (field_or F.meant default name.now (seen object.now)) }
 {
-    match take(members, name) {
+    match get(object, name) {
         Some(value) => F::read(alloc, value),
         None => Ok(default),
     }

@@ -8,7 +8,6 @@ mod content;
 mod fault;
 mod field;
 mod lists;
-mod members;
 mod named;
 mod settings;
 mod words;

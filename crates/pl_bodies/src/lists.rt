@@ -1,14 +1,16 @@
 //! Lists.
 
 ghost use Rattle.std.specs.Prelude.{◌≡◌, IfOk, []};
-ghost use Rattle.serde_json.specs.View.{items_view, view};
+ghost use Rattle.json.specs.Value.{items_view};
 ghost use Rattle.pl_bodies.specs.Fields.{each, list_of};
 ghost use Rattle.pl_bodies.specs.Meaning.{Gives};
+ghost use Rattle.pl_trees.specs.Trees.{data_of_items, seen};
 
 use crate::fault::BodyFault;
 use crate::field::Field;
+use json::Value;
 use pl_base::{List, Memory};
-use serde_json::Value;
+use pl_trees::items_in;
 use std::alloc::Global;
 
 /// No item yet, with room for so many.
@@ -20,8 +22,8 @@ fn with_room<F>(alloc: Global, room: usize) -> Result<List<F>, Memory>
 }
 
 /// What each of the values says, in order.
-pub(crate) fn each<F: Field>(alloc: Global, values: Vec<Value>) -> Result<List<F>, BodyFault>
-    ensures { Gives result (each F.meant (items_view values.items)) }
+pub(crate) fn each<F: Field>(alloc: Global, values: &[Value<'_>]) -> Result<List<F>, BodyFault>
+    ensures { Gives result (each F.meant (data_of_items (items_view values.now))) }
 {
     let mut all = with_room(alloc, values.len())?;
     for value in values {
@@ -34,14 +36,10 @@ pub(crate) fn each<F: Field>(alloc: Global, values: Vec<Value>) -> Result<List<F
 impl<F: Field> Field for List<F> {
     ghost meant = { list_of F.meant };
 
-    fn read(alloc: Global, value: Value) -> Result<List<F>, BodyFault> {
-        match value {
-            Value::Array(values) => each(alloc, values),
-            Value::Null => Err(BodyFault::Bad),
-            Value::Bool(_) => Err(BodyFault::Bad),
-            Value::Number(_) => Err(BodyFault::Bad),
-            Value::String(_) => Err(BodyFault::Bad),
-            Value::Object(_) => Err(BodyFault::Bad),
+    fn read(alloc: Global, value: &Value<'_>) -> Result<List<F>, BodyFault> {
+        match items_in(value) {
+            Some(values) => each(alloc, values),
+            None => Err(BodyFault::Bad),
         }
     }
 }

@@ -1,16 +1,17 @@
 //! Objects of texts, as lists by their names.
 
 ghost use Rattle.std.specs.Prelude.{◌≡◌, ℕ, List as list};
-ghost use Rattle.serde_json.specs.View.{members_view, view};
 ghost use Rattle.pl_bodies.specs.Fields.{each_named, field, texts_by_name};
-ghost use Rattle.pl_bodies.specs.Meaning.{Gives, Takes};
+ghost use Rattle.pl_bodies.specs.Meaning.{Gives};
+ghost use Rattle.pl_trees.specs.Trees.{entries_seen, seen};
 
 use crate::fault::BodyFault;
 use crate::field::Field;
-use crate::members::{Members, object_of, take};
+use json::Value;
 use pl_base::{Argument, List, Text};
-use serde_json::Value;
+use pl_trees::{by_name, get};
 use std::alloc::Global;
+use std::collections::BTreeMap;
 
 /// A text with its name.
 pub(crate) trait Named: Drop {
@@ -42,36 +43,41 @@ impl Named for Argument {
 }
 
 /// An item for each of the members, in byte order of their names.
-pub(crate) fn each_named<N: Named>(alloc: Global, members: Members) -> Result<List<N>, BodyFault>
-    ensures { Gives result (each_named N.makes (members_view members.entries)) }
+fn each_named<N: Named>(
+    alloc: Global,
+    members: BTreeMap<&str, &Value<'_>>,
+) -> Result<List<N>, BodyFault>
+    ensures { Gives result (each_named N.makes (entries_seen members.entry.entries)) }
 {
     let mut all = List::new(alloc);
     for (name, value) in members {
         let text = Text::read(alloc, value)?;
-        let item = N::named(Text::from_string(name), text);
+        let own = Text::from_str(alloc, name)?;
+        let item = N::named(own, text);
         all.push(item)?;
     }
     Ok(all)
 }
 
-/// The items of an object of texts, taken out of an object under a name.
-pub(crate) fn texts_by_name<N: Named>(alloc: Global, value: Value) -> Result<List<N>, BodyFault>
-    ensures { Gives result (texts_by_name N.makes (view value)) }
+/// The items of an object of texts.
+fn texts_by_name<N: Named>(alloc: Global, value: &Value<'_>) -> Result<List<N>, BodyFault>
+    ensures { Gives result (texts_by_name N.makes (seen value.now)) }
 {
-    let members = object_of(value)?;
-    each_named(alloc, members)
+    match by_name(alloc, value)? {
+        Some(members) => each_named(alloc, members),
+        None => Err(BodyFault::Bad),
+    }
 }
 
-/// Takes a field out that is an object of texts and must be there.
+/// A field that is an object of texts and must be there.
 pub(crate) fn field_by_name<N: Named>(
     alloc: Global,
-    members: &mut Members,
+    object: &Value<'_>,
     name: &str,
 ) -> Result<List<N>, BodyFault>
-    ensures { Takes result (members_view members.new.entries)
-        (field (texts_by_name N.makes) name.now (members_view members.old.entries)) }
+    ensures { Gives result (field (texts_by_name N.makes) name.now (seen object.now)) }
 {
-    match take(members, name) {
+    match get(object, name) {
         Some(value) => texts_by_name(alloc, value),
         None => Err(BodyFault::Bad),
     }

@@ -1,26 +1,25 @@
 //! The bodies of the routes that have one.
 
 ghost use Rattle.std.specs.Prelude.{◌≡◌};
-ghost use Rattle.serde_json.specs.View.{members_view, view};
 ghost use Rattle.pl_bodies.specs.Meaning.{Gives, read_by};
 ghost use Rattle.pl_bodies.specs.Settings.{agent_by, decision_in, order_in, permitted_of};
 ghost use Rattle.pl_bodies.specs.Settings.{pipeline_by, principal_by, report_in, resource_by};
 ghost use Rattle.pl_bodies.specs.Settings.{word_permits};
+ghost use Rattle.pl_trees.specs.Trees.{seen};
 
 use crate::content::value_in;
 use crate::fault::BodyFault;
-use crate::field::{Field, required};
-use crate::lists::each;
-use crate::members::{no_more, object_of};
+use crate::field::{Field, only, required};
 use crate::named::field_by_name;
 use crate::words::verdict_in;
+use json::{Scratch, Value};
 use pl_base::{Argument, Digest, List, Outcome, ResourceKey, Text};
 use pl_checks::Check;
 use pl_requests::{
     AgentSetting, Order, PipelineSetting, PrincipalSetting, Report, ResourceSetting,
 };
 use pl_rules::Role;
-use serde_json::Value;
+use pl_trees::text_in;
 use std::alloc::Global;
 
 /// The pipeline of this name that a content says: an object of exactly `repo` and `path`, which are
@@ -28,10 +27,11 @@ use std::alloc::Global;
 pub fn pipeline_of(alloc: Global, name: Text, content: &[u8]) -> Result<PipelineSetting, BodyFault>
     ensures { Gives result (read_by (pipeline_by name) content.now) }
 {
-    let mut members = object_of(value_in(alloc, content)?)?;
-    let repo = required::<Text>(alloc, &mut members, "repo")?;
-    let path = required::<Text>(alloc, &mut members, "path")?;
-    no_more(&members)?;
+    let mut scratch = Scratch::new(alloc);
+    let body = value_in(alloc, content, &mut scratch)?;
+    only(&body, &["repo", "path"])?;
+    let repo = required::<Text>(alloc, &body, "repo")?;
+    let path = required::<Text>(alloc, &body, "path")?;
     Ok(PipelineSetting { name, repo, path })
 }
 
@@ -49,14 +49,10 @@ fn permitted_in(word: &str) -> Result<Option<List<Text>>, BodyFault>
 impl Field for Option<List<Text>> {
     ghost meant = { permitted_of };
 
-    fn read(alloc: Global, value: Value) -> Result<Option<List<Text>>, BodyFault> {
-        match value {
-            Value::String(word) => permitted_in(word.as_str()),
-            Value::Array(values) => Ok(Some(each(alloc, values)?)),
-            Value::Null => Err(BodyFault::Bad),
-            Value::Bool(_) => Err(BodyFault::Bad),
-            Value::Number(_) => Err(BodyFault::Bad),
-            Value::Object(_) => Err(BodyFault::Bad),
+    fn read(alloc: Global, value: &Value<'_>) -> Result<Option<List<Text>>, BodyFault> {
+        match text_in(value) {
+            Some(word) => permitted_in(word),
+            None => Ok(Some(List::read(alloc, value)?)),
         }
     }
 }
@@ -70,11 +66,12 @@ pub fn resource_of(
 ) -> Result<ResourceSetting, BodyFault>
     ensures { Gives result (read_by (resource_by key) content.now) }
 {
-    let mut members = object_of(value_in(alloc, content)?)?;
-    let pipelines = required::<Option<List<Text>>>(alloc, &mut members, "pipelines")?;
-    let exclusive = required::<bool>(alloc, &mut members, "exclusive")?;
-    let checks = required::<List<Check>>(alloc, &mut members, "checks")?;
-    no_more(&members)?;
+    let mut scratch = Scratch::new(alloc);
+    let body = value_in(alloc, content, &mut scratch)?;
+    only(&body, &["pipelines", "exclusive", "checks"])?;
+    let pipelines = required::<Option<List<Text>>>(alloc, &body, "pipelines")?;
+    let exclusive = required::<bool>(alloc, &body, "exclusive")?;
+    let checks = required::<List<Check>>(alloc, &body, "checks")?;
     Ok(ResourceSetting {
         key,
         pipelines,
@@ -92,10 +89,11 @@ pub fn principal_of(
 ) -> Result<PrincipalSetting, BodyFault>
     ensures { Gives result (read_by (principal_by name) content.now) }
 {
-    let mut members = object_of(value_in(alloc, content)?)?;
-    let roles = required::<List<Role>>(alloc, &mut members, "roles")?;
-    let digest = required::<Digest>(alloc, &mut members, "tokenSha256")?;
-    no_more(&members)?;
+    let mut scratch = Scratch::new(alloc);
+    let body = value_in(alloc, content, &mut scratch)?;
+    only(&body, &["roles", "tokenSha256"])?;
+    let roles = required::<List<Role>>(alloc, &body, "roles")?;
+    let digest = required::<Digest>(alloc, &body, "tokenSha256")?;
     Ok(PrincipalSetting {
         name,
         roles,
@@ -108,10 +106,11 @@ pub fn principal_of(
 pub fn agent_of(alloc: Global, name: Text, content: &[u8]) -> Result<AgentSetting, BodyFault>
     ensures { Gives result (read_by (agent_by name) content.now) }
 {
-    let mut members = object_of(value_in(alloc, content)?)?;
-    let pool = required::<Text>(alloc, &mut members, "pool")?;
-    let capabilities = field_by_name::<(Text, Text)>(alloc, &mut members, "capabilities")?;
-    no_more(&members)?;
+    let mut scratch = Scratch::new(alloc);
+    let body = value_in(alloc, content, &mut scratch)?;
+    only(&body, &["pool", "capabilities"])?;
+    let pool = required::<Text>(alloc, &body, "pool")?;
+    let capabilities = field_by_name::<(Text, Text)>(alloc, &body, "capabilities")?;
     Ok(AgentSetting {
         name,
         pool,
@@ -124,11 +123,12 @@ pub fn agent_of(alloc: Global, name: Text, content: &[u8]) -> Result<AgentSettin
 pub fn order_of(alloc: Global, content: &[u8]) -> Result<Order, BodyFault>
     ensures { Gives result (read_by order_in content.now) }
 {
-    let mut members = object_of(value_in(alloc, content)?)?;
-    let pipeline = required::<Text>(alloc, &mut members, "pipeline")?;
-    let git_ref = required::<Text>(alloc, &mut members, "ref")?;
-    let arguments = field_by_name::<Argument>(alloc, &mut members, "parameters")?;
-    no_more(&members)?;
+    let mut scratch = Scratch::new(alloc);
+    let body = value_in(alloc, content, &mut scratch)?;
+    only(&body, &["pipeline", "ref", "parameters"])?;
+    let pipeline = required::<Text>(alloc, &body, "pipeline")?;
+    let git_ref = required::<Text>(alloc, &body, "ref")?;
+    let arguments = field_by_name::<Argument>(alloc, &body, "parameters")?;
     Ok(Order {
         pipeline,
         git_ref,
@@ -141,10 +141,11 @@ pub fn order_of(alloc: Global, content: &[u8]) -> Result<Order, BodyFault>
 pub fn verdict_of(alloc: Global, content: &[u8]) -> Result<bool, BodyFault>
     ensures { Gives result (read_by decision_in content.now) }
 {
-    let mut members = object_of(value_in(alloc, content)?)?;
-    let word = required::<Text>(alloc, &mut members, "verdict")?;
+    let mut scratch = Scratch::new(alloc);
+    let body = value_in(alloc, content, &mut scratch)?;
+    only(&body, &["verdict"])?;
+    let word = required::<Text>(alloc, &body, "verdict")?;
     let approve = verdict_in(word.as_str())?;
-    no_more(&members)?;
     Ok(approve)
 }
 
@@ -153,9 +154,10 @@ pub fn verdict_of(alloc: Global, content: &[u8]) -> Result<bool, BodyFault>
 pub fn report_of(alloc: Global, content: &[u8]) -> Result<Report, BodyFault>
     ensures { Gives result (read_by report_in content.now) }
 {
-    let mut members = object_of(value_in(alloc, content)?)?;
-    let outcome = required::<Outcome>(alloc, &mut members, "result")?;
-    let outputs = field_by_name::<(Text, Text)>(alloc, &mut members, "outputs")?;
-    no_more(&members)?;
+    let mut scratch = Scratch::new(alloc);
+    let body = value_in(alloc, content, &mut scratch)?;
+    only(&body, &["result", "outputs"])?;
+    let outcome = required::<Outcome>(alloc, &body, "result")?;
+    let outputs = field_by_name::<(Text, Text)>(alloc, &body, "outputs")?;
     Ok(Report { outcome, outputs })
 }

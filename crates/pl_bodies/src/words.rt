@@ -2,15 +2,17 @@
 
 ghost use Rattle.std.specs.Prelude.{◌≡◌};
 ghost use Rattle.pl_bodies.specs.Meaning.{Gives};
+ghost use Rattle.pl_trees.specs.Trees.{seen};
 ghost use Rattle.pl_bodies.specs.Words.{arguments_in, arguments_of, day_in, day_of, outcome_in};
 ghost use Rattle.pl_bodies.specs.Words.{outcome_of, role_in, role_of, verdict_in};
 
+use crate::atoms::word_in;
 use crate::fault::BodyFault;
 use crate::field::Field;
-use pl_base::{Outcome, Text};
+use json::Value;
+use pl_base::Outcome;
 use pl_checks::Arguments;
 use pl_rules::{Day, Role};
-use serde_json::Value;
 use std::alloc::Global;
 
 fn role_in(word: &str) -> Result<Role, BodyFault>
@@ -29,9 +31,9 @@ fn role_in(word: &str) -> Result<Role, BodyFault>
 impl Field for Role {
     ghost meant = { role_of };
 
-    fn read(alloc: Global, value: Value) -> Result<Role, BodyFault> {
-        let word = Text::read(alloc, value)?;
-        role_in(word.as_str())
+    fn read(_alloc: Global, value: &Value<'_>) -> Result<Role, BodyFault> {
+        let word = word_in(value)?;
+        role_in(word)
     }
 }
 
@@ -53,9 +55,9 @@ fn day_in(word: &str) -> Result<Day, BodyFault>
 impl Field for Day {
     ghost meant = { day_of };
 
-    fn read(alloc: Global, value: Value) -> Result<Day, BodyFault> {
-        let word = Text::read(alloc, value)?;
-        day_in(word.as_str())
+    fn read(_alloc: Global, value: &Value<'_>) -> Result<Day, BodyFault> {
+        let word = word_in(value)?;
+        day_in(word)
     }
 }
 
@@ -72,9 +74,9 @@ fn arguments_in(word: &str) -> Result<Arguments, BodyFault>
 impl Field for Arguments {
     ghost meant = { arguments_of };
 
-    fn read(alloc: Global, value: Value) -> Result<Arguments, BodyFault> {
-        let word = Text::read(alloc, value)?;
-        arguments_in(word.as_str())
+    fn read(_alloc: Global, value: &Value<'_>) -> Result<Arguments, BodyFault> {
+        let word = word_in(value)?;
+        arguments_in(word)
     }
 }
 
@@ -93,9 +95,9 @@ fn outcome_in(word: &str) -> Result<Outcome, BodyFault>
 impl Field for Outcome {
     ghost meant = { outcome_of };
 
-    fn read(alloc: Global, value: Value) -> Result<Outcome, BodyFault> {
-        let word = Text::read(alloc, value)?;
-        outcome_in(word.as_str())
+    fn read(_alloc: Global, value: &Value<'_>) -> Result<Outcome, BodyFault> {
+        let word = word_in(value)?;
+        outcome_in(word)
     }
 }
 

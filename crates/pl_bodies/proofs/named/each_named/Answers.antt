@@ -7,6 +7,5 @@ loop-name-preserved g c =
     one_named g.N.Named.makes _ c.loop-name.all c.push.new.self c.loop-name.name-iterator
     c.next.new.self c.in-Some.name c.in-Some.value c.in_ok-text.text c.named-item.result
     c.in-Some.ensures.steps c.in_ok-text.ensures
-    (c.named-item.ensures ∙ ap (λ name. g.N.Named.makes name c.in_ok-text.text)
-    c.from_string.ensures)
+    (c.named-item.ensures ∙ ap (λ name. g.N.Named.makes name c.in_ok-text.text) c.in_ok-own.ensures)
     c.in_ok-push.ensures.ok c.loop-name.invariant
