@@ -1,0 +1,5 @@
+mod OnePerPlace
+mod Firsts
+pub mod Counts
+pub mod OfEntry
+pub mod Behind
