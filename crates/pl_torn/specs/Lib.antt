@@ -1,0 +1,9 @@
+pub mod Seen
+pub mod Finding
+pub mod Looking
+pub mod Names
+pub mod Plans
+pub mod Holding
+pub mod Moments
+pub mod Exclusive
+pub mod Torn
