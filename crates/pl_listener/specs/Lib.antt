@@ -1,2 +1,2 @@
+pub mod Fresh
 pub mod Handles
-pub mod Shown

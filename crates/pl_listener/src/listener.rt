@@ -1,6 +1,6 @@
 ghost use Rattle.std.specs.Prelude.{◌≡◌, None, IsSome};
 ghost use Rattle.pl_listener.specs.Handles.{Handle, Accepts, Shares, handed_back, shut};
-ghost use Rattle.pl_listener.specs.Shown.{shown};
+ghost use Rattle.pl_sessions.specs.Told.{told};
 
 use crate::fault::ListenFault;
 use pl_base::Link;
@@ -17,10 +17,11 @@ pub trait Listener {
     ghost tells: { Self → Handle };
 
     /// Waits for the next link, and gives it with the room that handing it back needs. None comes
-    /// once the door is closed, and always through a handle that knows it.
+    /// once the door is closed: the handle tells that it found it so, and gives None from then on,
+    /// as one does that closed the door.
     fn accept(&mut self, alloc: Global) -> Result<Option<Self::Link>, ListenFault>
         requires { (tells self.old).out ≡ None }
-        ensures { Accepts (shown Self.Link.Link) (tells self.old) result (tells self.new) };
+        ensures { Accepts (told Self.Link.Link) (tells self.old) result (tells self.new) };
 
     /// Gives another handle of the same door, with counts of its own.
     fn share(&mut self, alloc: Global) -> Result<Self, ListenFault>
@@ -33,7 +34,7 @@ pub trait Listener {
     /// Ends the link that is out. It takes no memory.
     fn link_back(&mut self, link: Self::Link)
         requires { IsSome (tells self.old).out }
-        ensures { tells self.new ≡ handed_back (tells self.old) (shown Self.Link.Link link) };
+        ensures { tells self.new ≡ handed_back (tells self.old) (told Self.Link.Link link) };
 
     /// How many calls of this handle failed.
     fn faults(&self) -> u64

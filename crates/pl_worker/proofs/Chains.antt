@@ -3,18 +3,14 @@ use Rattle.std.proofs.Common.{◌≡◌, ℕ, Bool, true, false, List, [], ◌�
 use Rattle.std.proofs.Common.{refl, sym, ◌∙◌, ap, subst, append_assoc, map}
 use Rattle.pl_base.specs.Counts.{one_more}
 use Rattle.pl_listener.specs.Handles.{Handle, Passed, gave, with_link}
-use Rattle.pl_listener.specs.Shown.{Shown}
 use Rattle.pl_sessions.specs.Session.{Session}
+use Rattle.pl_sessions.specs.Told.{Told}
 use Rattle.pl_sessions.specs.declared.answer.Answer.{Answer}
 use Rattle.pl_sessions.specs.declared.served.Served.{Served}
 use Rattle.pl_wire.specs.declared.message.Message.{Message}
 use Rattle.pl_worker.specs.Chain.{Visit, Chain, Stopping, is_stopped, with_visits}
 use Rattle.pl_worker.specs.Chain.{passed_of, counted}
-use Rattle.pl_worker.specs.Ends.{was_stopped}
-use Rattle.pl_worker.specs.Works.{Stand, stand, ServesOne, ServesAll, Works}
-use Rattle.pl_worker.specs.Works.{CountsFault, ClosesDoor}
-use Rattle.pl_worker.specs.declared.why.Why.{Why}
-use Rattle.pl_worker.specs.declared.why.Why.TheVariants as why
+use Rattle.pl_worker.specs.Works.{Stand, stand, ServesOne, ServesAll, shut_if}
 
 nothing_behind : (links : List Passed) → links ++ [] ≡ links
 nothing_behind [] = refl
@@ -102,9 +98,30 @@ serves_then act old mid new stopped all more = record {
   out = more.out;
 }
 
+-- what a handle tells otherwise, where it closed the door or not
+pub shut_passed : (stopped : Bool) (h : Handle) → (shut_if stopped h).passed ≡ h.passed
+shut_passed true h = refl
+shut_passed false h = refl
+
+pub shut_out : (stopped : Bool) (h : Handle) → (shut_if stopped h).out ≡ h.out
+shut_out true h = refl
+shut_out false h = refl
+
+pub shut_accepted : (stopped : Bool) (h : Handle) → (shut_if stopped h).accepted ≡ h.accepted
+shut_accepted true h = refl
+shut_accepted false h = refl
+
+pub shut_faults : (stopped : Bool) (h : Handle) → (shut_if stopped h).faults ≡ h.faults
+shut_faults true h = refl
+shut_faults false h = refl
+
+pub shut_found : (stopped : Bool) (h : Handle) → (shut_if stopped h).found_closed ≡ h.found_closed
+shut_found true h = refl
+shut_found false h = refl
+
 -- one link
 serves_one : {D : Type 0} (act : D → ℕ → Message → Answer → D → Type 0) (old new : Stand D)
-    (with_it : Handle) (given : Shown) (ending : Served) (stopped : Bool)
+    (with_it : Handle) (given : Told) (ending : Served) (stopped : Bool)
     → with_it ≡ gave old.handle given
     → ServesOne act given (stand old.desk old.coming with_it) ending new
     → is_stopped ending ≡ stopped → ServesAll act old stopped new
@@ -116,59 +133,24 @@ serves_one act old new with_it given ending stopped is one last =
       stops = last;
       passed =
           ap (λ h. h.passed) one.back
+          ∙ (ap (λ passed. with_link passed (shut_if (is_stopped ending) with_it).out one.left)
+          (shut_passed (is_stopped ending) with_it)
+          ∙ (ap (λ out. with_link with_it.passed out one.left)
+          (shut_out (is_stopped ending) with_it)
           ∙ (ap (λ h. with_link h.passed h.out one.left) is
-          ∙ passed_one old.handle.passed visit);
-      accepted = ap (λ h. h.accepted) one.back ∙ ap (λ h. h.accepted) is;
+          ∙ passed_one old.handle.passed visit)));
+      accepted =
+          ap (λ h. h.accepted) one.back
+          ∙ (shut_accepted (is_stopped ending) with_it ∙ ap (λ h. h.accepted) is);
       out = ap (λ h. h.out) one.back;
     }
 
 -- one link more
 pub serves_more : {D : Type 0} (act : D → ℕ → Message → Answer → D → Type 0)
-    (old mid new : Stand D) (with_it : Handle) (given : Shown) (ending : Served) (stopped : Bool)
+    (old mid new : Stand D) (with_it : Handle) (given : Told) (ending : Served) (stopped : Bool)
     → ServesAll act old false mid → with_it ≡ gave mid.handle given
     → ServesOne act given (stand mid.desk mid.coming with_it) ending new
     → is_stopped ending ≡ stopped → ServesAll act old stopped new
 serves_more act old mid new with_it given ending stopped all is one last =
     serves_then act old mid new stopped all
     (serves_one act mid new with_it given ending stopped is one last)
-
--- the handle may change where none of this is told
-pub serves_still : {D : Type 0} (act : D → ℕ → Message → Answer → D → Type 0)
-    (old : Stand D) (stopped : Bool) (new : Stand D) (handle : Handle)
-    → ServesAll act old stopped new → handle.passed ≡ new.handle.passed
-    → handle.accepted ≡ new.handle.accepted → handle.out ≡ new.handle.out
-    → ServesAll act old stopped (stand new.desk new.coming handle)
-serves_still act old stopped new handle all passed accepted out = record {
-  visits = all.visits;
-  chain = all.chain;
-  stops = all.stops;
-  passed = passed ∙ all.passed;
-  accepted = accepted ∙ all.accepted;
-  out = out ∙ all.out;
-}
-
-faults_then : (reason : Why) (old mid new : ℕ) → mid ≡ old → CountsFault reason mid new
-    → CountsFault reason old new
-faults_then why.Stopped old mid new is more = more ∙ is
-faults_then why.Closed old mid new is more = more ∙ is
-faults_then why.Failed old mid new is more = more ∙ ap one_more is
-faults_then why.Memory old mid new is more = more ∙ is
-
-closed_then : (reason : Why) (old mid new : Bool) → mid ≡ old → ClosesDoor reason mid new
-    → ClosesDoor reason old new
-closed_then why.Stopped old mid new is more = more
-closed_then why.Closed old mid new is more = more ∙ is
-closed_then why.Failed old mid new is more = more
-closed_then why.Memory old mid new is more = more
-
--- a worker that found the door closed, and was started again
-pub works_then : {D : Type 0} (act : D → ℕ → Message → Answer → D → Type 0)
-    (old mid new : Stand D) (reason : Why) → Works act old why.Closed mid
-    → Works act mid reason new → Works act old reason new
-works_then act old mid new reason first more = record {
-  serves = serves_then act old mid new (was_stopped reason) first.serves more.serves;
-  faults = faults_then reason old.handle.faults mid.handle.faults new.handle.faults first.faults
-      more.faults;
-  closed = closed_then reason old.handle.closed mid.handle.closed new.handle.closed first.closed
-      more.closed;
-}

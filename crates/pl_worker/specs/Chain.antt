@@ -3,7 +3,6 @@ use Rattle.std.specs.Prelude.{◌≡◌, ℕ, Bool, true, false, List, [], ◌�
 use Rattle.std.specs.Prelude.{map}
 use Rattle.pl_base.specs.Counts.{one_more}
 use Rattle.pl_listener.specs.Handles.{Passed}
-use Rattle.pl_listener.specs.Shown.{Shown}
 use Rattle.pl_sessions.specs.Session.{Point, Session}
 use Rattle.pl_sessions.specs.Told.{Told}
 use Rattle.pl_sessions.specs.declared.answer.Answer.{Answer}
@@ -13,23 +12,13 @@ use Rattle.pl_wire.specs.declared.message.Message.{Message}
 
 -- a link that was served: as it was given, as it was left, and how its session ended
 pub record Visit : Type 0 where
-  pub given : Shown
-  pub left : Shown
+  pub given : Told
+  pub left : Told
   pub ending : Served
 
--- what a link tells, as its session names it
-abbrev pub told_of : Shown → Told
-told_of link = record {
-  left = link.left;
-  ended = link.ended;
-  held = link.held;
-  read_faults = link.read_faults;
-  write_faults = link.write_faults;
-}
-
 -- where a link, the moments to come and a desk stand
-abbrev pub point_of : {D : Type 0} → Shown → Option (ℕ → ℕ) → D → Point D
-point_of link coming desk = record { link = told_of link; coming = coming; desk = desk }
+abbrev pub point_of : {D : Type 0} → Told → Option (ℕ → ℕ) → D → Point D
+point_of link coming desk = record { link = link; coming = coming; desk = desk }
 
 module _ {D : Type 0} (act : D → ℕ → Message → Answer → D → Type 0) where
   -- Each link is a session of the desk, which begins where the one before it ended; and so do the

@@ -1,5 +1,5 @@
 ghost use Rattle.std.specs.Prelude.{◌≡◌, Some, None, Bool};
-ghost use Rattle.pl_listener.specs.Shown.{shown};
+ghost use Rattle.pl_sessions.specs.Told.{told};
 ghost use Rattle.pl_worker.specs.Chain.{is_stopped};
 ghost use Rattle.pl_worker.specs.Works.{Works, ServesOne, stand};
 
@@ -28,7 +28,6 @@ pub fn work<R: Wait, D: Desk, L: Listener, C: Clock>(
         match door.accept(alloc) {
             Ok(Some(link)) => {
                 if stops(serve_one(alloc, desk, door, clock, link)) {
-                    door.close();
                     return Why::Stopped;
                 }
             }
@@ -46,7 +45,8 @@ pub fn work<R: Wait, D: Desk, L: Listener, C: Clock>(
     unreachable!()
 }
 
-// Serves a link that was given, and hands it back.
+// Serves a link that was given, and hands it back. Where it ended with an accepted shutdown, the
+// door is closed first: handing a link back may take a while.
 fn serve_one<D: Desk, L: Listener, C: Clock>(
     alloc: Global,
     desk: &mut D,
@@ -54,12 +54,15 @@ fn serve_one<D: Desk, L: Listener, C: Clock>(
     clock: &mut C,
     mut link: L::Link,
 ) -> Served
-    requires { (L.tells door.old).out ≡ Some (shown L.Link.Link link) }
-    ensures { ServesOne D.acts (shown L.Link.Link link)
+    requires { (L.tells door.old).out ≡ Some (told L.Link.Link link) }
+    ensures { ServesOne D.acts (told L.Link.Link link)
         (stand desk.old (C.coming clock.old) (L.tells door.old)) result
         (stand desk.new (C.coming clock.new) (L.tells door.new)) }
 {
     let served = serve_link(alloc, desk, &mut link, clock);
+    if stops(served) {
+        door.close();
+    }
     door.link_back(link);
     served
 }

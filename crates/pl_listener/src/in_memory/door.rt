@@ -1,15 +1,17 @@
-ghost use Rattle.std.specs.Prelude.{◌≡◌, option_copied};
+ghost use Rattle.std.specs.Prelude.{◌≡◌, IfSome, option_copied};
 ghost use Rattle.pl_listener.specs.Handles.{IsThere};
 
 use pl_base::List;
-use std::sync::atomic::{AtomicBool, AtomicUsize, Ordering};
+use std::sync::atomic::{AtomicUsize, Ordering};
+use std::sync::{OnceLock, OnceToken};
 
 /// A door in memory, to which visitors come in order. Its handles borrow it, so threads share it.
 #[derive(Drop)]
 pub struct MemDoor<V> {
     pub visitors: List<V>,
     next: AtomicUsize,
-    closed: AtomicBool,
+    // Written once the door is closed.
+    closed: OnceLock<()>,
 }
 
 impl<V> MemDoor<V> {
@@ -20,7 +22,7 @@ impl<V> MemDoor<V> {
         MemDoor {
             visitors,
             next: AtomicUsize::new(0),
-            closed: AtomicBool::new(false),
+            closed: OnceLock::new(),
         }
     }
 
@@ -31,13 +33,15 @@ impl<V> MemDoor<V> {
         self.visitors.get(self.next.fetch_add(1, Ordering::SeqCst))
     }
 
-    /// Whether the door was closed.
-    pub(crate) fn is_closed(&self) -> bool {
-        self.closed.load(Ordering::SeqCst)
+    /// What shows that the door was closed, or None.
+    pub(crate) fn closing(&self) -> Option<OnceToken<'_, ()>>
+        ensures { IfSome result (λ shows. shows.of ≡ self.now.closed.id) }
+    {
+        self.closed.witness()
     }
 
     /// Closes the door.
     pub(crate) fn close(&self) {
-        self.closed.store(true, Ordering::SeqCst);
+        let _ = self.closed.try_set(());
     }
 }

@@ -1,6 +1,7 @@
-ghost use Rattle.std.specs.Prelude.{◌≡◌, ◌<◌, Some, None, [], false, IsSome, map, option_copied};
-ghost use Rattle.std.specs.Prelude.{option_map, vec_capacity, vec_len};
-ghost use Rattle.pl_listener.specs.Shown.{shown};
+ghost use Rattle.std.specs.Option.{ForSome};
+ghost use Rattle.std.specs.Prelude.{◌≡◌, ◌<◌, Some, None, [], false, true, IsSome};
+ghost use Rattle.std.specs.Prelude.{map, option_copied, option_map, vec_capacity, vec_len};
+ghost use Rattle.pl_sessions.specs.Told.{told};
 
 use crate::fault::ListenFault;
 use crate::in_memory::calls::Calls;
@@ -9,6 +10,7 @@ use crate::in_memory::visitor::Visitor;
 use crate::listener::Listener;
 use pl_base::List;
 use std::alloc::Global;
+use std::sync::OnceToken;
 
 /// A link that was handed back, and who came by it.
 #[derive(Drop)]
@@ -17,16 +19,21 @@ pub struct Returned<'a, V: Visitor> {
     pub link: V::Link,
 }
 
-/// A handle of a door in memory. It keeps the links that were handed back to it.
+/// A handle of a door in memory. It keeps the links that were handed back to it, and what shows that
+/// the door was closed where it found it so.
 #[derive(Drop)]
 pub struct MemListener<'a, V: Visitor> {
     door: &'a MemDoor<V>,
     calls: Calls,
     accepted: u64,
     closed: bool,
+    found_closed: bool,
+    closing: Option<OnceToken<'a, ()>>,
     out: Option<&'a V>,
     passed: Vec<Returned<'a, V>>,
     ghost room: { IsSome out → vec_len passed < vec_capacity passed },
+    ghost shown: { ForSome closing (λ shows. shows.of ≡ door.now.closed.id) },
+    ghost found: { found_closed ≡ true → closed ≡ false → IsSome closing },
 }
 
 impl<'a, V: Visitor> MemListener<'a, V> {
@@ -40,6 +47,7 @@ impl<'a, V: Visitor> MemListener<'a, V> {
         ensures quiet { result.calls.faults ≡ 0 }
         ensures accepted { result.accepted ≡ 0 }
         ensures open { result.closed ≡ false }
+        ensures unfound { result.found_closed ≡ false }
         ensures out { result.out ≡ None }
         ensures passed { result.passed.items ≡ [] }
     {
@@ -48,6 +56,8 @@ impl<'a, V: Visitor> MemListener<'a, V> {
             calls: Calls::new(failing),
             accepted: 0,
             closed: false,
+            found_closed: false,
+            closing: None,
             out: None,
             passed: Vec::new(alloc),
         }
@@ -69,14 +79,19 @@ impl<V: Visitor> Listener for MemListener<'_, V> {
       accepted = handle.accepted;
       passed = Some (map (λ returned. record {
         given = V.comes returned.visitor.now;
-        left = shown V.Link.Link returned.link;
+        left = told V.Link.Link returned.link;
       }) handle.passed.items);
       closed = handle.closed;
+      found_closed = handle.found_closed;
       faults = handle.calls.faults;
     } };
 
     fn accept(&mut self, alloc: Global) -> Result<Option<V::Link>, ListenFault> {
-        if self.closed || self.door.is_closed() {
+        if self.closing.is_none() {
+            self.closing = self.door.closing();
+        }
+        if self.closed || self.closing.is_some() {
+            self.found_closed = true;
             return Ok(None);
         }
         if self.calls.next_fails() {
@@ -102,6 +117,8 @@ impl<V: Visitor> Listener for MemListener<'_, V> {
             calls: self.calls.anew(alloc)?,
             accepted: 0,
             closed: self.closed,
+            found_closed: self.found_closed,
+            closing: self.closing.as_ref().map(|shows| shows.again()),
             out: None,
             passed: Vec::new(alloc),
         })

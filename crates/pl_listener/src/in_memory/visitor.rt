@@ -1,5 +1,6 @@
 ghost use Rattle.std.specs.Prelude.{◌≡◌, Some, [], false, IfOk};
-ghost use Rattle.pl_listener.specs.Shown.{Shown, shown, IsFresh};
+ghost use Rattle.pl_listener.specs.Fresh.{IsFresh};
+ghost use Rattle.pl_sessions.specs.Told.{Told, told};
 
 use pl_base::{Bytes, Link, List, MemSink, MemSource, Memory, Paired};
 use std::alloc::Global;
@@ -9,12 +10,12 @@ pub trait Visitor {
     type Link: Link + Drop + Send;
 
     /// What the link tells when it is given.
-    ghost comes: { Self → Shown };
+    ghost comes: { Self → Told };
 
     /// The link, of which nothing was read yet and to which nothing was written.
     fn link(&self, alloc: Global) -> Result<Self::Link, Memory>
-        ensures tells { IfOk result (λ link. shown Self.Link.Link link ≡ comes self.now) }
-        ensures fresh { IfOk result (λ link. IsFresh (shown Self.Link.Link link)) };
+        ensures tells { IfOk result (λ link. told Self.Link.Link link ≡ comes self.now) }
+        ensures fresh { IfOk result (λ link. IsFresh (told Self.Link.Link link)) };
 }
 
 /// One who sends these bytes, of which a read gives at most `piece`, and has room for so many bytes
