@@ -137,9 +137,10 @@ module _ (old between : Place Entry State) (taken : Service) (took : Took old be
         ∙ ap (λ (s : Place Entry State). given_back names given.core.entries 0 s) took.seat
 
     pub free : (hall : TableId) → IsFree hall old → IsFree hall new
-    free hall is =
-        (ap (λ (s : Place Entry State). s.lock) whole ∙ is.0,
-        ap (λ (s : Place Entry State). s.turn) whole)
+    free hall is = (
+      ap (λ (s : Place Entry State). s.lock) whole ∙ is.0,
+      ap (λ (s : Place Entry State). s.turn) whole,
+    )
 
     pub keeps : IsLegal (past_of given) → IsPrefix taken.core.entries given.core.entries
         → Keeps (parts_of old) (parts_of new)
@@ -202,11 +203,12 @@ module _ (old between : Place Entry State) (taken : Service) (took : Took old be
         → IfSome wanted (WantsHere (parts_of new) call)
     wants_here call None same wants = tt
     wants_here call (Some snapshot) same wants =
-        subst (λ (s : Place Entry State). WantsHere (parts_of s) call snapshot) (sym whole)
-        (taken.core.opening,
-        ap (λ (l : Option State). option_map (λ (state : State). state.opening) l) took.label,
-        subst (λ (entries : List Entry). WantsFor (log_of taken.core.opening entries) call
-        (Some snapshot)) (sym (ap (λ (past : Past). past.entries) same)) wants)
+        subst (λ (s : Place Entry State). WantsHere (parts_of s) call snapshot) (sym whole) (
+          taken.core.opening,
+          ap (λ (l : Option State). option_map (λ (state : State). state.opening) l) took.label,
+          subst (λ (entries : List Entry). WantsFor (log_of taken.core.opening entries) call
+              (Some snapshot)) (sym (ap (λ (past : Past). past.entries) same)) wants,
+        )
 
 -- ---- what is given back
 
@@ -332,9 +334,10 @@ serves_both a b c call reply p s =
     let before : Past = record { opening = s.opening; entries = s.found } in
     let after : Past = record { opening = s.opening; entries = c.seen } in
     let here = lifted before call in
-    let there : AnswersAs before after here reply a.mine c.mine b.number =
-    (s.answers,
-    s.mine ∙ ap (λ (m : List Entry). m ++ recorded b.number s.found here s.answers.added) p.mine) in
+    let there : AnswersAs before after here reply a.mine c.mine b.number = (
+      s.answers,
+      s.mine ∙ ap (λ (m : List Entry). m ++ recorded b.number s.found here s.answers.added) p.mine,
+    ) in
     let both : AnswersAs before after here reply a.mine c.mine a.number =
     subst (λ (n : ℕ). AnswersAs before after here reply a.mine c.mine n) p.number there in
     record {

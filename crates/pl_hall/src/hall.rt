@@ -35,11 +35,7 @@ impl Hall {
     /// A new seat, which has seen as much as the old one and has no entries of its own. Its number
     /// is above the old seat's and no other seat's. It takes no memory, and so never answers
     /// Memory.
-    pub fn split<R: Wait>(
-        &self,
-        rt: &R,
-        seat: &mut Seat<Service>,
-    ) -> Result<Seat<Service>, Memory>
+    pub fn split<R: Wait>(&self, rt: &R, seat: &mut Seat<Service>) -> Result<Seat<Service>, Memory>
         requires { IsFree self.now.lock seat.old }
         ensures some { IsOk result }
         ensures free { IfOk result (λ s. IsFree self.now.lock s) }

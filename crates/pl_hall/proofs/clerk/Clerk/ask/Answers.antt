@@ -7,18 +7,20 @@ pub returns-in-Ok-answer_in_turn : goal.returns-in-Ok-answer_in_turn
 returns-in-Ok-answer_in_turn g c =
     let a = parts_of c.args.self.now.seat in
     let b = parts_of c.look_ahead.new.seat in
-    let d = parts_of c.answer_in_turn.new.seat in
-    (keeps_both a b d c.look_ahead.ensures.passes c.answer_in_turn.ensures.keeps,
-    serves_both a b d _ c.in-Ok-answer_in_turn.reply c.look_ahead.ensures.passes
-    c.in-Ok-answer_in_turn.ensures.serves)
+    let d = parts_of c.answer_in_turn.new.seat in (
+      keeps_both a b d c.look_ahead.ensures.passes c.answer_in_turn.ensures.keeps,
+      serves_both a b d _ c.in-Ok-answer_in_turn.reply c.look_ahead.ensures.passes
+          c.in-Ok-answer_in_turn.ensures.serves,
+    )
 
 pub returns-in-Err-answer_in_turn : goal.returns-in-Err-answer_in_turn
 returns-in-Err-answer_in_turn g c =
     let a = parts_of c.args.self.now.seat in
     let b = parts_of c.look_ahead.new.seat in
-    let d = parts_of c.answer_in_turn.new.seat in
-    (keeps_both a b d c.look_ahead.ensures.passes c.answer_in_turn.ensures.keeps,
-    c.in-Err-answer_in_turn.ensures.same ∙ c.look_ahead.ensures.passes.mine)
+    let d = parts_of c.answer_in_turn.new.seat in (
+      keeps_both a b d c.look_ahead.ensures.passes c.answer_in_turn.ensures.keeps,
+      c.in-Err-answer_in_turn.ensures.same ∙ c.look_ahead.ensures.passes.mine,
+    )
 
 pub returns-in-Err : goal.returns-in-Err
 returns-in-Err g c = (c.in-Err.ensures.err, c.look_ahead.ensures.passes.mine)
