@@ -1,20 +1,17 @@
 -- Lists item by item.
 use Rattle.std.proofs.Common.{◌≡◌, ℕ, List, [], ◌∷◌, ◌++◌, refl, sym, ap, ◌∙◌, append_assoc, Bor}
-use Rattle.std.proofs.Common.{Global, Result, Ok, Err}
-use Rattle.json.specs.declared.value.Value.{Value}
-use Rattle.serde_json.specs.Data.{Data, Items, item}
+use Rattle.std.proofs.Common.{Result, Ok, Err}
+use Rattle.serde_json.specs.Data.{Data, string}
 use Rattle.pl_reading.specs.Steps.{◌>>=◌}
-use Rattle.pl_trees.specs.Trees.{entries_seen, seen}
+use Rattle.pl_trees.specs.Trees.{data_of_items, entries_seen, seen}
+use Rattle.pl_trees.specs.Views.{items_view}
+use Rattle.pl_trees.specs.declared.tree.Tree.{Tree}
 use Rattle.pl_bodies.specs.declared.fault.BodyFault.{BodyFault}
 use Rattle.pl_bodies.specs.Atoms.{text_of}
-use Rattle.pl_bodies.specs.Fields.{each, each_named}
+use Rattle.pl_bodies.specs.Fields.{behind, each, each_named}
 
 abbrev pub Entry : Type 0
-Entry = Bor (List ℕ) × Bor (Value Global)
-
--- items behind those that were read
-abbrev pub behind : {X : Type 0} → List X → Result (List X) BodyFault → Result (List X) BodyFault
-behind front rest = rest >>= λ more. Ok (front ++ more)
+Entry = Bor (List ℕ) × Bor Tree
 
 item_behind :
     {X : Type 0} (front : List X) (one : X) (rest : Result (List X) BodyFault) →
@@ -22,22 +19,37 @@ item_behind :
 item_behind front one (Ok more) = ap Ok (sym (append_assoc front (one ∷ []) more))
 item_behind front one (Err fault) = refl
 
--- one item more of a list
-pub one_item :
-    {X : Type 0} (meant : Data → Result X BodyFault) (whole : Result (List X) BodyFault)
-    (old new : List X) (here rest : Items) (value : Data) (one : X) → here ≡ item value rest →
-    meant value ≡ Ok one → new ≡ old ++ one ∷ [] → whole ≡ behind old (each meant here) →
-    whole ≡ behind new (each meant rest)
-one_item meant whole old new here rest value one is says pushed so_far =
-    so_far ∙ ap (λ items. behind old (each meant items)) is
-    ∙ ap (λ first. behind old (first >>= λ said. each meant rest >>= λ more. Ok (said ∷ more))) says
-    ∙ item_behind old one (each meant rest)
-    ∙ ap (λ front. behind front (each meant rest)) (sym pushed)
+behind_none : {X : Type 0} (rest : Result (List X) BodyFault) → behind [] rest ≡ rest
+behind_none (Ok more) = refl
+behind_none (Err fault) = refl
+
+item_first :
+    {X : Type 0} (one : Result X BodyFault) (some rest : Result (List X) BodyFault) →
+    (one >>= λ first. (some >>= λ front. behind front rest) >>= λ more. Ok (first ∷ more))
+    ≡ ((one >>= λ first. some >>= λ more. Ok (first ∷ more)) >>= λ front. behind front rest)
+item_first (Err fault) some rest = refl
+item_first (Ok first) (Err fault) rest = refl
+item_first (Ok first) (Ok front) (Err fault) = refl
+item_first (Ok first) (Ok front) (Ok more) = refl
+
+-- texts, and the items behind them
+pub each_both :
+    {X : Type 0} (meant : Data → Result X BodyFault) (texts : List (Bor (List ℕ)))
+    (rest : List Tree) →
+    each meant (data_of_items (items_view texts rest))
+    ≡ (each meant (data_of_items (items_view texts [])) >>= λ front.
+    behind front (each meant (data_of_items (items_view [] rest))))
+each_both meant [] rest = sym (behind_none (each meant (data_of_items (items_view [] rest))))
+each_both meant (text ∷ more) rest =
+    ap (λ some. meant (string text.now) >>= λ first. some >>= λ others. Ok (first ∷ others))
+    (each_both meant more rest)
+    ∙ item_first (meant (string text.now)) (each meant (data_of_items (items_view more [])))
+    (each meant (data_of_items (items_view [] rest)))
 
 -- one member more of an object of texts
 pub one_named :
     {X : Type 0} (make : List ℕ → List ℕ → X) (whole : Result (List X) BodyFault)
-    (old new : List X) (here rest : List Entry) (name : Bor (List ℕ)) (value : Bor (Value Global))
+    (old new : List X) (here rest : List Entry) (name : Bor (List ℕ)) (value : Bor Tree)
     (text : List ℕ) (one : X) → here ≡ (name, value) ∷ rest →
     text_of (seen value.now) ≡ Ok text → one ≡ make name.now text → new ≡ old ++ one ∷ [] →
     whole ≡ behind old (each_named make (entries_seen here)) →

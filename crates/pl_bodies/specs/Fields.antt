@@ -1,5 +1,5 @@
 -- Objects and their fields, lists and their items.
-use Rattle.std.specs.Prelude.{ℕ, List, [], ◌∷◌, Option, Some, None, Result, Ok, Err}
+use Rattle.std.specs.Prelude.{ℕ, List, [], ◌∷◌, ◌++◌, Option, Some, None, Result, Ok, Err}
 use Rattle.std.specs.Prelude.{if◌then◌else◌}
 use Rattle.serde_json.specs.Data.{Data, Items, no_items, item, Members, no_members, member}
 use Rattle.serde_json.specs.Find.{as_array, as_object, get}
@@ -36,6 +36,10 @@ abbrev pub each : {X : Type 0} → Meant X → Items → Result (List X) BodyFau
 each meant no_items = Ok []
 each meant (item value more) =
     meant value >>= λ first. each meant more >>= λ rest. Ok (first ∷ rest)
+
+-- items behind those that are there
+abbrev pub behind : {X : Type 0} → List X → Result (List X) BodyFault → Result (List X) BodyFault
+behind front rest = rest >>= λ more. Ok (front ++ more)
 
 abbrev pub list_of : {X : Type 0} → Meant X → Meant (List X)
 list_of meant value = wanted (as_array value) >>= each meant

@@ -8,15 +8,14 @@ ghost use Rattle.pl_trees.specs.Trees.{seen};
 
 use crate::fault::BodyFault;
 use crate::field::Field;
-use json::Value;
 use pl_base::{Digest, Text};
 use pl_digests::digest_in;
-use pl_trees::{flag_in, number_in, text_in};
+use pl_trees::{Tree, flag_in, number_in, text_in};
 use pl_zones::{Zone, ZoneFault};
 use std::alloc::Global;
 
 /// The text that a value is. Bad where it is none.
-pub(crate) fn word_in<'v>(value: &Value<'v>) -> Result<&'v str, BodyFault>
+pub(crate) fn word_in<'v>(value: &Tree<'v>) -> Result<&'v str, BodyFault>
     ensures { Seen (λ text. text.now) result (text_of (seen value.now)) }
 {
     match text_in(value) {
@@ -28,7 +27,7 @@ pub(crate) fn word_in<'v>(value: &Value<'v>) -> Result<&'v str, BodyFault>
 impl Field for Text {
     ghost meant = { text_of };
 
-    fn read(alloc: Global, value: &Value<'_>) -> Result<Text, BodyFault> {
+    fn read(alloc: Global, value: &Tree<'_>) -> Result<Text, BodyFault> {
         let text = word_in(value)?;
         Ok(Text::from_str(alloc, text)?)
     }
@@ -37,7 +36,7 @@ impl Field for Text {
 impl Field for bool {
     ghost meant = { flag_of };
 
-    fn read(_alloc: Global, value: &Value<'_>) -> Result<bool, BodyFault> {
+    fn read(_alloc: Global, value: &Tree<'_>) -> Result<bool, BodyFault> {
         match flag_in(value) {
             Some(flag) => Ok(flag),
             None => Err(BodyFault::Bad),
@@ -59,7 +58,7 @@ fn small(number: u64) -> Result<u32, BodyFault>
 impl Field for u32 {
     ghost meant = { number_of };
 
-    fn read(_alloc: Global, value: &Value<'_>) -> Result<u32, BodyFault> {
+    fn read(_alloc: Global, value: &Tree<'_>) -> Result<u32, BodyFault> {
         match number_in(value) {
             Some(number) => small(number),
             None => Err(BodyFault::Bad),
@@ -70,7 +69,7 @@ impl Field for u32 {
 impl Field for Digest {
     ghost meant = { digest_of };
 
-    fn read(_alloc: Global, value: &Value<'_>) -> Result<Digest, BodyFault> {
+    fn read(_alloc: Global, value: &Tree<'_>) -> Result<Digest, BodyFault> {
         let text = word_in(value)?;
         match digest_in(text.as_bytes()) {
             Some(digest) => Ok(digest),
@@ -94,7 +93,7 @@ fn zone_in(alloc: Global, text: &Text) -> Result<Zone, BodyFault>
 impl Field for Zone {
     ghost meant = { zone_of };
 
-    fn read(alloc: Global, value: &Value<'_>) -> Result<Zone, BodyFault> {
+    fn read(alloc: Global, value: &Tree<'_>) -> Result<Zone, BodyFault> {
         let text = Text::read(alloc, value)?;
         zone_in(alloc, &text)
     }

@@ -9,18 +9,17 @@ ghost use Rattle.pl_trees.specs.Trees.{seen};
 use crate::atoms::word_in;
 use crate::fault::BodyFault;
 use crate::field::{Field, only, optional, required};
-use json::Value;
 use pl_base::{FileKey, List, Text};
 use pl_checks::{Approval, Arguments, BranchControl, BusinessHours, Check, RequiredTemplate};
 use pl_rules::Day;
-use pl_trees::get;
+use pl_trees::{Tree, get};
 use pl_zones::Zone;
 use std::alloc::Global;
 
 impl Field for FileKey {
     ghost meant = { key_of };
 
-    fn read(alloc: Global, value: &Value<'_>) -> Result<FileKey, BodyFault> {
+    fn read(alloc: Global, value: &Tree<'_>) -> Result<FileKey, BodyFault> {
         only(value, &["repo", "ref", "path"])?;
         let repo = required::<Text>(alloc, value, "repo")?;
         let git_ref = required::<Text>(alloc, value, "ref")?;
@@ -33,7 +32,7 @@ impl Field for FileKey {
     }
 }
 
-fn template_in(alloc: Global, value: &Value<'_>) -> Result<Check, BodyFault>
+fn template_in(alloc: Global, value: &Tree<'_>) -> Result<Check, BodyFault>
     ensures { Gives result (template_in (seen value.now)) }
 {
     only(value, &["kind", "templates", "arguments"])?;
@@ -45,7 +44,7 @@ fn template_in(alloc: Global, value: &Value<'_>) -> Result<Check, BodyFault>
     }))
 }
 
-fn branch_in(alloc: Global, value: &Value<'_>) -> Result<Check, BodyFault>
+fn branch_in(alloc: Global, value: &Tree<'_>) -> Result<Check, BodyFault>
     ensures { Gives result (branch_in (seen value.now)) }
 {
     only(value, &["kind", "patterns"])?;
@@ -56,7 +55,7 @@ fn branch_in(alloc: Global, value: &Value<'_>) -> Result<Check, BodyFault>
 /// How many minutes a check waits where its body doesn't say it: 30 days.
 const DEFAULT_MINUTES: u32 = 43_200;
 
-fn approval_in(alloc: Global, value: &Value<'_>) -> Result<Check, BodyFault>
+fn approval_in(alloc: Global, value: &Tree<'_>) -> Result<Check, BodyFault>
     ensures { Gives result (approval_in (seen value.now)) }
 {
     only(
@@ -75,7 +74,7 @@ fn approval_in(alloc: Global, value: &Value<'_>) -> Result<Check, BodyFault>
     }))
 }
 
-fn hours_in(alloc: Global, value: &Value<'_>) -> Result<Check, BodyFault>
+fn hours_in(alloc: Global, value: &Tree<'_>) -> Result<Check, BodyFault>
     ensures { Gives result (hours_in (seen value.now)) }
 {
     only(
@@ -97,7 +96,7 @@ fn hours_in(alloc: Global, value: &Value<'_>) -> Result<Check, BodyFault>
 }
 
 /// The check of a kind, by the members beside its kind.
-fn check_in(alloc: Global, kind: &str, value: &Value<'_>) -> Result<Check, BodyFault>
+fn check_in(alloc: Global, kind: &str, value: &Tree<'_>) -> Result<Check, BodyFault>
     ensures { Gives result (check_in kind.now (seen value.now)) }
 {
     match kind {
@@ -112,7 +111,7 @@ fn check_in(alloc: Global, kind: &str, value: &Value<'_>) -> Result<Check, BodyF
 impl Field for Check {
     ghost meant = { check_of };
 
-    fn read(alloc: Global, value: &Value<'_>) -> Result<Check, BodyFault> {
+    fn read(alloc: Global, value: &Tree<'_>) -> Result<Check, BodyFault> {
         match get(value, "kind") {
             Some(kind) => check_in(alloc, word_in(kind)?, value),
             None => Err(BodyFault::Bad),

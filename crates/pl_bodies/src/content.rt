@@ -3,7 +3,8 @@ ghost use Rattle.pl_bodies.specs.Meaning.{Gives, Seen, none_in, wanted};
 ghost use Rattle.pl_trees.specs.Trees.{data_in, seen};
 
 use crate::fault::BodyFault;
-use json::{Scratch, Value};
+use json::Scratch;
+use pl_trees::Tree;
 use std::alloc::Global;
 
 /// The JSON value that a content is. Bad where it is none.
@@ -11,7 +12,7 @@ pub(crate) fn value_in<'v>(
     alloc: Global,
     content: &'v [u8],
     scratch: &'v mut Scratch,
-) -> Result<Value<'v>, BodyFault>
+) -> Result<Tree<'v>, BodyFault>
     ensures { Seen (λ value. seen value) result (wanted (data_in content.now)) }
 {
     match pl_trees::value_in(alloc, content, scratch)? {

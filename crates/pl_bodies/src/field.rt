@@ -8,8 +8,7 @@ ghost use Rattle.pl_trees.specs.Trees.{seen};
 ghost use Rattle.pl_bodies.specs.declared.fault.BodyFault.{BodyFault as the_fault};
 
 use crate::fault::BodyFault;
-use json::Value;
-use pl_trees::{get, has_only};
+use pl_trees::{Tree, get, has_only};
 use std::alloc::Global;
 
 /// What can be a field's value.
@@ -18,12 +17,12 @@ pub(crate) trait Field: Drop {
     ghost meant: { Data → Result Self the_fault };
 
     /// What a value says. Bad where it says nothing.
-    fn read(alloc: Global, value: &Value<'_>) -> Result<Self, BodyFault>
+    fn read(alloc: Global, value: &Tree<'_>) -> Result<Self, BodyFault>
         ensures { Gives result (meant (seen value.now)) };
 }
 
 /// That a value is an object with no other fields than these.
-pub(crate) fn only(object: &Value<'_>, names: &[&str]) -> Result<(), BodyFault>
+pub(crate) fn only(object: &Tree<'_>, names: &[&str]) -> Result<(), BodyFault>
     ensures { Gives result (only (map (λ name. name.now) names.now) (seen object.now)) }
 {
     if has_only(object, names) {
@@ -36,7 +35,7 @@ pub(crate) fn only(object: &Value<'_>, names: &[&str]) -> Result<(), BodyFault>
 /// A field that must be there.
 pub(crate) fn required<F: Field>(
     alloc: Global,
-    object: &Value<'_>,
+    object: &Tree<'_>,
     name: &str,
 ) -> Result<F, BodyFault>
     ensures { Gives result (field F.meant name.now (seen object.now)) }
@@ -50,7 +49,7 @@ pub(crate) fn required<F: Field>(
 /// A field, or its default where it isn't there.
 pub(crate) fn optional<F: Field>(
     alloc: Global,
-    object: &Value<'_>,
+    object: &Tree<'_>,
     name: &str,
     default: F,
 ) -> Result<F, BodyFault>

@@ -7,9 +7,8 @@ ghost use Rattle.pl_trees.specs.Trees.{entries_seen, seen};
 
 use crate::fault::BodyFault;
 use crate::field::Field;
-use json::Value;
 use pl_base::{Argument, List, Text};
-use pl_trees::{by_name, get};
+use pl_trees::{Tree, by_name, get};
 use std::alloc::Global;
 use std::collections::BTreeMap;
 
@@ -45,7 +44,7 @@ impl Named for Argument {
 /// An item for each of the members, in byte order of their names.
 fn each_named<N: Named>(
     alloc: Global,
-    members: BTreeMap<&str, &Value<'_>>,
+    members: BTreeMap<&str, &Tree<'_>>,
 ) -> Result<List<N>, BodyFault>
     ensures { Gives result (each_named N.makes (entries_seen members.entry.entries)) }
 {
@@ -60,7 +59,7 @@ fn each_named<N: Named>(
 }
 
 /// The items of an object of texts.
-fn texts_by_name<N: Named>(alloc: Global, value: &Value<'_>) -> Result<List<N>, BodyFault>
+fn texts_by_name<N: Named>(alloc: Global, value: &Tree<'_>) -> Result<List<N>, BodyFault>
     ensures { Gives result (texts_by_name N.makes (seen value.now)) }
 {
     match by_name(alloc, value)? {
@@ -72,7 +71,7 @@ fn texts_by_name<N: Named>(alloc: Global, value: &Value<'_>) -> Result<List<N>, 
 /// A field that is an object of texts and must be there.
 pub(crate) fn field_by_name<N: Named>(
     alloc: Global,
-    object: &Value<'_>,
+    object: &Tree<'_>,
     name: &str,
 ) -> Result<List<N>, BodyFault>
     ensures { Gives result (field (texts_by_name N.makes) name.now (seen object.now)) }

@@ -12,14 +12,14 @@ use crate::fault::BodyFault;
 use crate::field::{Field, only, required};
 use crate::named::field_by_name;
 use crate::words::verdict_in;
-use json::{Scratch, Value};
+use json::Scratch;
 use pl_base::{Argument, Digest, List, Outcome, ResourceKey, Text};
 use pl_checks::Check;
 use pl_requests::{
     AgentSetting, Order, PipelineSetting, PrincipalSetting, Report, ResourceSetting,
 };
 use pl_rules::Role;
-use pl_trees::text_in;
+use pl_trees::{Tree, text_in};
 use std::alloc::Global;
 
 /// The pipeline of this name that a content says: an object of exactly `repo` and `path`, which are
@@ -49,7 +49,7 @@ fn permitted_in(word: &str) -> Result<Option<List<Text>>, BodyFault>
 impl Field for Option<List<Text>> {
     ghost meant = { permitted_of };
 
-    fn read(alloc: Global, value: &Value<'_>) -> Result<Option<List<Text>>, BodyFault> {
+    fn read(alloc: Global, value: &Tree<'_>) -> Result<Option<List<Text>>, BodyFault> {
         match text_in(value) {
             Some(word) => permitted_in(word),
             None => Ok(Some(List::read(alloc, value)?)),

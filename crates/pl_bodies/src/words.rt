@@ -9,10 +9,10 @@ ghost use Rattle.pl_bodies.specs.Words.{outcome_of, role_in, role_of, verdict_in
 use crate::atoms::word_in;
 use crate::fault::BodyFault;
 use crate::field::Field;
-use json::Value;
 use pl_base::Outcome;
 use pl_checks::Arguments;
 use pl_rules::{Day, Role};
+use pl_trees::Tree;
 use std::alloc::Global;
 
 fn role_in(word: &str) -> Result<Role, BodyFault>
@@ -31,7 +31,7 @@ fn role_in(word: &str) -> Result<Role, BodyFault>
 impl Field for Role {
     ghost meant = { role_of };
 
-    fn read(_alloc: Global, value: &Value<'_>) -> Result<Role, BodyFault> {
+    fn read(_alloc: Global, value: &Tree<'_>) -> Result<Role, BodyFault> {
         let word = word_in(value)?;
         role_in(word)
     }
@@ -55,7 +55,7 @@ fn day_in(word: &str) -> Result<Day, BodyFault>
 impl Field for Day {
     ghost meant = { day_of };
 
-    fn read(_alloc: Global, value: &Value<'_>) -> Result<Day, BodyFault> {
+    fn read(_alloc: Global, value: &Tree<'_>) -> Result<Day, BodyFault> {
         let word = word_in(value)?;
         day_in(word)
     }
@@ -74,7 +74,7 @@ fn arguments_in(word: &str) -> Result<Arguments, BodyFault>
 impl Field for Arguments {
     ghost meant = { arguments_of };
 
-    fn read(_alloc: Global, value: &Value<'_>) -> Result<Arguments, BodyFault> {
+    fn read(_alloc: Global, value: &Tree<'_>) -> Result<Arguments, BodyFault> {
         let word = word_in(value)?;
         arguments_in(word)
     }
@@ -95,7 +95,7 @@ fn outcome_in(word: &str) -> Result<Outcome, BodyFault>
 impl Field for Outcome {
     ghost meant = { outcome_of };
 
-    fn read(_alloc: Global, value: &Value<'_>) -> Result<Outcome, BodyFault> {
+    fn read(_alloc: Global, value: &Tree<'_>) -> Result<Outcome, BodyFault> {
         let word = word_in(value)?;
         outcome_in(word)
     }

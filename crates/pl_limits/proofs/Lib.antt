@@ -1,4 +1,4 @@
 pub mod Behind
-pub mod Suspects
 pub mod Rising
+pub mod Taken
 pub mod Texts

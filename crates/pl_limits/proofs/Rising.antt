@@ -5,7 +5,7 @@ use Rattle.std.proofs.Common.{List, [], ◌∷◌, ◌++◌, map, get_or, refl, 
 use Rattle.std.proofs.Common.{append_assoc, append-nil, arith, true≢false}
 use Rattle.std.specs.BTreeMap.Comparable.{le_lt_trans}
 use Rattle.std.specs.Cmp.{IsTotalOrder}
-use Rattle.std.specs.List.{filter, list_any, sum_by}
+use Rattle.std.specs.List.{list_any, sum_by}
 use Rattle.std.specs.List.Sorted.{IsPermutation, IsSortedBy}
 use Rattle.std.specs.Ordering.{eq_by_cmp, is_eq, is_gt, is_le, is_lt, ordering_reverse}
 use Rattle.std.specs.declared.cmp.Ordering.{Ordering}
@@ -68,7 +68,7 @@ module _ {K : Type 0} {R : K → K → Ordering} (o : IsTotalOrder R) where
       sym (count_is_sum x ys) ∙ sum_by-IsPermutation (λ y. hit (R x y)) xs ys moved
       ∙ count_is_sum x xs
 
-  count_both : (x : K) (xs ys : List K) → count x (xs ++ ys) ≡ count x xs + count x ys
+  pub count_both : (x : K) (xs ys : List K) → count x (xs ++ ys) ≡ count x xs + count x ys
   count_both x [] ys = omega arith
   count_both x (z ∷ zs) ys = omega (arith, count_both x zs ys)
 
@@ -253,50 +253,30 @@ module _ {K : Type 0} {R : K → K → Ordering} (o : IsTotalOrder R) where
       once last ys rising found.0 (R found.0 last) refl in
       omega (arith, found.1, most, count_moved xs (last ∷ ys) moved found.0))
 
-  -- ---- those that a test keeps
+  -- ---- lists in which the same items stand twice
 
-  module _ (keeps : K → Bool) where
-    fewer : (x : K) (ys : List K) → count x (filter keeps ys) ≤ count x ys
-    fewer x [] = omega arith
-    fewer x (y ∷ ys) = go (keeps y) (fewer x ys)
-      where
-        go :
-            (b : Bool) → count x (filter keeps ys) ≤ count x ys →
-            count x (cond b (y ∷ filter keeps ys) (filter keeps ys)) ≤ hit (R x y) + count x ys
-        go true less = omega (arith, less)
-        go false less = omega (arith, less)
+  pub not_apart :
+      (xs : List K) (x : K) → 2 ≤ count x xs → each_behind (is_new same) [] xs ≡ false
+  not_apart xs x two = go (each_behind (is_new same) [] xs) refl
+    where
+      go : (b : Bool) → each_behind (is_new same) [] xs ≡ b → b ≡ false
+      go true is =
+          let most : count x xs ≤ 1 = kept [] xs (λ y. omega arith) is x in
+          absurd (omega (arith, two, most))
+      go false is = refl
 
-    as_often :
-        (x : K) (ys : List K) → ((y : K) → R x y ≡ Equal → keeps y ≡ true) →
-        count x (filter keeps ys) ≡ count x ys
-    as_often x [] all = refl
-    as_often x (y ∷ ys) all = go (keeps y) refl (R x y) refl (as_often x ys all)
-      where
-        go :
-            (b : Bool) → keeps y ≡ b → (r : Ordering) → R x y ≡ r →
-            count x (filter keeps ys) ≡ count x ys →
-            count x (cond b (y ∷ filter keeps ys) (filter keeps ys)) ≡ hit (R x y) + count x ys
-        go true e r is more = ap (λ n. hit (R x y) + n) more
-        go false e Less is more =
-            let here : hit (R x y) ≡ 0 = ap hit is in omega (arith, here, more)
-        go false e Equal is more = absurd (true≢false (sym (all y is) ∙ e))
-        go false e Greater is more =
-            let here : hit (R x y) ≡ 0 = ap hit is in omega (arith, here, more)
-
-    -- where a test keeps what stands twice, none of those that it keeps does where none of all does
-    pub apart_alone :
-        (xs : List K) → ((x y : K) → 2 ≤ count x xs → R x y ≡ Equal → keeps y ≡ true) →
-        each_behind (is_new same) [] (filter keeps xs) ≡ each_behind (is_new same) [] xs
-    apart_alone xs all =
-        one_answer (each_behind (is_new same) [] (filter keeps xs))
-        (each_behind (is_new same) [] xs)
-        (λ apart some. let found = doubled [] xs some in
-        let most : count found.0 (filter keeps xs) ≤ 1 =
-        kept [] (filter keeps xs) (λ x. omega arith) apart found.0 in
-        omega (arith, found.1, most, as_often found.0 xs (λ y. all found.0 y found.1)))
-        (λ some apart. let found = doubled [] (filter keeps xs) some in
-        let most : count found.0 xs ≤ 1 = kept [] xs (λ x. omega arith) apart found.0 in
-        omega (arith, found.1, most, fewer found.0 xs))
+  pub apart_alike :
+      (xs ys : List K) → ((x : K) → 2 ≤ count x xs → 2 ≤ count x ys) →
+      ((x : K) → 2 ≤ count x ys → 2 ≤ count x xs) →
+      each_behind (is_new same) [] ys ≡ each_behind (is_new same) [] xs
+  apart_alike xs ys there back =
+      one_answer (each_behind (is_new same) [] ys) (each_behind (is_new same) [] xs)
+      (λ apart some. let found = doubled [] xs some in
+      let most : count found.0 ys ≤ 1 = kept [] ys (λ x. omega arith) apart found.0 in
+      omega (arith, there found.0 found.1, most))
+      (λ some apart. let found = doubled [] ys some in
+      let most : count found.0 xs ≤ 1 = kept [] xs (λ x. omega arith) apart found.0 in
+      omega (arith, back found.0 found.1, most))
 
   -- ---- what a sort says
 

@@ -1,2 +1,3 @@
+pub mod Below
 pub mod Limits
-pub mod Marks
+pub mod Places

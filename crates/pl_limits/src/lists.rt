@@ -8,7 +8,7 @@ ghost use Rattle.pl_limits.specs.Limits.{are_rising, by_bytes, by_length, rises,
 ghost use Rattle.pl_limits.specs.Limits.{same_text};
 ghost use Rattle.pl_names.specs.Names.{is_name};
 
-use crate::marks::suspects;
+use crate::places::displaced;
 use pl_base::{Bytes, List, Memory, Text};
 use pl_names::is_name;
 use pl_rules::Day;
@@ -105,17 +105,22 @@ fn is_output(told: &(Text, Text)) -> bool
 }
 
 /// Whether no text stands twice. Texts of which each is longer than the one before it, or as long
-/// and behind it byte by byte, are gone through once, without memory. Of others those that share a
-/// place by their hashes are sorted, and then each comes before the next.
+/// and behind it byte by byte, are gone through once, without memory. Of others those whose places
+/// by their hashes another text has are sorted, and then each comes before the next.
 pub(crate) fn are_distinct_texts(alloc: Global, texts: &[Text]) -> Result<bool, Memory>
     ensures { IfOk result (λ are. are ≡ are_distinct same_text texts.now) }
 {
     if rise_by_length(texts) {
         return Ok(true);
     }
-    let mut sorted = suspects(alloc, texts)?;
-    sorted.sort()?;
-    Ok(rise_by_bytes(sorted.as_slice()))
+    match displaced(alloc, texts)? {
+        Some(rest) => {
+            let mut sorted = rest;
+            sorted.sort()?;
+            Ok(rise_by_bytes(sorted.as_slice()))
+        }
+        None => Ok(false),
+    }
 }
 
 /// Which text comes first: the shorter one, and of two of one length by their bytes.

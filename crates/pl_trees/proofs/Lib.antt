@@ -1,3 +1,4 @@
+pub mod Lists
 pub mod Signs
 pub mod Trees
 pub mod Whole

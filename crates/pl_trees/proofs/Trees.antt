@@ -12,8 +12,6 @@ use Rattle.json.specs.Find as look
 use Rattle.json.specs.Json as json
 use Rattle.json.specs.Lex.{tokens}
 use Rattle.json.specs.Token.{Token}
-use Rattle.json.specs.Value.{members_view}
-use Rattle.json.specs.declared.value.Value.{Value}
 use Rattle.serde_json.proofs.Views.{get_member-put, get_member-put_other}
 use Rattle.serde_json.specs.Data.{Num, Data, null, boolean, number, string, array, object, put}
 use Rattle.serde_json.specs.Data.{Items, item, Members, no_members, member}
@@ -23,6 +21,8 @@ use Rattle.pl_trees.specs.Trees.{are_among, has_only, is_among}
 use Rattle.pl_trees.specs.Trees.{data_of, data_of_items, data_of_members, entries_seen, in_range}
 use Rattle.pl_trees.specs.Trees.{items_in_range, keys_are_among, members_in_range, number_or_null}
 use Rattle.pl_trees.specs.Trees.{seen}
+use Rattle.pl_trees.specs.Views.{members_view}
+use Rattle.pl_trees.specs.declared.tree.Tree.{Tree}
 
 -- ---- the same value
 
@@ -267,7 +267,7 @@ abbrev by_bytes : Bor (List ℕ) → Bor (List ℕ) → Ordering
 by_bytes one other = slice_cmp nat_cmp one.now other.now
 
 entries_by :
-    {A : Type 0} (o : Ordering) (a b c : List (Bor (List ℕ) × Bor (Value A))) →
+    (o : Ordering) (a b c : List (Bor (List ℕ) × Bor Tree)) →
     entries_seen (match_ordering o a b c)
     ≡ match_ordering o (entries_seen a) (entries_seen b) (entries_seen c)
 entries_by Less a b c = refl
@@ -275,8 +275,7 @@ entries_by Equal a b c = refl
 entries_by Greater a b c = refl
 
 pub entries_put :
-    {A : Type 0} (es : List (Bor (List ℕ) × Bor (Value A))) (k : Bor (List ℕ))
-    (v : Bor (Value A)) →
+    (es : List (Bor (List ℕ) × Bor Tree)) (k : Bor (List ℕ)) (v : Bor Tree) →
     entries_seen (insert_entry by_bytes es k v) ≡ put k.now (seen v.now) (entries_seen es)
 entries_put [] k v = refl
 entries_put (e ∷ es) k v =
@@ -288,9 +287,9 @@ entries_put (e ∷ es) k v =
 
 -- one member more
 pub one_in :
-    {A : Type 0} (whole : Members) (old new : List (Bor (List ℕ) × Bor (Value A)))
-    (here rest : List (Bor (List ℕ) × Value A)) (x : Bor (List ℕ) × Value A) (k : Bor (List ℕ))
-    (v : Bor (Value A)) → here ≡ x ∷ rest → k.now ≡ x.0.now → v.now ≡ x.1 →
+    (whole : Members) (old new : List (Bor (List ℕ) × Bor Tree))
+    (here rest : List (Bor (List ℕ) × Tree)) (x : Bor (List ℕ) × Tree) (k : Bor (List ℕ))
+    (v : Bor Tree) → here ≡ x ∷ rest → k.now ≡ x.0.now → v.now ≡ x.1 →
     new ≡ insert_entry by_bytes old k v →
     data_of_members (members_view here) (entries_seen old) ≡ whole →
     data_of_members (members_view rest) (entries_seen new) ≡ whole

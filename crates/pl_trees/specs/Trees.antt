@@ -1,4 +1,4 @@
--- The data of a value that `json` read over its content's own text: what `serde_json` makes of it.
+-- The data of a value that was read over its content's own text: what `serde_json` makes of it.
 use Rattle.std.specs.Prelude.{ℕ, List, [], ◌∷◌, Bool, true, false, Option, Some, None, ◌&&◌}
 use Rattle.std.specs.Prelude.{if◌then◌else◌}
 use Rattle.std.specs.Borrow.{Bor}
@@ -6,11 +6,11 @@ use Rattle.std.specs.List.{list_any}
 use Rattle.std.specs.Option.{is_some}
 use Rattle.std.specs.Str.{bytes_eq, is_utf8}
 use Rattle.json.specs.Json as json
-use Rattle.json.specs.Value.{value_view}
-use Rattle.json.specs.declared.value.Value.{Value}
 use Rattle.serde_json.specs.Data.{Num, Data, null, boolean, number, string, array, object, put}
 use Rattle.serde_json.specs.Data.{Items, no_items, item, Members, no_members, member}
 use Rattle.serde_json.specs.Read.{number_of, read}
+use Rattle.pl_trees.specs.Views.{tree_view}
+use Rattle.pl_trees.specs.declared.tree.Tree.{Tree}
 
 -- a number out of range has no data
 abbrev pub number_or_null : Option Num → Data
@@ -54,8 +54,8 @@ abbrev mutual
   members_in_range json.no_members = true
   members_in_range (json.member name value more) = in_range value && members_in_range more
 
-abbrev pub seen : {A : Type 0} → Value A → Data
-seen value = data_of (value_view value)
+abbrev pub seen : Tree → Data
+seen value = data_of (tree_view value)
 
 -- the value that a content is: it is UTF-8 and JSON
 unfoldable pub data_in : List ℕ → Option Data
@@ -86,6 +86,6 @@ keys_are_among names (json.member name value more) =
     is_among names name && keys_are_among names more
 
 -- values by their names, as members
-abbrev pub entries_seen : {A : Type 0} → List (Bor (List ℕ) × Bor (Value A)) → Members
+abbrev pub entries_seen : List (Bor (List ℕ) × Bor Tree) → Members
 entries_seen [] = no_members
 entries_seen (entry ∷ more) = member entry.0.now (seen entry.1.now) (entries_seen more)

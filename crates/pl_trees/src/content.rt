@@ -1,10 +1,12 @@
 ghost use Rattle.std.specs.Prelude.{◌≡◌, IfOk, option_map};
-ghost use Rattle.json.specs.Value.{value_view};
 ghost use Rattle.serde_json.specs.Read.{of_json, read};
 ghost use Rattle.pl_trees.specs.Trees.{data_in, seen};
+ghost use Rattle.pl_trees.specs.Views.{tree_view};
 
 use crate::range::are_in_range;
-use json::{Error, Reader, Scratch, Value};
+use crate::reading::{Unread, read_value};
+use crate::tree::Tree;
+use json::{Reader, Scratch};
 use pl_base::Memory;
 use std::alloc::Global;
 
@@ -18,7 +20,7 @@ pub fn value_in<'v>(
     alloc: Global,
     content: &'v [u8],
     scratch: &'v mut Scratch,
-) -> Result<Option<Value<'v>>, Memory>
+) -> Result<Option<Tree<'v>>, Memory>
     ensures { IfOk result (λ value. option_map seen value ≡ data_in content.now) }
 {
     match simdutf8::compat::from_utf8(content) {
@@ -33,26 +35,24 @@ fn read_all<'v>(
     alloc: Global,
     text: &'v str,
     scratch: &'v mut Scratch,
-) -> Result<Option<Value<'v>>, Memory>
+) -> Result<Option<Tree<'v>>, Memory>
     ensures { IfOk result (λ value. option_map seen value ≡ read text.now) }
 {
     let mut reader = Reader::new(text, scratch)?;
-    match Value::read(alloc, &mut reader, MAX_DEPTH) {
+    match read_value(alloc, &mut reader, MAX_DEPTH) {
         Ok(value) => match reader.next() {
             Some(_) => Ok(None),
             None => Ok(with_data(value)),
         },
-        Err(Error::OutOfMemory) => Err(Memory),
-        Err(Error::Invalid) => Ok(None),
-        Err(Error::TooLong) => Ok(None),
-        Err(Error::DuplicateKey) => Ok(None),
+        Err(Unread::Memory) => Err(Memory),
+        Err(Unread::Bad) => Ok(None),
     }
 }
 
 /// A value where `serde_json` reads one: its numbers are in range.
 #[tactic(auto, using(crate::proofs::Trees::reads))]
-fn with_data(value: Value<'_>) -> Option<Value<'_>>
-    ensures { option_map seen result ≡ of_json (value_view value.entry) }
+fn with_data(value: Tree<'_>) -> Option<Tree<'_>>
+    ensures { option_map seen result ≡ of_json (tree_view value.entry) }
 {
     if are_in_range(&value) {
         Some(value)

@@ -5,8 +5,9 @@ mod content;
 mod members;
 mod numbers;
 mod range;
+mod reading;
 mod tree;
 
 pub use content::value_in;
 pub use members::{by_name, get, has_only};
-pub use tree::{flag_in, items_in, number_in, text_in};
+pub use tree::{Tree, flag_in, items_in, number_in, text_in};

@@ -1,7 +1,6 @@
 use Rattle.std.proofs.Common.{◌≡◌}
 use Rattle.pl_trees.specs.Trees.{entries_seen}
-use Rattle.pl_bodies.specs.Fields.{each_named}
-use Rattle.pl_bodies.proofs.Steps.{behind}
+use Rattle.pl_bodies.specs.Fields.{behind, each_named}
 use Rattle.pl_bodies.proofs.named.each_named.Given as goal
 
 abbrev pub invariant-loop-name : goal.invariant-loop-name

@@ -1,6 +1,6 @@
 use Rattle.std.proofs.Common.{◌≡◌, drop, map}
-use Rattle.json.specs.Value.{members_view}
 use Rattle.pl_trees.specs.Trees.{keys_are_among}
+use Rattle.pl_trees.specs.Views.{members_view}
 use Rattle.pl_trees.proofs.members.are_among.Given as goal
 
 abbrev pub invariant-loop-member : goal.invariant-loop-member

@@ -1,6 +1,6 @@
 use Rattle.std.proofs.Common.{map, sym, ap, ◌∙◌}
-use Rattle.json.specs.Value.{members_view}
 use Rattle.pl_trees.specs.Trees.{seen}
+use Rattle.pl_trees.specs.Views.{members_view}
 use Rattle.pl_trees.proofs.Trees.{among_seen, judged, only_of}
 use Rattle.pl_trees.proofs.members.has_only.Goals as goal
 

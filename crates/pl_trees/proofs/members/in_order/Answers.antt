@@ -1,8 +1,8 @@
 use Rattle.std.proofs.Common.{◌≡◌, ◌+◌, ◌∷◌, drop, refl, sym, ap, ◌∙◌, arith}
 use Rattle.std.proofs.lemmas.List.{drop_more}
-use Rattle.json.specs.Value.{members_view}
 use Rattle.serde_json.specs.Data.{no_members}
 use Rattle.pl_trees.specs.Trees.{data_of_members}
+use Rattle.pl_trees.specs.Views.{members_view}
 use Rattle.pl_trees.proofs.Trees.{one_in}
 use Rattle.pl_trees.proofs.members.in_order.Goals as goal
 

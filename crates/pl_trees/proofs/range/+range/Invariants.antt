@@ -1,23 +1,25 @@
-use Rattle.std.proofs.Common.{◌≡◌, drop, length}
+use Rattle.std.proofs.Common.{◌≡◌, [], drop, length}
 use Rattle.json.specs.Tree.{json_tokens, items_tokens, members_tokens}
-use Rattle.json.specs.Value.{value_view, items_view, members_view}
 use Rattle.pl_trees.specs.Trees.{items_in_range, members_in_range}
+use Rattle.pl_trees.specs.Views.{items_view, members_view, tree_view}
 use Rattle.pl_trees.proofs.range.+range.Given as goal
 
 abbrev pub decreases-are_in_range : goal.decreases-are_in_range
-decreases-are_in_range l = length (json_tokens (value_view l.value.now))
+decreases-are_in_range l = length (json_tokens (tree_view l.value.now))
 
 abbrev pub decreases-items_are_in_range : goal.decreases-items_are_in_range
-decreases-items_are_in_range l = length (items_tokens (items_view l.items.now))
+decreases-items_are_in_range l = length (items_tokens (items_view [] l.items.now))
 
 abbrev pub decreases-members_are_in_range : goal.decreases-members_are_in_range
 decreases-members_are_in_range l = length (members_tokens (members_view l.members.now))
 
 abbrev pub invariant-items_are_in_range-loop-item : goal.invariant-items_are_in_range-loop-item
 invariant-items_are_in_range-loop-item l =
-    items_in_range (items_view (drop l.item-index l.items)) ≡ items_in_range (items_view l.items)
+    items_in_range (items_view [] (drop l.item-index l.items))
+    ≡ items_in_range (items_view [] l.items)
 
-abbrev pub invariant-members_are_in_range-loop-member : goal.invariant-members_are_in_range-loop-member
+abbrev pub invariant-members_are_in_range-loop-member
+    : goal.invariant-members_are_in_range-loop-member
 invariant-members_are_in_range-loop-member l =
     members_in_range (members_view (drop l.member-index l.members)) ≡
     members_in_range (members_view l.members)
