@@ -5,19 +5,19 @@ use Rattle.std.proofs.Math.Seq.{take-append_seam, drop-append_seam}
 use Rattle.std.proofs.lemmas.List.{append-nil, length-append, take-append-le}
 use Rattle.std.proofs.lemmas.List.Elements.{All-take}
 use Rattle.pl_core.specs.Kept.{AreNumbers, IsKept, opening_of, pending_of}
-use Rattle.pl_core.specs.State.{State}
-use Rattle.pl_due.specs.Fit.{AreFit, IsFit, last_moment}
+use Rattle.pl_core.specs.State.{State, log as log_now}
+use Rattle.pl_history.specs.Below.pl_due.specs.Fit.{AreFit, IsFit, last_moment}
 use Rattle.pl_facts.specs.declared.entry.Entry.{Entry}
 use Rattle.pl_facts.specs.declared.fact.Fact.{Fact}
 use Rattle.pl_history.specs.Legal.{Legal}
 use Rattle.pl_history.specs.History.{Opening, facts_of, log_of}
 use Rattle.pl_journal.specs.Log.{Log}
-use Rattle.pl_step.specs.Full.{back, with_facts}
+use Rattle.pl_history.specs.Below.pl_step.specs.Full.{back, with_facts}
 
 -- ---- what the journal tells of the opening and of what was prepared
 
 pub opening_told : (opening : Opening) (entries : List Entry) (more : List Fact) →
-    opening_of (with_facts (log_of opening entries) more) ≡ opening
+    opening_of opening.change (with_facts (log_of opening entries) more) ≡ opening
 unfolding log_of
 opening_told opening entries more =
     let facts = facts_of entries in
@@ -28,6 +28,7 @@ opening_told opening entries more =
       moment = opening.moment;
       run = opening.run;
       version = opening.version;
+      change = opening.change;
       facts = told;
     }) (take-append-le (length opening.facts) (opening.facts ++ facts) more within
     ∙ take-append_seam opening.facts facts)
@@ -63,20 +64,20 @@ all_installed opening entries = refl
 
 module _ (new : Log) (entries : List Entry) (more : List Fact) (opening : Opening)
     (is : new ≡ with_facts (log_of opening entries) more) where
-  pub opening_behind : opening_of new ≡ opening
-  opening_behind = ap opening_of is ∙ opening_told opening entries more
+  pub opening_behind : opening_of opening.change new ≡ opening
+  opening_behind = ap (opening_of opening.change) is ∙ opening_told opening entries more
 
   pub pending_behind : pending_of new ≡ more
   pending_behind = ap pending_of is ∙ pending_told opening entries more
 
   pub kept_behind : Legal opening entries → AreFit new.facts → opening.moment ≤ last_moment →
-      IsKept new entries
+      IsKept opening.change new entries
   kept_behind legal fit within =
       record {
         journal =
             is
             ∙ ap (λ (o : Opening). with_facts (log_of o entries) more) (sym opening_behind)
-            ∙ ap (λ (facts : List Fact). with_facts (log_of (opening_of new) entries) facts)
+            ∙ ap (λ (facts : List Fact). with_facts (log_of (opening_of opening.change new) entries) facts)
             (sym pending_behind);
         legal = subst (λ (o : Opening). Legal o entries) (sym opening_behind) legal;
         fit = fit;
@@ -85,30 +86,32 @@ module _ (new : Log) (entries : List Entry) (more : List Fact) (opening : Openin
             (sym (ap (λ (l : Log). l.opening.moment) is ∙ moment_told opening entries)) within;
       }
 
-  pub numbers_behind : (size moment files : ℕ) → AreNumbers opening entries size moment files →
-      AreNumbers (opening_of new) entries size moment files
-  numbers_behind size moment files numbers =
-      subst (λ (o : Opening). AreNumbers o entries size moment files) (sym opening_behind) numbers
+  pub numbers_behind : (size moment files change : ℕ) →
+      AreNumbers opening entries size moment files change →
+      AreNumbers (opening_of opening.change new) entries size moment files change
+  numbers_behind size moment files change numbers =
+      subst (λ (o : Opening). AreNumbers o entries size moment files change) (sym opening_behind)
+      numbers
 
 -- ---- what isn't installed is taken back
 
-pub went_back : (log : Log) (entries : List Entry) → IsKept log entries →
-    back log ≡ log_of (opening_of log) entries
-went_back log entries kept =
-    ap back kept.journal ∙ taken_back (opening_of log) entries (pending_of log)
+pub went_back : (first : ℕ) (log : Log) (entries : List Entry) → IsKept first log entries →
+    back log ≡ log_of (opening_of first log) entries
+went_back first log entries kept =
+    ap back kept.journal ∙ taken_back (opening_of first log) entries (pending_of log)
 
-module _ (log new : Log) (entries : List Entry) (kept : IsKept log entries)
+module _ (first : ℕ) (log new : Log) (entries : List Entry) (kept : IsKept first log entries)
     (is : new ≡ back log) where
-  pub back_behind : new ≡ with_facts (log_of (opening_of log) entries) []
-  back_behind =
-      is ∙ went_back log entries kept ∙ sym (nothing_behind (log_of (opening_of log) entries))
+  pub back_behind : new ≡ with_facts (log_of (opening_of first log) entries) []
+  back_behind = is ∙ went_back first log entries kept
+      ∙ sym (nothing_behind (log_of (opening_of first log) entries))
 
   pub back_fit : AreFit new.facts
   back_fit = subst (λ (facts : List Fact). AreFit facts) (ap (λ (l : Log). l.facts) (sym is))
       (All-take IsFit log.installed log.facts kept.fit)
 
-  pub back_kept : IsKept new entries
-  back_kept = kept_behind new entries [] (opening_of log) back_behind kept.legal back_fit
+  pub back_kept : IsKept first new entries
+  back_kept = kept_behind new entries [] (opening_of first log) back_behind kept.legal back_fit
       kept.within
 
 -- ---- the state by its parts
@@ -123,3 +126,20 @@ state_is a b xs ys p q opening entries pending =
     record { opening = b; entries = es; pending = p } in made) entries
     ∙ ap (λ (fs : List Fact). let made : State =
     record { opening = b; entries = ys; pending = fs } in made) pending
+
+-- ---- where nothing is pending the journal is that of the state
+
+pub nothing_pending : (first : ℕ) (log : Log) (entries : List Entry) (state : State) →
+    IsKept first log entries → (let seen : State = record {
+      opening = opening_of first log;
+      entries = entries;
+      pending = pending_of log;
+    } in
+    seen ≡ state) → state.pending ≡ [] → log ≡ log_now state
+nothing_pending first log entries state kept seen none =
+    let base = log_of (opening_of first log) entries in
+    kept.journal
+    ∙ ap (λ (facts : List Fact). with_facts base facts)
+    (ap (λ (s : State). s.pending) seen ∙ none)
+    ∙ nothing_behind base
+    ∙ ap (λ (s : State). log_of s.opening s.entries) seen

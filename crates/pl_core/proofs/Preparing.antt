@@ -1,32 +1,39 @@
 -- What is prepared is the next entry.
 use Rattle.std.proofs.Common.{◌≡◌, ◌≤◌, ℕ, true, List, [], Option, Some, None}
-use Rattle.std.proofs.Common.{Result, Ok, Err, IfOk, OnErr, sym, subst, ◌∙◌}
+use Rattle.std.proofs.Common.{Result, Ok, Err, IfOk, OnErr, sym, ap, subst, ◌∙◌, ◌+◌, ◌⊎◌, inl, inr}
+use Rattle.std.proofs.Common.{arith}
 use Rattle.pl_base.specs.declared.memory.Memory.{Memory}
-use Rattle.pl_compilation.specs.Made.{IsMade, IsMadeOf}
+use Rattle.pl_history.specs.Below.pl_compilation.specs.Made.{IsMade, IsMadeOf}
+use Rattle.pl_core.specs.Kept.{change_behind, pending_of}
 use Rattle.pl_core.specs.Prepared.{IsEntryOf, IsPrepared, added_by, entries_with, next_number}
 use Rattle.pl_core.specs.State.{State, held, log}
 use Rattle.pl_core.specs.declared.prepared.Prepared.{Prepared}
+use Rattle.pl_facts.specs.Sizes.{counted}
 use Rattle.pl_facts.specs.declared.entry.Entry.{Entry}
 use Rattle.pl_facts.specs.declared.fact.Fact.{Fact}
 use Rattle.pl_history.specs.Guarded.{IsGuarded}
-use Rattle.pl_history.specs.History.{Opening}
+use Rattle.pl_history.specs.History.{Opening, held_of, log_of}
 use Rattle.pl_history.specs.Legal.{Follows, Legal}
 use Rattle.pl_history.specs.Made.{IsMadeFor}
 use Rattle.pl_history.proofs.Longer.{legal_more}
+use Rattle.pl_history.proofs.Within.{one_more}
 use Rattle.pl_journal.specs.Log.{Log, last_moment}
 use Rattle.pl_plan.specs.declared.plan.Compiled.{Compiled}
-use Rattle.pl_queueing.specs.Queueing.{Made}
+use Rattle.pl_history.specs.Below.pl_queueing.specs.Queueing.{Made}
 use Rattle.pl_requests.specs.WellFormed.{is_well_formed}
 use Rattle.pl_requests.specs.declared.call.Call.{Call}
 use Rattle.pl_requests.specs.declared.reply.Reply.{Reply}
 use Rattle.pl_results.specs.Nodes.{CanRun}
 use Rattle.pl_snapshots.specs.declared.snapshot.Snapshot.{Snapshot}
-use Rattle.pl_step.specs.Fits.{CanRunMade}
-use Rattle.pl_step.specs.Full.{with_facts}
-use Rattle.pl_step.specs.Step.{IsStep, stepped_with}
-use Rattle.pl_step.specs.declared.held.Held.{Held}
-use Rattle.pl_step.specs.declared.stepped.Stepped.{Stepped}
-use Rattle.pl_core.proofs.Keeping.{nothing_behind}
+use Rattle.pl_all_rows.specs.Below.pl_row_changes.proofs.OfEntry.{none_changed}
+use Rattle.pl_all_rows.specs.Below.pl_row_changes.specs.Changing.{AreOfEntry}
+use Rattle.pl_all_rows.specs.Below.pl_row_changes.specs.Counting.{row_changes}
+use Rattle.pl_history.specs.Below.pl_step.specs.Fits.{CanRunMade}
+use Rattle.pl_history.specs.Below.pl_step.specs.Full.{with_facts}
+use Rattle.pl_history.specs.Below.pl_step.specs.Step.{IsStep, stepped_with}
+use Rattle.pl_history.specs.Below.pl_step.specs.declared.held.Held.{Held}
+use Rattle.pl_history.specs.Below.pl_step.specs.declared.stepped.Stepped.{Stepped}
+use Rattle.pl_core.proofs.Keeping.{nothing_behind, pending_behind}
 
 pub if_ok : {X E : Type 0} (P Q : X → Type 0) (r : Result X E) → ((x : X) → P x → Q x) →
     IfOk r P → IfOk r Q
@@ -147,3 +154,60 @@ pub pending_by : (result : Result Prepared Memory) (old new : Log) (pending : Li
     IfOk result (λ prepared. pending ≡ added_by prepared.entry)
 pending_by (Ok prepared) old new pending tells is = tells (added_by prepared.entry) is
 pending_by (Err memory) old new pending tells is = tt
+
+-- ---- what the entry changes among the kept rows
+
+module _ (opening : Opening) (entries : List Entry) (change behind : ℕ)
+    (change_is : change ≡ (held_of opening entries).change) where
+  number_with : (entry : Option Entry) →
+      behind ≡ counted (change + row_changes (log_of opening entries).facts (added_by entry)) →
+      behind ≡ (held_of opening (entries_with entries entry)).change
+  number_with None is =
+      omega (arith, is, change_is, none_changed (log_of opening entries).facts)
+  number_with (Some entry) is =
+      omega (arith, is, change_is, one_more opening entries entry)
+
+  pub changed_by : (result : Result Prepared Memory) (base : Log) →
+      base ≡ log_of opening entries →
+      IfOk result (λ prepared. AreOfEntry change behind base (added_by prepared.entry)
+      prepared.changes) →
+      IfOk result (λ prepared. behind ≡ counted (change +
+      row_changes base.facts (added_by prepared.entry))) →
+      IfOk result (λ prepared. AreOfEntry (held_of opening entries).change
+      (held_of opening (entries_with entries prepared.entry)).change (log_of opening entries)
+      (added_by prepared.entry) prepared.changes)
+  changed_by (Err memory) base is rows number = tt
+  changed_by (Ok prepared) base is rows number =
+      let next = number_with prepared.entry (subst (λ (l : Log). behind ≡ counted (change +
+      row_changes l.facts (added_by prepared.entry))) is number) in
+      subst (λ (n : ℕ). AreOfEntry n (held_of opening (entries_with entries prepared.entry)).change
+      (log_of opening entries) (added_by prepared.entry) prepared.changes) change_is
+      (subst (λ (n : ℕ). AreOfEntry change n (log_of opening entries) (added_by prepared.entry)
+      prepared.changes) next
+      (subst (λ (l : Log). AreOfEntry change behind l (added_by prepared.entry) prepared.changes) is
+      rows))
+
+  -- the number behind what was prepared is kept
+  pub kept_room : (result : Result Prepared Memory) (base new : Log) (Room : Type 0) → Room →
+      base ≡ log_of opening entries →
+      IfOk result (λ prepared. behind ≡ counted (change +
+      row_changes base.facts (added_by prepared.entry))) →
+      IfOk result (λ prepared. new ≡ with_facts base (added_by prepared.entry)) →
+      OnErr result (new ≡ base) → (pending_of new ≡ []) ⊎ (Room × (behind ≡
+      change_behind opening entries (pending_of new)))
+  kept_room (Err memory) base new Room room is number ok err =
+      inl (pending_behind new entries [] opening
+      (err ∙ is ∙ sym (nothing_behind (log_of opening entries))))
+  kept_room (Ok prepared) base new Room room is number ok err =
+      let more = added_by prepared.entry in
+      let pending : pending_of new ≡ more = pending_behind new entries more opening
+      (ok ∙ ap (λ (l : Log). with_facts l more) is) in
+      let here : behind ≡ counted (change + row_changes (log_of opening entries).facts more) =
+      subst (λ (l : Log). behind ≡ counted (change + row_changes l.facts more)) is number in
+      let behind_is : behind ≡ change_behind opening entries more =
+      omega (arith, here, change_is) in
+      inr (
+        room,
+        behind_is
+            ∙ ap (λ (facts : List Fact). change_behind opening entries facts) (sym pending),
+      )

@@ -3,6 +3,7 @@ use Rattle.std.specs.Prelude.{◌≡◌, ◌+◌, ◌++◌, ℕ, List, [], ◌�
 use Rattle.pl_core.specs.State.{State}
 use Rattle.pl_facts.specs.declared.entry.Entry.{Entry}
 use Rattle.pl_facts.specs.declared.fact.Fact.{Fact}
+use Rattle.pl_history.specs.History.{held_of}
 use Rattle.pl_history.specs.Legal.{Follows}
 use Rattle.pl_requests.specs.declared.call.Call.{Call}
 
@@ -43,3 +44,7 @@ installed entry state = record {
 
 abbrev pub next_number : State → ℕ
 next_number state = length state.entries + 1
+
+-- the number of the next change of a row, with one entry more, if there is one
+abbrev pub next_change : State → Option Entry → ℕ
+next_change state entry = (held_of state.opening (entries_with state.entries entry)).change

@@ -1,8 +1,9 @@
 ghost use Rattle.std.specs.Prelude.{◌≡◌, ◌≤◌, [], true, Some, IfOk, OnErr};
 ghost use Rattle.pl_core.specs.Prepared.{IsEntryOf, IsPrepared, added_by, entries_with, installed};
-ghost use Rattle.pl_core.specs.Prepared.{next_number};
-ghost use Rattle.pl_core.specs.State.{held, log, new_state};
-ghost use Rattle.pl_due.specs.Fit.{last_moment as last_of_all};
+ghost use Rattle.pl_core.specs.Prepared.{next_change, next_number};
+ghost use Rattle.pl_core.specs.Rows.{AreKept};
+ghost use Rattle.pl_core.specs.State.{held, log, new_state, opened_state};
+ghost use Rattle.pl_history.specs.Below.pl_due.specs.Fit.{AreFit, last_moment as last_of_all};
 ghost use Rattle.pl_facts.specs.Sizes.{counted};
 ghost use Rattle.pl_history.specs.Claims.{IsOrderly};
 ghost use Rattle.pl_history.specs.Guarded.{IsAnswered, IsGuarded};
@@ -10,18 +11,20 @@ ghost use Rattle.pl_history.specs.Legal.{Legal};
 ghost use Rattle.pl_history.specs.Made.{IsMadeFor, WantsFor};
 ghost use Rattle.pl_journal.specs.Log.{last_moment, version};
 ghost use Rattle.pl_requests.specs.WellFormed.{is_well_formed};
-ghost use Rattle.pl_step.specs.Step.{IsStep, stepped_with};
+ghost use Rattle.pl_all_rows.specs.Below.pl_row_changes.specs.Changing.{AreOfEntry};
+ghost use Rattle.pl_history.specs.Below.pl_step.specs.Step.{IsStep, stepped_with};
 
+use crate::opening::begun;
 use crate::prepared::{Prepared, prepare};
 use crate::wanting::wanted_for;
-use pl_base::{Digest, Memory, Moment, Refusal, Shared};
-use pl_compilation::compilations_can_run;
-use pl_facts::{Compiled, Entry, size_of};
-use pl_history::{access_laws, claim_laws};
+use pl_all_rows::rows_of;
+use pl_base::{Digest, List, Memory, Moment, Refusal, Row, Shared};
+use pl_facts::{Compiled, Entry, Fact, size_of};
+use pl_history::{Held, access_laws, claim_laws, compilations_can_run};
+use pl_journal::Numbers;
 use pl_open_runs::IndexedJournal;
 use pl_requests::{Call, Reply};
 use pl_snapshots::Snapshot;
-use pl_step::Held;
 use std::alloc::Global;
 use std::marker::Model;
 
@@ -40,12 +43,17 @@ pub struct Core {
     moment: Moment,
     /// The version of the files.
     version: u64,
+    /// The number of the next change of a kept row: when the service was opened, now, and behind
+    /// what was prepared.
+    first: u64,
+    change: u64,
+    behind: u64,
 }
 
 impl Model for Core {
     ghost use Rattle.std.specs.Prelude.{◌≡◌, ◌<◌, ◌⊎◌, [], vec_len, vec_capacity};
     ghost use Rattle.std.specs.Coded.{codes};
-    ghost use Rattle.pl_core.specs.Kept.{AreNumbers, IsKept, opening_of, pending_of};
+    ghost use Rattle.pl_core.specs.Kept.{AreNumbers, IsKept, change_behind, opening_of, pending_of};
     ghost use Rattle.pl_core.specs.State.{State};
     ghost use Rattle.pl_facts.specs.contracts.entry.Entry as an_entry;
     ghost use Rattle.pl_facts.specs.contracts.fact.Fact as a_fact;
@@ -55,30 +63,68 @@ impl Model for Core {
     ghost coded = { Prim.hlevel (codes, a_fact.the_row.coded, an_entry.the_row.coded) };
 
     ghost view = { λ core. record {
-      opening = opening_of core.journal;
+      opening = opening_of core.first core.journal;
       entries = core.entries.items;
       pending = pending_of core.journal;
     } };
 
     // So that installing takes no memory, there is room for one entry more while one is prepared.
     ghost invariant = { λ core.
-        IsKept core.journal core.entries.items ×
-        AreNumbers (opening_of core.journal) core.entries.items core.size core.moment core.version ×
-        ((pending_of core.journal ≡ []) ⊎ (vec_len core.entries < vec_capacity core.entries)) };
+        IsKept core.first core.journal core.entries.items ×
+        AreNumbers (opening_of core.first core.journal) core.entries.items core.size core.moment
+        core.version core.change ×
+        ((pending_of core.journal ≡ []) ⊎ ((vec_len core.entries < vec_capacity core.entries) ×
+        (core.behind ≡ change_behind (opening_of core.first core.journal) core.entries.items
+        (pending_of core.journal)))) };
 }
 
 impl Core {
-    /// A service that was just opened and in which nothing has happened, with the digest of its
-    /// admin's token. Memory where memory is wanting.
+    /// A service in which nothing has happened, with the digest of its admin's token. Memory where
+    /// memory is wanting.
     pub fn new(alloc: Global, admin: Digest) -> Result<Core, Memory>
         ensures { IfOk result (λ core. core ≡ new_state admin) }
     {
+        let numbers = Numbers {
+            moment: 0,
+            run: 0,
+            version: 0,
+        };
+        Core::opened(alloc, admin, numbers, 0, Vec::new(alloc))
+    }
+
+    /// A service that is opened with what has happened before, fact after fact, and goes on from
+    /// these numbers and from this number of the next change of a kept row, with the digest of its
+    /// admin's token. Memory where memory is wanting.
+    pub fn opened(
+        alloc: Global,
+        admin: Digest,
+        numbers: Numbers,
+        change: u64,
+        facts: Vec<Fact>,
+    ) -> Result<Core, Memory>
+        requires moment { numbers.moment ≤ last_of_all }
+        requires fit { AreFit facts.items }
+        ensures { IfOk result (λ core. core ≡ opened_state (record {
+          admin = admin;
+          moment = numbers.moment;
+          run = numbers.run;
+          version = numbers.version;
+          change = change;
+          facts = facts.items;
+        })) }
+    {
+        let journal = begun(alloc, admin, numbers, change, facts)?;
+        let moment = journal.journal().last_moment();
+        let version = journal.journal().version();
         Ok(Core {
-            journal: IndexedJournal::new(alloc, admin)?,
+            journal,
             entries: Vec::new(alloc),
             size: 0,
-            moment: 0,
-            version: 0,
+            moment,
+            version,
+            first: change,
+            change,
+            behind: change,
         })
     }
 
@@ -127,9 +173,19 @@ impl Core {
         wanted_for(alloc, self.journal.journal(), call)
     }
 
-    /// The reply to a call at a seat, and the entry that the call makes: what the step gives. The
-    /// state stays as it is, and all memory is taken that `install` needs. What was prepared before
-    /// and wasn't installed is gone. Memory where memory is wanting; then nothing is prepared.
+    /// The kept rows of the state, in order of table and key. Memory where memory is wanting, and
+    /// where a text or a list is too long for a row.
+    pub fn rows_of(&self, alloc: Global) -> Result<List<Row>, Memory>
+        requires { self.now.pending ≡ [] }
+        ensures { IfOk result (AreKept self.now) }
+    {
+        rows_of(alloc, self.journal.journal(), self.change)
+    }
+
+    /// The reply to a call at a seat, the entry that the call makes and what that changes among the
+    /// kept rows: what the step gives. The state stays as it is, and all memory is taken that
+    /// `install` needs. What was prepared before and wasn't installed is gone. Memory where memory
+    /// is wanting; then nothing is prepared.
     ///
     /// A claim is answered with the job exactly where its agent may have it, and else refused by
     /// the first rule that it breaks; and with the entry the history is one that `entries`
@@ -152,6 +208,9 @@ impl Core {
             made (stepped_with prepared.reply (added_by prepared.entry))) }
         ensures entry { IfOk result (λ prepared.
             IsEntryOf (next_number self.old) seat call.now prepared.entry) }
+        ensures changes { IfOk result (λ prepared. AreOfEntry (held self.old).change
+            (next_change self.old prepared.entry) (log self.old) (added_by prepared.entry)
+            prepared.changes) }
         ensures prepared { IfOk result (λ prepared. IsPrepared self.new prepared.entry) }
         ensures guarded { IfOk result (λ prepared.
             IsGuarded self.old.opening (entries_with self.old.entries prepared.entry)) }
@@ -168,8 +227,17 @@ impl Core {
         let held = Held {
             entries: self.entries.len() as u64,
             size: self.size,
+            change: self.change,
         };
-        prepare(alloc, &mut self.journal, &held, seat, call, made)
+        prepare(
+            alloc,
+            &mut self.journal,
+            &mut self.behind,
+            &held,
+            seat,
+            call,
+            made,
+        )
     }
 
     /// Makes what was prepared last true, and gives its reply. It takes no memory. The history is
@@ -180,7 +248,7 @@ impl Core {
         ensures state { self.new ≡ installed prepared.entry self.old }
         ensures guarded { IsGuarded self.new.opening self.new.entries }
     {
-        let Prepared { reply, entry } = prepared;
+        let Prepared { reply, entry, .. } = prepared;
         if let Some(entry) = entry {
             self.add(entry);
         }
@@ -198,6 +266,7 @@ impl Core {
         self.journal.install();
         self.moment = self.journal.journal().last_moment();
         self.version = self.journal.journal().version();
+        self.change = self.behind;
     }
 
     /// Gives up what was prepared and isn't installed. It takes no memory.

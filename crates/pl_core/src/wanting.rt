@@ -4,10 +4,10 @@ ghost use Rattle.std.specs.Prelude.{◌≡◌, IfOk};
 ghost use Rattle.pl_history.specs.Made.{WantsFor};
 
 use pl_base::Memory;
+use pl_history::may_call;
 use pl_journal::Journal;
 use pl_requests::Call;
 use pl_snapshots::{Snapshot, wanted};
-use pl_step::may_call;
 use std::alloc::Global;
 
 /// What a call wants to be compiled: nothing, where its caller isn't known or may not make it.

@@ -3,19 +3,19 @@ use Rattle.std.proofs.Common.{◌≡◌, ◌↔◌, ◌++◌, ℕ, Bool, true, f
 use Rattle.std.proofs.Common.{refl, sym, ap, subst, ◌∙◌, inl, inr, if◌then◌else◌}
 use Rattle.std.proofs.lemmas.List.{append-nil}
 use Rattle.std.proofs.lemmas.Option.{none-some}
-use Rattle.pl_answers.specs.declared.answer.Answer.{Answer}
-use Rattle.pl_due.specs.Due.{IsDue}
+use Rattle.pl_step.specs.Below.pl_answers.specs.declared.answer.Answer.{Answer}
+use Rattle.pl_granting_laws.specs.Below.pl_settling.specs.Below.pl_due.specs.Due.{IsDue}
 use Rattle.pl_facts.specs.declared.entry.Entry.{Entry}
 use Rattle.pl_facts.specs.declared.fact.Fact.{Fact}
-use Rattle.pl_granting.specs.Broken.{Broken}
-use Rattle.pl_granting.specs.Grantable.{AreDone, IsGrantable}
-use Rattle.pl_granting.specs.Named.{IsJobOf, JobOf, job_named}
+use Rattle.pl_granting_laws.specs.Below.pl_granting.specs.Broken.{Broken}
+use Rattle.pl_granting_laws.specs.Below.pl_granting.specs.Grantable.{AreDone, IsGrantable}
+use Rattle.pl_granting_laws.specs.Below.pl_granting.specs.Named.{IsJobOf, JobOf, job_named}
 use Rattle.pl_history.specs.Legal.{Legal}
 use Rattle.pl_history.specs.History.{Opening, held_of, log_of}
-use Rattle.pl_jobs.specs.Granting.{AsAgent, AsksAs, ClaimsAs, why_answer}
+use Rattle.pl_step.specs.Below.pl_jobs.specs.Granting.{AsAgent, AsksAs, ClaimsAs, why_answer}
 use Rattle.pl_journal.specs.Log.{Log}
 use Rattle.pl_journal.specs.Settings.{agent, principal_with}
-use Rattle.pl_queueing.specs.Queueing.{Made}
+use Rattle.pl_step.specs.Below.pl_queueing.specs.Queueing.{Made}
 use Rattle.pl_requests.specs.declared.call.Call.{Call}
 use Rattle.pl_requests.specs.declared.request.JobName.{JobName}
 use Rattle.pl_requests.specs.declared.request.Request.{Request}
@@ -24,10 +24,10 @@ use Rattle.pl_requests.specs.declared.settings.AgentSetting.{AgentSetting}
 use Rattle.pl_requests.specs.declared.settings.PrincipalSetting.{PrincipalSetting}
 use Rattle.pl_rules.specs.declared.rule.Rule.{Rule}
 use Rattle.pl_rules.specs.declared.rule.Rule.TheVariants as rules
-use Rattle.pl_settling.proofs.Adding.{added_so}
+use Rattle.pl_granting_laws.specs.Below.pl_settling.proofs.Adding.{added_so}
 use Rattle.pl_history.specs.Claims.{IsAnsweredExactly, IsCallOf, IsClaim, IsFull, IsOrderly}
 use Rattle.pl_history.specs.Claims.{IsQuestion, IsToldExactly}
-use Rattle.pl_settling.specs.Settles.{Settles}
+use Rattle.pl_granting_laws.specs.Below.pl_settling.specs.Settles.{Settles}
 use Rattle.pl_step.specs.Answering.{Answers}
 use Rattle.pl_step.specs.Callers.{may_call}
 use Rattle.pl_step.specs.Full.{is_too_much, with_facts}
@@ -76,10 +76,10 @@ served_by held log call made stepped caller (Some other) known may (inr serves) 
 unless_full : (held : Held) (log : Log) (asked : Request) (stepped whole : Stepped) →
     stepped ≡ given held log asked whole → ¬ IsFull stepped → stepped ≡ whole
 unless_full held log asked stepped whole is room =
-    by_full (is_too_much held (with_facts log whole.added) asked whole.added) refl
+    by_full (is_too_much held log asked whole.added) refl
   where
     by_full : (full : Bool) →
-        is_too_much held (with_facts log whole.added) asked whole.added ≡ full → stepped ≡ whole
+        is_too_much held log asked whole.added ≡ full → stepped ≡ whole
     by_full true full = absurd (room (is
         ∙ ap (λ (b : Bool). if b then refusing 409 rules.JournalFull else whole) full))
     by_full false full = is
@@ -164,12 +164,12 @@ module _ (settling : Settling) (coming : Coming) (exactly : Exactly) (one_rule :
       (none_behind moment (log_of opening entries).facts due settles)
 
   pub claim_all : (call : Call) (made : Made) (stepped : Stepped) →
-      IsStep (held_of entries) (log_of opening entries) call made stepped →
+      IsStep (held_of opening entries) (log_of opening entries) call made stepped →
       (name : JobName) (who : AgentSetting) (due : List Fact) →
       IsClaim (log_of opening entries) call name who due → ¬ IsFull stepped →
       IsAnsweredExactly (settled due) call.moment name who due stepped
   claim_all call made stepped is name who due claim room =
-      let told = answer_of one (held_of entries) (log_of opening entries) call made stepped is room
+      let told = answer_of one (held_of opening entries) (log_of opening entries) call made stepped is room
       claim.caller due claim.made (request.Claim name) claim.claims (λ facts settles. settles) in
       let claims : ClaimsAs (settled due) call.moment name who told.answer =
       answered_as (settled due) claim.caller.name who (ClaimsAs (settled due) call.moment name)
@@ -181,12 +181,12 @@ module _ (settling : Settling) (coming : Coming) (exactly : Exactly) (one_rule :
       stepped_with answer.reply (due ++ happened call.moment answer.event)) claims.2)
 
   pub why_all : (call : Call) (made : Made) (stepped : Stepped) →
-      IsStep (held_of entries) (log_of opening entries) call made stepped →
+      IsStep (held_of opening entries) (log_of opening entries) call made stepped →
       (name : JobName) (who : AgentSetting) (due : List Fact) →
       IsQuestion (log_of opening entries) call name who due → ¬ IsFull stepped →
       IsToldExactly (settled due) call.moment name who due stepped
   why_all call made stepped is name who due question room =
-      let told = answer_of one (held_of entries) (log_of opening entries) call made stepped is room
+      let told = answer_of one (held_of opening entries) (log_of opening entries) call made stepped is room
       question.caller due question.made (request.Why name question.asked) question.asks
       (λ facts settles. settles) in
       let asks : AsksAs (settled due) call.moment name who told.answer =

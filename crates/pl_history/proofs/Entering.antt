@@ -2,11 +2,11 @@
 use Rattle.std.proofs.Common.{◌≡◌, ℕ, Bool, true, false, List, [], ◌∷◌, ◌++◌, Option, Some}
 use Rattle.std.proofs.Common.{None}
 use Rattle.std.proofs.Common.{refl, sym, ap, subst, inl, inr}
-use Rattle.pl_answers.specs.declared.answer.Answer.{Answer}
+use Rattle.pl_step.specs.Below.pl_answers.specs.declared.answer.Answer.{Answer}
 use Rattle.pl_facts.specs.declared.fact.Fact.{Fact}
 use Rattle.pl_journal.specs.Log.{Log}
 use Rattle.pl_journal.specs.Settings.{principal_with}
-use Rattle.pl_queueing.specs.Queueing.{Made}
+use Rattle.pl_step.specs.Below.pl_queueing.specs.Queueing.{Made}
 use Rattle.pl_requests.specs.declared.call.Call.{Call}
 use Rattle.pl_requests.specs.declared.reply.Reply.{Reply}
 use Rattle.pl_requests.specs.declared.request.Request.{Request}
@@ -27,22 +27,22 @@ pub record IsEntered (held : Held) (log : Log) (call : Call) (made : Made) (adde
   pub answer : Answer
   pub answers : Answers (with_facts log due) call.moment who made call.request answer
   pub are : added ≡ due ++ happened call.moment answer.event
-  pub room : is_full held (with_facts log added) call.request added ≡ false
+  pub room : is_full held log call.request added ≡ false
 
 -- what is given with facts was given whole
 given_whole : (held : Held) (log : Log) (asked : Request) (reply : Reply) (stepped : Stepped)
     (all : List Fact) → ¬ (stepped.added ≡ []) →
     stepped ≡ given held log asked (stepped_with reply all) →
-    (stepped.added ≡ all) × (is_full held (with_facts log all) asked all ≡ false)
+    (stepped.added ≡ all) × (is_full held log asked all ≡ false)
 given_whole held log asked reply stepped [] some is =
     absurd (some (ap (λ (s : Stepped). s.added) is))
 given_whole held log asked reply stepped (fact ∷ more) some is =
-    by_full (is_full held (with_facts log (fact ∷ more)) asked (fact ∷ more)) refl
+    by_full (is_full held log asked (fact ∷ more)) refl
   where
     by_full : (full : Bool) →
-        is_full held (with_facts log (fact ∷ more)) asked (fact ∷ more) ≡ full →
+        is_full held log asked (fact ∷ more) ≡ full →
         (stepped.added ≡ fact ∷ more)
-        × (is_full held (with_facts log (fact ∷ more)) asked (fact ∷ more) ≡ false)
+        × (is_full held log asked (fact ∷ more) ≡ false)
     by_full true full = absurd (some (ap (λ (s : Stepped). s.added) (rw full at is)))
     by_full false full = (ap (λ (s : Stepped). s.added) (rw full at is), full)
 
@@ -62,7 +62,7 @@ module _ (held : Held) (log : Log) (call : Call) (made : Made) (reply : Reply) (
         answers = serves.answers;
         are = whole.0;
         room =
-            subst (λ (all : List Fact). is_full held (with_facts log all) call.request all ≡ false)
+            subst (λ (all : List Fact). is_full held log call.request all ≡ false)
             (sym whole.0) whole.1;
       }
 

@@ -5,19 +5,21 @@ use Rattle.std.specs.Prelude.{slice_get}
 use Rattle.std.specs.Option.{option_and_then, option_map_or}
 use Rattle.std.proofs.lemmas.List.{append-nil}
 use Rattle.std.proofs.lemmas.Option.{none-some}
-use Rattle.pl_answers.specs.Answers.{refused, with_fact, without_fact}
-use Rattle.pl_answers.specs.declared.answer.Answer.{Answer}
+use Rattle.pl_step.specs.Below.pl_answers.specs.Answers.{refused, with_fact, without_fact}
+use Rattle.pl_step.specs.Below.pl_answers.specs.declared.answer.Answer.{Answer}
 use Rattle.pl_facts.specs.declared.fact.Event.TheVariants as event
 use Rattle.pl_facts.specs.declared.fact.Fact.{Fact}
 use Rattle.pl_facts.specs.declared.fact.QueuedRun.{QueuedRun}
-use Rattle.pl_granting.proofs.Places.{of_job_in}
-use Rattle.pl_granting.specs.Broken.{Broken, BrokenOf, NameBroken}
-use Rattle.pl_granting.specs.Grantable.{IsGrantable}
-use Rattle.pl_granting.specs.Named.{IsJobOf, JobOf, job_in, job_in_stage, job_labelled, job_named}
-use Rattle.pl_granting.specs.Named.{stage_named}
-use Rattle.pl_granting.specs.Rules.{is_held_by}
+use Rattle.pl_granting_laws.specs.Below.pl_granting.proofs.Places.{of_job_in}
+use Rattle.pl_granting_laws.specs.Below.pl_granting.specs.Broken.{Broken, BrokenOf, NameBroken}
+use Rattle.pl_granting_laws.specs.Below.pl_granting.specs.Grantable.{IsGrantable}
+use Rattle.pl_granting_laws.specs.Below.pl_granting.specs.Named.{IsJobOf, JobOf, job_in}
+use Rattle.pl_granting_laws.specs.Below.pl_granting.specs.Named.{job_in_stage, job_labelled}
+use Rattle.pl_granting_laws.specs.Below.pl_granting.specs.Named.{job_named}
+use Rattle.pl_granting_laws.specs.Below.pl_granting.specs.Named.{stage_named}
+use Rattle.pl_granting_laws.specs.Below.pl_granting.specs.Rules.{is_held_by}
 use Rattle.pl_history.specs.Claims.{IsAnsweredExactly, MayBeGiven, taken_by}
-use Rattle.pl_jobs.specs.Granting.{give, give_named, job_reply}
+use Rattle.pl_step.specs.Below.pl_jobs.specs.Granting.{give, give_named, job_reply}
 use Rattle.pl_journal.specs.Runs.{queueing, run_told}
 use Rattle.pl_journal.specs.Settings.{by}
 use Rattle.pl_plan.specs.declared.plan.PlanStage.{PlanStage}

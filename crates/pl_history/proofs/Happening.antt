@@ -3,25 +3,28 @@ use Rattle.std.proofs.Common.{◌≡◌, ◌&&◌, ℕ, Bool, true, false, cond,
 use Rattle.std.proofs.Common.{Ok, Err, refl, sym, subst, inl, inr}
 use Rattle.std.specs.Prelude.{codes, is_some, slice_get}
 use Rattle.std.specs.Option.{option_map_or}
-use Rattle.pl_answers.specs.Answers.{empty_object, refused, with_fact}
-use Rattle.pl_answers.specs.declared.answer.Answer.{Answer}
+use Rattle.pl_step.specs.Below.pl_answers.specs.Answers.{empty_object, refused, with_fact}
+use Rattle.pl_step.specs.Below.pl_answers.specs.declared.answer.Answer.{Answer}
 use Rattle.pl_base.specs.Texts.{is}
 use Rattle.pl_base.specs.declared.place.FileKey.{FileKey}
-use Rattle.pl_decisions.specs.Decisions.{closed, decide, is_same, kept, stage_named, unfit}
+use Rattle.pl_step.specs.Below.pl_decisions.specs.Decisions.{closed, decide, is_same, kept}
+use Rattle.pl_step.specs.Below.pl_decisions.specs.Decisions.{stage_named, unfit}
 use Rattle.pl_facts.specs.declared.fact.Event.{Event}
 use Rattle.pl_facts.specs.declared.fact.Event.TheVariants as event
 use Rattle.pl_facts.specs.declared.fact.QueuedRun.{QueuedRun}
-use Rattle.pl_granting.specs.Named.{JobOf, job_named}
-use Rattle.pl_granting.specs.Rules.{is_held_by}
-use Rattle.pl_jobs.specs.Granting.{Asks, AsksAs, AsAgent, Claims, ClaimsAs, Draws, DrawsAs}
-use Rattle.pl_jobs.specs.Granting.{give, give_drawn, give_named, why_answer}
-use Rattle.pl_jobs.specs.Reports.{ended_otherwise, has_outputs, is_outcome, is_taker, report}
-use Rattle.pl_jobs.specs.Reports.{reported}
+use Rattle.pl_granting_laws.specs.Below.pl_granting.specs.Named.{JobOf, job_named}
+use Rattle.pl_granting_laws.specs.Below.pl_granting.specs.Rules.{is_held_by}
+use Rattle.pl_step.specs.Below.pl_jobs.specs.Granting.{Asks, AsksAs, AsAgent, Claims, ClaimsAs}
+use Rattle.pl_step.specs.Below.pl_jobs.specs.Granting.{Draws, DrawsAs}
+use Rattle.pl_step.specs.Below.pl_jobs.specs.Granting.{give, give_drawn, give_named, why_answer}
+use Rattle.pl_step.specs.Below.pl_jobs.specs.Reports.{ended_otherwise, has_outputs, is_outcome}
+use Rattle.pl_step.specs.Below.pl_jobs.specs.Reports.{is_taker, report}
+use Rattle.pl_step.specs.Below.pl_jobs.specs.Reports.{reported}
 use Rattle.pl_journal.specs.Log.{Log}
 use Rattle.pl_journal.specs.Runs.{canceling, queueing, run_told}
 use Rattle.pl_journal.specs.Settings.{admin, by, file, file_put}
 use Rattle.pl_open_runs.specs.Open.{is_open}
-use Rattle.pl_queueing.specs.Queueing.{Made, next_run, queue, unknown_use}
+use Rattle.pl_step.specs.Below.pl_queueing.specs.Queueing.{Made, next_run, queue, unknown_use}
 use Rattle.pl_requests.specs.declared.request.JobName.{JobName}
 use Rattle.pl_requests.specs.declared.request.Report.{Report}
 use Rattle.pl_requests.specs.declared.request.Request.{Request}
@@ -31,9 +34,10 @@ use Rattle.pl_requests.specs.declared.settings.PipelineSetting.{PipelineSetting}
 use Rattle.pl_requests.specs.declared.settings.PrincipalSetting.{PrincipalSetting}
 use Rattle.pl_requests.specs.declared.settings.ResourceSetting.{ResourceSetting}
 use Rattle.pl_rules.specs.declared.rule.Rule.{Rule}
-use Rattle.pl_runs.specs.Runs.{cancel, read_run}
-use Rattle.pl_settings.specs.Files.{get_file, remove_file}
-use Rattle.pl_settings.specs.Settings.{busy, other_owner, set_pipeline, set_principal}
+use Rattle.pl_step.specs.Below.pl_runs.specs.Runs.{cancel, read_run}
+use Rattle.pl_step.specs.Below.pl_settings.specs.Files.{get_file, remove_file}
+use Rattle.pl_step.specs.Below.pl_settings.specs.Settings.{busy, other_owner, set_pipeline}
+use Rattle.pl_step.specs.Below.pl_settings.specs.Settings.{set_principal}
 use Rattle.pl_step.specs.Answering.{Answers}
 
 -- no stage starts or ends by a request; what becomes exclusive isn't busy; a run that is queued has

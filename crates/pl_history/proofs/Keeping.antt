@@ -13,10 +13,10 @@ use Rattle.pl_journal.specs.Runs.{number_told, queueing, run_told, stage_start}
 use Rattle.pl_journal.specs.Settings.{by}
 use Rattle.pl_log.proofs.Naming.{exact_key}
 use Rattle.pl_log.specs.Keys.{Queue, Run, Stage, same_key}
-use Rattle.pl_settling.proofs.Behind.{touched, untouched}
-use Rattle.pl_settling.proofs.Occupying.{IsQuiet, keeps_one, quiet_if, still_one}
-use Rattle.pl_settling.specs.Gives.{Gives}
-use Rattle.pl_settling.specs.Laws.{HasOneHolder}
+use Rattle.pl_granting_laws.specs.Below.pl_settling.proofs.Behind.{touched, untouched}
+use Rattle.pl_granting_laws.specs.Below.pl_settling.proofs.Occupying.{IsQuiet, keeps_one, quiet_if, still_one}
+use Rattle.pl_granting_laws.specs.Below.pl_settling.specs.Gives.{Gives}
+use Rattle.pl_granting_laws.specs.Below.pl_settling.specs.Laws.{HasOneHolder}
 use Rattle.pl_step.specs.Full.{with_facts}
 
 -- ---- what stays: an exclusive resource has one holder at most, a stage that was started is of a

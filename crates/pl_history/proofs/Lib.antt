@@ -10,3 +10,5 @@ pub mod Queued
 pub mod Requesting
 pub mod Settled
 pub mod Standing
+pub mod Within
+pub mod Fresh

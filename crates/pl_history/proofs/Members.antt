@@ -4,7 +4,7 @@ use Rattle.std.proofs.Common.{◌∷◌, ◌++◌, filter, flat_map, length, ref
 use Rattle.std.proofs.Common.{inl, inr, arith}
 use Rattle.std.specs.List.{Contains, list_any}
 use Rattle.std.proofs.lemmas.List.{length-append}
-use Rattle.pl_due.proofs.Members.{cons_cases, here, there}
+use Rattle.pl_granting_laws.specs.Below.pl_settling.specs.Below.pl_due.proofs.Members.{cons_cases, here, there}
 use Rattle.pl_graph.proofs.Lists.{Contains-none}
 
 module _ {X : Type 0} (p : X → Bool) where

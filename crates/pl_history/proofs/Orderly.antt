@@ -15,13 +15,13 @@ use Rattle.pl_journal.specs.About.{second_of}
 use Rattle.pl_journal.specs.Log.{Log, last_run}
 use Rattle.pl_journal.specs.Runs.{queueing}
 use Rattle.pl_log.specs.Keys.{Queue, Run, names, same_key}
-use Rattle.pl_queueing.specs.Queueing.{Made}
+use Rattle.pl_step.specs.Below.pl_queueing.specs.Queueing.{Made}
 use Rattle.pl_requests.specs.declared.call.Call.{Call}
-use Rattle.pl_settling.proofs.Adding.{kept_along}
-use Rattle.pl_settling.proofs.Occupying.{quiet_if}
+use Rattle.pl_granting_laws.specs.Below.pl_settling.proofs.Adding.{kept_along}
+use Rattle.pl_granting_laws.specs.Below.pl_settling.proofs.Occupying.{quiet_if}
 use Rattle.pl_history.specs.Claims.{IsOrderly}
-use Rattle.pl_settling.specs.Gives.{Gives}
-use Rattle.pl_settling.specs.Settles.{Adds}
+use Rattle.pl_granting_laws.specs.Below.pl_settling.specs.Gives.{Gives}
+use Rattle.pl_granting_laws.specs.Below.pl_settling.specs.Settles.{Adds}
 use Rattle.pl_step.specs.Full.{last_number, with_facts}
 use Rattle.pl_step.specs.Step.{happened}
 use Rattle.pl_step.specs.declared.held.Held.{Held}
@@ -94,7 +94,7 @@ module _ (settling : Settling) (coming : Coming) (held : Held) (log : Log) (call
   due_adds : Adds call.moment log.facts is.due
   due_adds = adds held log call made added is
 
-  settled : Orderly (with_facts log is.due)
+  pub settled : Orderly (with_facts log is.due)
   settled = record {
     orderly = settling call.moment log.facts is.due due_adds was.orderly;
     below = along_last BelowAt log.facts is.due was.below
@@ -141,7 +141,7 @@ module _ (settling : Settling) (coming : Coming) (opening : Opening) where
       (append_assoc before (entry ∷ []) entries)
       (orderly_from (before ++ entry ∷ []) entries
       (orderly_more opening before entry
-      (entry_orderly settling coming (held_of before) (log_of opening before) entry.call is.0
+      (entry_orderly settling coming (held_of opening before) (log_of opening before) entry.call is.0
       entry.facts is.1 was)) legal.1)
 
   first_orderly : IsOrderly opening → Orderly (log_of opening [])

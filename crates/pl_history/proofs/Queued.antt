@@ -3,8 +3,8 @@ use Rattle.std.proofs.Common.{◌≡◌, ◌&&◌, ℕ, Bool, true, false, List,
 use Rattle.std.proofs.Common.{filter_map, if◌then◌else◌, refl, sym, subst, inl, inr}
 use Rattle.std.specs.List.{Contains, cons_option}
 use Rattle.std.specs.Option.{option_or}
-use Rattle.pl_due.proofs.Members.{here, there}
-use Rattle.pl_due.proofs.Standing.{first_of_two, second_of_two}
+use Rattle.pl_granting_laws.specs.Below.pl_settling.specs.Below.pl_due.proofs.Members.{here, there}
+use Rattle.pl_granting_laws.specs.Below.pl_settling.specs.Below.pl_due.proofs.Standing.{first_of_two, second_of_two}
 use Rattle.pl_facts.specs.declared.fact.Fact.{Fact}
 use Rattle.pl_journal.specs.About.{is_about}
 use Rattle.pl_journal.specs.Kinds.{is_queueing}

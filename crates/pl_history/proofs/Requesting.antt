@@ -10,9 +10,10 @@ use Rattle.std.proofs.lemmas.Bool.{leb-false}
 use Rattle.std.proofs.lemmas.List.FromFn.{get_or-range_with_len, length-range_with_len}
 use Rattle.std.proofs.lemmas.Option.{none-some, slice_get_within}
 use Rattle.pl_base.specs.declared.resource.ResourceKey.{ResourceKey}
-use Rattle.pl_due.proofs.Standing.{both, first_of_two, is_nothing, second_of_two}
-use Rattle.pl_due.specs.Checked.{is_exclusive}
-use Rattle.pl_due.specs.Nodes.{IsStageOf, is_running}
+use Rattle.pl_granting_laws.specs.Below.pl_settling.specs.Below.pl_due.proofs.Standing.{both, first_of_two, is_nothing}
+use Rattle.pl_granting_laws.specs.Below.pl_settling.specs.Below.pl_due.proofs.Standing.{second_of_two}
+use Rattle.pl_granting_laws.specs.Below.pl_settling.specs.Below.pl_due.specs.Checked.{is_exclusive}
+use Rattle.pl_granting_laws.specs.Below.pl_settling.specs.Below.pl_due.specs.Nodes.{IsStageOf, is_running}
 use Rattle.pl_facts.specs.declared.fact.Event.{Event}
 use Rattle.pl_facts.specs.declared.fact.Event.TheVariants as event
 use Rattle.pl_facts.specs.declared.fact.Fact.{Fact}
@@ -26,14 +27,15 @@ use Rattle.pl_log.proofs.Naming.{exact_key}
 use Rattle.pl_log.specs.Keys.{Queue, Resource, Run, Stage, resource_cmp, same_key}
 use Rattle.pl_open_runs.specs.Open.{queued_runs}
 use Rattle.pl_plan.specs.declared.plan.PlanStage.{PlanStage}
-use Rattle.pl_queueing.specs.Queueing.{next_run}
+use Rattle.pl_step.specs.Below.pl_queueing.specs.Queueing.{next_run}
 use Rattle.pl_requests.specs.declared.settings.ResourceSetting.{ResourceSetting}
-use Rattle.pl_settings.specs.Running.{Stage as RunningStage, running_among, running_at, running_of}
-use Rattle.pl_settings.specs.Running.{running_on, uses}
-use Rattle.pl_settings.specs.Running as running
-use Rattle.pl_settings.specs.Settings.{busy, busy_with}
-use Rattle.pl_settling.proofs.Behind.{none_before, touched, untouched}
-use Rattle.pl_settling.specs.Laws.{Occupies}
+use Rattle.pl_step.specs.Below.pl_settings.specs.Running.{Stage as RunningStage, running_among}
+use Rattle.pl_step.specs.Below.pl_settings.specs.Running.{running_at, running_of}
+use Rattle.pl_step.specs.Below.pl_settings.specs.Running.{running_on, uses}
+use Rattle.pl_step.specs.Below.pl_settings.specs.Running as running
+use Rattle.pl_step.specs.Below.pl_settings.specs.Settings.{busy, busy_with}
+use Rattle.pl_granting_laws.specs.Below.pl_settling.proofs.Behind.{none_before, touched, untouched}
+use Rattle.pl_granting_laws.specs.Below.pl_settling.specs.Laws.{Occupies}
 use Rattle.pl_step.specs.Full.{last_number}
 use Rattle.pl_history.proofs.Happening.{Happens}
 use Rattle.pl_history.proofs.Keeping.{AreBelow, Sound, idle_keeps, no_start, numbers_stay}

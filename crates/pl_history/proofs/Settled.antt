@@ -1,20 +1,20 @@
 -- Each entry of a history begins with what was due, and leaves no gap there.
 use Rattle.std.proofs.Common.{◌≡◌, ℕ, List, [], ◌∷◌, ◌++◌, None, sym, ap, subst, ◌∙◌}
 use Rattle.std.proofs.lemmas.List.{append-nil, append_assoc}
-use Rattle.pl_answers.specs.declared.answer.Answer.{Answer}
-use Rattle.pl_due.specs.Due.{IsDue}
+use Rattle.pl_step.specs.Below.pl_answers.specs.declared.answer.Answer.{Answer}
+use Rattle.pl_granting_laws.specs.Below.pl_settling.specs.Below.pl_due.specs.Due.{IsDue}
 use Rattle.pl_facts.specs.declared.entry.Entry.{Entry}
 use Rattle.pl_facts.specs.declared.fact.Fact.{Fact}
 use Rattle.pl_history.specs.Legal.{Legal, LegalFrom}
 use Rattle.pl_history.specs.History.{Opening, held_of, log_of}
 use Rattle.pl_history.specs.Settled.{EachSettles, IsSettled}
 use Rattle.pl_journal.specs.Log.{Log}
-use Rattle.pl_queueing.specs.Queueing.{Made}
+use Rattle.pl_step.specs.Below.pl_queueing.specs.Queueing.{Made}
 use Rattle.pl_requests.specs.declared.call.Call.{Call}
 use Rattle.pl_requests.specs.declared.request.Request.{Request}
 use Rattle.pl_requests.specs.declared.request.Request.TheVariants as request
-use Rattle.pl_settling.specs.Laws.{Gap}
-use Rattle.pl_settling.specs.Settles.{Settles}
+use Rattle.pl_granting_laws.specs.Below.pl_settling.specs.Laws.{Gap}
+use Rattle.pl_granting_laws.specs.Below.pl_settling.specs.Settles.{Settles}
 use Rattle.pl_step.specs.Answering.{Answers}
 use Rattle.pl_step.specs.Full.{with_facts}
 use Rattle.pl_step.specs.Step.{SettlesFor, happened}
@@ -66,7 +66,7 @@ settles_from : NoGap → (opening : Opening) (before entries : List Entry) →
 settles_from no_gap opening before [] legal = tt
 settles_from no_gap opening before (entry ∷ entries) legal =
     let is = entered opening before entry legal.0 in (
-      entry_settled no_gap (held_of before) (log_of opening before) entry.call is.0 entry.facts
+      entry_settled no_gap (held_of opening before) (log_of opening before) entry.call is.0 entry.facts
           is.1 (legal.0).adds,
       subst (λ (fs : List Fact). EachSettles fs entries) (sym (facts_more opening before entry))
           (settles_from no_gap opening (before ++ entry ∷ []) entries legal.1),

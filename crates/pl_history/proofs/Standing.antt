@@ -20,15 +20,16 @@ use Rattle.pl_journal.specs.Log.{Log, last_run, version}
 use Rattle.pl_journal.specs.Runs.{number_told, queueing, stage_start}
 use Rattle.pl_journal.specs.Settings.{by}
 use Rattle.pl_log.specs.Keys.{Queue}
-use Rattle.pl_queueing.specs.Queueing.{Made}
+use Rattle.pl_step.specs.Below.pl_queueing.specs.Queueing.{Made}
 use Rattle.pl_requests.specs.declared.call.Call.{Call}
 use Rattle.pl_requests.specs.declared.request.Request.{Request}
 use Rattle.pl_requests.specs.declared.request.Request.TheVariants as request
-use Rattle.pl_settling.proofs.Adding.{added_so, kept_along}
+use Rattle.pl_granting_laws.specs.Below.pl_settling.proofs.Adding.{added_so, kept_along}
 use Rattle.pl_history.specs.Access.{HoldAlone, IsSound, StartAsNext}
-use Rattle.pl_settling.specs.Laws.{Along, HasOneHolder, NextIfStart, StartsAsNext, StillOneHolder}
-use Rattle.pl_settling.specs.Settles.{Adds}
-use Rattle.pl_step.specs.Full.{last_number, most_bytes, most_entries, with_facts}
+use Rattle.pl_granting_laws.specs.Below.pl_settling.specs.Laws.{Along, HasOneHolder, NextIfStart, StartsAsNext, StillOneHolder}
+use Rattle.pl_granting_laws.specs.Below.pl_settling.specs.Settles.{Adds}
+use Rattle.pl_step.specs.Full.{is_large, last_number, most_bytes, most_entries, next_change}
+use Rattle.pl_step.specs.Full.{with_facts}
 use Rattle.pl_step.specs.Step.{SettlesFor, happened}
 use Rattle.pl_step.specs.declared.held.Held.{Held}
 use Rattle.pl_history.proofs.Entering.{IsEntered, entered_by}
@@ -99,10 +100,12 @@ module _ (held : Held) (log : Log) (call : Call) (made : Made) (added : List Fac
 
   not_long : last_run (with_facts log added) ≤ last_number
   not_long =
+      let room = or_parts (is_large held (with_facts log added) call.request added)
+      (nat_lt last_number (next_change held log added)) is.room in
       let parts = or_parts (nat_le most_entries held.entries)
       (nat_lt most_bytes (held.size + size_with call.request added)
       || (nat_lt last_number (last_run (with_facts log added))
-      || nat_lt last_number (version (with_facts log added)))) is.room in
+      || nat_lt last_number (version (with_facts log added)))) room.0 in
       let more = or_parts (nat_lt most_bytes (held.size + size_with call.request added))
       (nat_lt last_number (last_run (with_facts log added))
       || nat_lt last_number (version (with_facts log added))) parts.1 in
@@ -170,10 +173,10 @@ module _ (held : Held) (log : Log) (call : Call) (made : Made) (added : List Fac
 
 pub entered : (opening : Opening) (before : List Entry) (entry : Entry) →
     Follows opening before entry → (made : Made)
-    × IsEntered (held_of before) (log_of opening before) entry.call made entry.facts
+    × IsEntered (held_of opening before) (log_of opening before) entry.call made entry.facts
 entered opening before entry follows = (
   follows.made,
-  entered_by (held_of before) (log_of opening before) entry.call follows.made follows.reply
+  entered_by (held_of opening before) (log_of opening before) entry.call follows.made follows.reply
       entry.facts follows.adds follows.steps,
 )
 
@@ -197,7 +200,7 @@ starts_from next opening before [] legal = tt
 starts_from next opening before (entry ∷ entries) legal =
     let is = entered opening before entry legal.0 in
     along_append StartsAsNext (log_of opening before).facts entry.facts (facts_of entries)
-    (entry_starts (held_of before) (log_of opening before) entry.call is.0 entry.facts is.1 next)
+    (entry_starts (held_of opening before) (log_of opening before) entry.call is.0 entry.facts is.1 next)
     (subst (λ (fs : List Fact). Along StartsAsNext fs (facts_of entries))
     (sym (facts_more opening before entry))
     (starts_from next opening (before ++ entry ∷ []) entries legal.1))
@@ -221,12 +224,12 @@ holds_from opening before [] sound legal = tt
 holds_from opening before (entry ∷ entries) sound legal =
     let is = entered opening before entry legal.0 in
     along_append StillOneHolder (log_of opening before).facts entry.facts (facts_of entries)
-    (entry_holds (held_of before) (log_of opening before) entry.call is.0 entry.facts is.1 sound)
+    (entry_holds (held_of opening before) (log_of opening before) entry.call is.0 entry.facts is.1 sound)
     (subst (λ (fs : List Fact). Along StillOneHolder fs (facts_of entries))
     (sym (facts_more opening before entry))
     (holds_from opening (before ++ entry ∷ []) entries
     (sound_more opening before entry
-    (entry_sound (held_of before) (log_of opening before) entry.call is.0 entry.facts is.1 sound))
+    (entry_sound (held_of opening before) (log_of opening before) entry.call is.0 entry.facts is.1 sound))
     legal.1))
 
 -- ---- from what the service was opened with

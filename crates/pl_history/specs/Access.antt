@@ -3,7 +3,7 @@ use Rattle.std.specs.Prelude.{◌≡◌, ◌≤◌, ℕ, List, None}
 use Rattle.pl_facts.specs.declared.entry.Entry.{Entry}
 use Rattle.pl_history.specs.History.{Opening, facts_of}
 use Rattle.pl_journal.specs.Runs.{queueing, stage_start}
-use Rattle.pl_settling.specs.Laws.{Along, HasOneHolder, StartsAsNext, StillOneHolder}
+use Rattle.pl_granting_laws.specs.Below.pl_settling.specs.Laws.{Along, HasOneHolder, StartsAsNext, StillOneHolder}
 
 -- each stage that an entry starts was the next one, on all facts before that
 abbrev pub StartAsNext : Opening → List Entry → Type 0

@@ -2,16 +2,16 @@
 -- without an order of rules; else it is refused by the first rule that is broken.
 use Rattle.std.specs.Prelude.{◌≡◌, ◌≤◌, ◌↔◌, ◌++◌, ℕ, true, List, [], Option, None, Some}
 use Rattle.std.specs.Prelude.{if◌then◌else◌}
-use Rattle.pl_answers.specs.Answers.{refused}
+use Rattle.pl_step.specs.Below.pl_answers.specs.Answers.{refused}
 use Rattle.pl_facts.specs.declared.fact.Event.TheVariants as event
 use Rattle.pl_facts.specs.declared.fact.Fact.{Fact}
-use Rattle.pl_granting.specs.Broken.{NameBroken}
-use Rattle.pl_granting.specs.Grantable.{IsGrantable}
-use Rattle.pl_granting.specs.Named.{JobOf, job_named}
-use Rattle.pl_granting.specs.Rules.{is_held_by}
+use Rattle.pl_granting_laws.specs.Below.pl_granting.specs.Broken.{NameBroken}
+use Rattle.pl_granting_laws.specs.Below.pl_granting.specs.Grantable.{IsGrantable}
+use Rattle.pl_granting_laws.specs.Below.pl_granting.specs.Named.{JobOf, job_named}
+use Rattle.pl_granting_laws.specs.Below.pl_granting.specs.Rules.{is_held_by}
 use Rattle.pl_granting_laws.specs.Histories.{AreOrderly}
 use Rattle.pl_history.specs.History.{Opening}
-use Rattle.pl_jobs.specs.Granting.{job_reply, why_answer}
+use Rattle.pl_step.specs.Below.pl_jobs.specs.Granting.{job_reply, why_answer}
 use Rattle.pl_journal.specs.Log.{Log}
 use Rattle.pl_journal.specs.Runs.{queueing}
 use Rattle.pl_journal.specs.Settings.{agent, principal_with}
@@ -22,7 +22,7 @@ use Rattle.pl_requests.specs.declared.settings.AgentSetting.{AgentSetting}
 use Rattle.pl_requests.specs.declared.settings.PrincipalSetting.{PrincipalSetting}
 use Rattle.pl_rules.specs.declared.rule.Rule.{Rule}
 use Rattle.pl_rules.specs.declared.rule.Rule.TheVariants as rules
-use Rattle.pl_settling.specs.Settles.{Settles}
+use Rattle.pl_granting_laws.specs.Below.pl_settling.specs.Settles.{Settles}
 use Rattle.pl_step.specs.Callers.{may_call}
 use Rattle.pl_step.specs.Step.{happened, refusing, stepped_with}
 use Rattle.pl_step.specs.declared.stepped.Stepped.{Stepped}

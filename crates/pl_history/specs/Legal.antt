@@ -4,7 +4,7 @@ use Rattle.pl_facts.specs.declared.entry.Entry.{Entry}
 use Rattle.pl_history.specs.Made.{IsMadeFor}
 use Rattle.pl_history.specs.History.{Opening, held_of, log_of}
 use Rattle.pl_journal.specs.Log.{last_moment}
-use Rattle.pl_queueing.specs.Queueing.{Made}
+use Rattle.pl_step.specs.Below.pl_queueing.specs.Queueing.{Made}
 use Rattle.pl_requests.specs.WellFormed.{is_well_formed}
 use Rattle.pl_requests.specs.declared.reply.Reply.{Reply}
 use Rattle.pl_step.specs.Step.{IsStep, stepped_with}
@@ -20,7 +20,7 @@ pub record Follows (opening : Opening) (before : List Entry) (entry : Entry) : T
   pub is : IsMadeFor (log_of opening before) entry.call made
   pub reply : Reply
   pub steps :
-      IsStep (held_of before) (log_of opening before) entry.call made
+      IsStep (held_of opening before) (log_of opening before) entry.call made
       (stepped_with reply entry.facts)
 
 -- behind these entries, one after the other

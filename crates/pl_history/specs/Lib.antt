@@ -5,3 +5,5 @@ pub mod History
 pub mod Legal
 pub mod Made
 pub mod Settled
+pub mod Numbers
+pub mod Below

@@ -3,11 +3,11 @@ use Rattle.std.specs.Prelude.{◌≡◌, ◌⊎◌, true, false, Option, Some, N
 use Rattle.pl_compilation.specs.Made.{IsMade}
 use Rattle.pl_journal.specs.Log.{Log}
 use Rattle.pl_journal.specs.Settings.{principal_with}
-use Rattle.pl_queueing.specs.Queueing.{Made}
+use Rattle.pl_step.specs.Below.pl_queueing.specs.Queueing.{Made}
 use Rattle.pl_requests.specs.declared.call.Call.{Call}
 use Rattle.pl_requests.specs.declared.settings.PrincipalSetting.{PrincipalSetting}
-use Rattle.pl_snapshots.specs.Snapshots.{Wants}
-use Rattle.pl_snapshots.specs.declared.snapshot.Snapshot.{Snapshot}
+use Rattle.pl_compilation.specs.Below.pl_snapshots.specs.Snapshots.{Wants}
+use Rattle.pl_compilation.specs.Below.pl_snapshots.specs.declared.snapshot.Snapshot.{Snapshot}
 use Rattle.pl_step.specs.Callers.{may_call}
 
 -- what is to be compiled: nothing, where the caller isn't known or may not make the call

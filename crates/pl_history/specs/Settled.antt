@@ -4,8 +4,8 @@ use Rattle.pl_facts.specs.declared.entry.Entry.{Entry}
 use Rattle.pl_facts.specs.declared.fact.Event.{Event}
 use Rattle.pl_facts.specs.declared.fact.Fact.{Fact}
 use Rattle.pl_requests.specs.declared.call.Call.{Call}
-use Rattle.pl_settling.specs.Laws.{Gap}
-use Rattle.pl_settling.specs.Settles.{Settles}
+use Rattle.pl_granting_laws.specs.Below.pl_settling.specs.Laws.{Gap}
+use Rattle.pl_granting_laws.specs.Below.pl_settling.specs.Settles.{Settles}
 use Rattle.pl_step.specs.Step.{happened}
 
 -- These facts are all that was due, and then what happens by the call, which is one thing at most.

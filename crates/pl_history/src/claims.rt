@@ -5,14 +5,12 @@ ghost use Rattle.pl_history.specs.Claims.{IsOrderly};
 ghost use Rattle.pl_history.specs.Guarded.{IsAnswered};
 ghost use Rattle.pl_history.specs.History.{Opening, held_of, log_of, opened};
 ghost use Rattle.pl_history.specs.Legal.{Legal};
-ghost use Rattle.pl_queueing.specs.Queueing.{Made};
+ghost use Rattle.pl_step.specs.Below.pl_queueing.specs.Queueing.{Made};
 ghost use Rattle.pl_requests.specs.declared.call.Call.{Call};
 ghost use Rattle.pl_step.specs.Step.{IsStep};
 ghost use Rattle.pl_step.specs.declared.stepped.Stepped.{Stepped};
 
-use pl_granting::granting_laws;
-use pl_granting_laws::history_laws;
-use pl_settling::settling_laws;
+use pl_granting_laws::{granting_laws, history_laws, settling_laws};
 
 /// Laws of claims, behind every legal history whose opening is orderly. A service that is opened
 /// for the first time is.
@@ -27,7 +25,7 @@ use pl_settling::settling_laws;
 pub fn claim_laws()
     ensures answered { (opening : Opening) (entries : List Entry) → IsOrderly opening →
         Legal opening entries → (call : Call) (made : Made) (stepped : Stepped) →
-        IsStep (held_of entries) (log_of opening entries) call made stepped →
+        IsStep (held_of opening entries) (log_of opening entries) call made stepped →
         IsAnswered opening entries call stepped }
     ensures orderly { (admin : Digest) → IsOrderly (opened admin) }
 {

@@ -6,7 +6,7 @@ ghost use Rattle.pl_history.specs.Guarded.{IsGuarded};
 ghost use Rattle.pl_history.specs.History.{Opening, opened};
 ghost use Rattle.pl_history.specs.Legal.{Legal};
 
-use pl_settling::settling_laws;
+use pl_granting_laws::settling_laws;
 
 /// Laws of legal histories.
 ///

@@ -15,10 +15,10 @@ use Rattle.pl_changes.specs.Differing.{AreOnePerPlace, Joins}
 use Rattle.pl_changes.proofs.Differs.{differ, once as once_each}
 use Rattle.pl_changes.proofs.Leading.{none_some, turned}
 use Rattle.pl_changes.proofs.Places.{find_behind, if_false, if_true, itself, same_place, Place}
-use Rattle.pl_kept.specs.Kept.{row_at, Where}
-use Rattle.pl_places.proofs.OnePlace.{stands_there}
+use Rattle.pl_rows.specs.Below.pl_kept.specs.Kept.{row_at, Where}
+use Rattle.pl_rows.specs.Below.pl_places.proofs.OnePlace.{stands_there}
 use Rattle.pl_rows.proofs.Entry.{not_first}
-use Rattle.pl_touched.specs.Touched.{rows_at, touched_by}
+use Rattle.pl_rows.specs.Below.pl_touched.specs.Touched.{rows_at, touched_by}
 use Rattle.pl_row_changes.specs.Counting.{counted, firsts, row_changes, rows_touched}
 use Rattle.pl_row_changes.proofs.Firsts.{firsts_apart, firsts_there}
 use Rattle.pl_row_changes.proofs.OnePerPlace.{any_at, equally_long, none_there, once_without}

@@ -1,5 +1,6 @@
 -- The changes of what is looked at are those of the entry.
-use Rattle.std.proofs.Common.{◌≡◌, ◌↔◌, ℕ, ◌+◌, Bool, true, false, nat_lt, true≢false, List, [], ◌++◌, length}
+use Rattle.std.proofs.Common.{◌≡◌, ◌↔◌, ℕ, ◌+◌, Bool, true, false, nat_lt, true≢false, List, []}
+use Rattle.std.proofs.Common.{◌++◌, length}
 use Rattle.std.proofs.Common.{Result, Ok, Err, IfOk}
 use Rattle.std.proofs.Common.{Option, Some, None, refl, sym, ap, subst, ◌∙◌, append-nil, arith}
 use Rattle.std.specs.List.{list_any}
@@ -14,15 +15,16 @@ use Rattle.pl_keeper.specs.Keeping.{all_changed}
 use Rattle.pl_keeper.specs.Rows.{row_of}
 use Rattle.pl_keeper.specs.declared.records.Record.{Record}
 use Rattle.pl_keeper.specs.declared.records.Record.TheVariants as kept
-use Rattle.pl_changes.specs.Differing.{differing, is_change_at, row_in, Apart, AreOnePerPlace, Joins}
+use Rattle.pl_changes.specs.Differing.{differing, is_change_at, row_in, Apart, AreOnePerPlace}
+use Rattle.pl_changes.specs.Differing.{Joins}
 use Rattle.pl_changes.proofs.Differs.{differ}
-use Rattle.pl_kept.specs.Kept.{numbers_kept}
+use Rattle.pl_rows.specs.Below.pl_kept.specs.Kept.{numbers_kept}
 use Rattle.pl_rows.specs.Entry.{with_added, AllFit, AreLookedAt}
 use Rattle.pl_rows.specs.State.{AreRows}
 use Rattle.pl_rows.proofs.Entry.{all_fit, overlooks_nothing}
 use Rattle.pl_rows.proofs.Keeping.{kept_behind}
 use Rattle.pl_rows.proofs.OneList.{one_list}
-use Rattle.pl_touched.specs.Touched.{rows_at, touched_by, AreNewTo, FitAt}
+use Rattle.pl_rows.specs.Below.pl_touched.specs.Touched.{rows_at, touched_by, AreNewTo, FitAt}
 use Rattle.pl_row_changes.specs.Changing.{AreOfEntry}
 use Rattle.pl_row_changes.specs.Counting.{counted, row_changes}
 use Rattle.pl_row_changes.specs.Looking.{numbers, IsLooked}

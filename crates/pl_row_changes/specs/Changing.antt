@@ -10,7 +10,7 @@ use Rattle.pl_changes.specs.Differing.{is_change_at, row_in, AreOnePerPlace}
 use Rattle.pl_rows.specs.Entry.{with_added, AllFit}
 use Rattle.pl_rows.specs.State.{AreRows}
 use Rattle.pl_row_changes.specs.Counting.{counted, row_changes}
-use Rattle.pl_touched.specs.Touched.{AreNewTo}
+use Rattle.pl_rows.specs.Below.pl_touched.specs.Touched.{AreNewTo}
 
 -- without the facts that aren't installed
 abbrev pub installed : Log → Log

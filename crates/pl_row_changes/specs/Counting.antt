@@ -5,7 +5,7 @@ use Rattle.pl_base.specs.declared.row.Row.{Row}
 use Rattle.pl_facts.specs.declared.fact.Fact.{Fact}
 use Rattle.pl_keeper.specs.Keeping.{place}
 use Rattle.pl_changes.specs.Differing.{differing, is_change_at, stands_at}
-use Rattle.pl_touched.specs.Touched.{rows_at, touched_by}
+use Rattle.pl_rows.specs.Below.pl_touched.specs.Touched.{rows_at, touched_by}
 
 -- of each place the first row
 abbrev pub firsts : List Row → List Row

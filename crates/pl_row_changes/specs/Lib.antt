@@ -1,3 +1,4 @@
+pub mod Below
 pub mod Changing
 pub mod Counting
 pub mod Looking

@@ -6,7 +6,7 @@ use Rattle.pl_facts.specs.declared.fact.Fact.{Fact}
 use Rattle.pl_journal.specs.Log.{Log}
 use Rattle.pl_keeper.specs.Rows.{row_of}
 use Rattle.pl_changes.specs.Differing.{differing}
-use Rattle.pl_kept.specs.Kept.{numbers_kept}
+use Rattle.pl_rows.specs.Below.pl_kept.specs.Kept.{numbers_kept}
 use Rattle.pl_rows.specs.Entry.{AreLookedAt}
 use Rattle.pl_row_changes.specs.declared.looked.Looked.{Looked}
 

@@ -8,3 +8,4 @@ mod pushing;
 
 pub use changing::{EntryChanges, changes_of};
 pub use numbers::with_numbers;
+pub use pl_touching::{Spot, row_at};

@@ -7,7 +7,7 @@ ghost use Rattle.pl_row_changes.specs.Looking.{numbers};
 use pl_base::{Memory, Row};
 use pl_changes::differing;
 use pl_journal::Journal;
-use pl_kept::numbers_row;
+use pl_rows::numbers_row;
 use std::alloc::Global;
 
 /// The row of the service's numbers, if there is one.

@@ -3,7 +3,7 @@ use Rattle.std.proofs.Common.{◌≡◌, ◌≤◌, ◌<◌, ◌⊎◌, ◌+◌,
 use Rattle.std.proofs.Common.{length}
 use Rattle.std.proofs.Common.{take, drop, get_or, inl, inr}
 use Rattle.std.proofs.Common.{slice_get, sym, ap, ◌∙◌, subst, arith}
-use Rattle.std.proofs.lemmas.List.{append_assoc, append-nil, drop-append-le}
+use Rattle.std.proofs.lemmas.List.{append_assoc, append-nil, drop-append-le, length-append}
 use Rattle.std.proofs.lemmas.List.{length-take-le, take-append-drop}
 use Rattle.std.proofs.lemmas.Option.{get_or_from_slice_get, slice_get_cases, slice_get_within}
 use Rattle.std.proofs.Math.Seq.{drop-append_seam, take-append_seam, take-suc}
@@ -79,3 +79,12 @@ module _ (log : Log) (all : log.installed ≡ length log.facts) (due more : List
   pub added : (from : ℕ) → from ≡ length log.facts → drop from new.facts ≡ due ++ more
   added from is =
       ap (λ after. drop from after.facts) both ∙ behind log all (due ++ more) from is
+
+  pub within : (from : ℕ) → from ≡ length log.facts → from ≤ length new.facts
+  within from is =
+      omega (
+        arith,
+        is,
+        ap (λ after. length after.facts) both,
+        length-append log.facts (due ++ more),
+      )

@@ -12,8 +12,8 @@ use Rattle.pl_decisions.specs.Decisions as decisions
 use Rattle.pl_facts.specs.declared.fact.Event.TheVariants as event
 use Rattle.pl_facts.specs.declared.fact.Fact.{Fact}
 use Rattle.pl_facts.specs.declared.fact.QueuedRun.{QueuedRun}
-use Rattle.pl_granting.specs.Named.{JobOf, job_named}
-use Rattle.pl_granting.specs.Rules.{is_held_by}
+use Rattle.pl_jobs.specs.Below.pl_granting.specs.Named.{JobOf, job_named}
+use Rattle.pl_jobs.specs.Below.pl_granting.specs.Rules.{is_held_by}
 use Rattle.pl_jobs.specs.Granting.{AsAgent, AsksAs, ClaimsAs, DrawsAs, give, job_reply}
 use Rattle.pl_jobs.specs.Reports as reports
 use Rattle.pl_journal.specs.Log.{Log}

@@ -1,4 +1,5 @@
 pub mod Asked
 pub mod Behind
 pub mod Fitting
+pub mod Rowed
 pub mod Serving

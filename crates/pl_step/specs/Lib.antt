@@ -1,4 +1,5 @@
 pub mod Answering
+pub mod Below
 pub mod Callers
 pub mod Fits
 pub mod Full

@@ -16,7 +16,7 @@ use Rattle.pl_requests.specs.declared.request.Request.TheVariants as request
 use Rattle.pl_requests.specs.declared.settings.PrincipalSetting.{PrincipalSetting}
 use Rattle.pl_rules.specs.declared.rule.Rule.{Rule}
 use Rattle.pl_rules.specs.declared.rule.Rule.TheVariants as rules
-use Rattle.pl_settling.specs.Settles.{Settles}
+use Rattle.pl_jobs.specs.Below.pl_settling.specs.Settles.{Settles}
 use Rattle.pl_step.specs.Answering.{Answers}
 use Rattle.pl_step.specs.Callers.{may_call, wanted_roles}
 use Rattle.pl_step.specs.Full.{is_too_much, with_facts}
@@ -45,7 +45,7 @@ forbidden asked = refusing 403 (rules.RoleMissing (wanted_roles asked))
 -- the facts are one entry, unless it is too much: then nothing is added, nor what was due
 abbrev pub given : Held → Log → Request → Stepped → Stepped
 given held log asked stepped =
-    if is_too_much held (with_facts log stepped.added) asked stepped.added
+    if is_too_much held log asked stepped.added
     then refusing 409 rules.JournalFull else stepped
 
 -- a call by somebody who may call it

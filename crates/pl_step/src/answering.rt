@@ -1,7 +1,7 @@
 //! What a request is answered on settled facts.
 
 ghost use Rattle.std.specs.Prelude.{◌≡◌, ◌≤◌, IfOk, codes};
-ghost use Rattle.pl_due.specs.Fit.{AreFit, last_moment};
+ghost use Rattle.pl_decisions.specs.Below.pl_due.specs.Fit.{AreFit, last_moment};
 ghost use Rattle.pl_queueing.specs.Queueing as spec;
 ghost use Rattle.pl_step.specs.Answering.{Answers};
 

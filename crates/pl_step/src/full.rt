@@ -1,6 +1,6 @@
 //! What the service holds at most.
 
-ghost use Rattle.std.specs.Prelude.{◌≡◌};
+ghost use Rattle.std.specs.Prelude.{◌≡◌, nat_lt};
 ghost use Rattle.pl_journal.specs.Log.{Log, last_run, version};
 ghost use Rattle.pl_step.specs.Full as spec;
 
@@ -23,19 +23,18 @@ fn has_long_number(journal: &Journal) -> bool
 }
 
 /// Whether an entry of these facts, which stand in the journal, is too much for the service: it
-/// would be one too many, its texts with those of all entries too long, or a number has more than
-/// 18 digits.
-fn is_full(held: &Held, journal: &Journal, request: &Request, added: &[Fact]) -> bool
-    ensures { result ≡ spec.is_full held.now journal.now request.now added.now }
+/// would be one too many, its texts with those of all entries too long, or the number of a run or
+/// the version of the files has more than 18 digits.
+pub(crate) fn is_large(held: &Held, journal: &Journal, request: &Request, added: &[Fact]) -> bool
+    ensures { result ≡ spec.is_large held.now journal.now request.now added.now }
 {
     let size = held.size.saturating_add(size_with(request, added));
     held.entries >= MOST_ENTRIES || size > MOST_BYTES || has_long_number(journal)
 }
 
-/// Whether these facts, which stand in the journal, are too much for the service. None are no
-/// entry, and never too much.
-pub(crate) fn is_too_much(held: &Held, journal: &Journal, request: &Request, added: &[Fact]) -> bool
-    ensures { result ≡ spec.is_too_much held.now journal.now request.now added.now }
+/// Whether a number has more than 18 digits.
+pub(crate) fn is_long(number: u64) -> bool
+    ensures { result ≡ nat_lt spec.last_number number }
 {
-    !added.is_empty() && is_full(held, journal, request, added)
+    number > LAST_NUMBER
 }

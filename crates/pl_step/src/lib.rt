@@ -11,5 +11,6 @@ mod stepping;
 
 pub use callers::may_call;
 pub use held::Held;
-pub use stepped::Stepped;
+pub use pl_jobs::granting_laws;
+pub use stepped::{Entered, Stepped};
 pub use stepping::step;

@@ -6,11 +6,12 @@ use Rattle.std.proofs.Common.{subst, ◌∙◌}
 use Rattle.std.proofs.lemmas.Option.{none-some}
 use Rattle.pl_answers.specs.declared.answer.Answer.{Answer}
 use Rattle.pl_facts.specs.declared.fact.Fact.{Fact}
-use Rattle.pl_granting.specs.Broken.{Broken, BrokenOf}
-use Rattle.pl_granting.specs.Drawn.{Drawn}
-use Rattle.pl_granting.specs.Named.{JobOf, job_named}
-use Rattle.pl_jobs.specs.Granting.{AsAgent, Asks, AsksAs, Claims, ClaimsAs, Draws, DrawsAs}
-use Rattle.pl_jobs.specs.Granting.{give_drawn, give_named, why_answer}
+use Rattle.pl_step.specs.Below.pl_granting.specs.Broken.{Broken, BrokenOf}
+use Rattle.pl_step.specs.Below.pl_granting.specs.Drawn.{Drawn}
+use Rattle.pl_step.specs.Below.pl_granting.specs.Named.{JobOf, job_named}
+use Rattle.pl_step.specs.Below.pl_jobs.specs.Granting.{AsAgent, Asks, AsksAs, Claims, ClaimsAs}
+use Rattle.pl_step.specs.Below.pl_jobs.specs.Granting.{Draws, DrawsAs}
+use Rattle.pl_step.specs.Below.pl_jobs.specs.Granting.{give_drawn, give_named, why_answer}
 use Rattle.pl_journal.specs.Log.{Log}
 use Rattle.pl_journal.specs.Settings.{agent, principal_with}
 use Rattle.pl_queueing.specs.Queueing.{Made}

@@ -6,8 +6,8 @@ ghost use Rattle.pl_step.specs.Step.{IsStep};
 ghost use Rattle.pl_step.specs.declared.held.Held.{Held};
 ghost use Rattle.pl_step.specs.declared.stepped.Stepped.{Stepped};
 
-use pl_granting::granting_laws;
 use pl_settling::settling_laws;
+use pl_step::granting_laws;
 
 /// A step leaves no choice: what happened before, how much the service holds, the call, and what
 /// was compiled for it tell what the call is answered and which facts it adds.

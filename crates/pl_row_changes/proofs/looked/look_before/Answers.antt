@@ -1,7 +1,7 @@
 use Rattle.std.proofs.Common.{◌≡◌, ◌+◌, ◌++◌, [], length, refl, subst, ◌∙◌}
 use Rattle.pl_changes.specs.Differing.{differing, Joins}
 use Rattle.pl_journal.specs.Log.{Log}
-use Rattle.pl_touched.specs.Touched.{rows_at, touched_by}
+use Rattle.pl_rows.specs.Below.pl_touched.specs.Touched.{rows_at, touched_by}
 use Rattle.pl_row_changes.specs.Changing.{installed}
 use Rattle.pl_row_changes.specs.Looking.{numbers}
 use Rattle.pl_row_changes.proofs.looked.look_before.Goals as goal

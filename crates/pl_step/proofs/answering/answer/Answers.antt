@@ -1,6 +1,6 @@
 use Rattle.std.proofs.Common.{sym, ap, ◌∙◌, subst}
 use Rattle.pl_answers.specs.Answers.{without_fact}
-use Rattle.pl_due.specs.Fit.{AreFit}
+use Rattle.pl_decisions.specs.Below.pl_due.specs.Fit.{AreFit}
 use Rattle.pl_journal.specs.Log.{Log}
 use Rattle.pl_requests.specs.declared.request.Request.TheVariants as request
 use Rattle.pl_step.specs.Answering.{Answers}

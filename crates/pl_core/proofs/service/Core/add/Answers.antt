@@ -6,7 +6,8 @@ use Rattle.pl_facts.specs.Sizes.{counted}
 use Rattle.pl_history.specs.Legal.{Follows}
 use Rattle.pl_history.specs.History.{Opening}
 use Rattle.pl_journal.specs.Log.{Log, last_moment, version}
-use Rattle.pl_core.proofs.Installing.{kept_more, none_pending, numbers_more, size_more}
+use Rattle.pl_core.proofs.Installing.{kept_more, none_pending, number_behind, numbers_more}
+use Rattle.pl_core.proofs.Installing.{size_more}
 use Rattle.pl_core.proofs.service.Core.add.Goals as goal
 
 pub invariant_of-self : goal.invariant_of-self
@@ -17,8 +18,8 @@ invariant_of-self c =
     let kept = c.self.invariant.0 in
     let pending : pending_of log ≡ c.args.entry.facts =
     ap (λ (state : State). state.pending) c.self.view_is ∙ c.requires.1 in
-    let follows : Follows (opening_of log) entries c.args.entry =
-    subst (λ (es : List Entry). Follows (opening_of log) es c.args.entry)
+    let follows : Follows (opening_of c.self.inside.first log) entries c.args.entry =
+    subst (λ (es : List Entry). Follows (opening_of c.self.inside.first log) es c.args.entry)
     (sym (ap (λ (state : State). state.entries) c.self.view_is))
     (subst (λ (o : Opening). Follows o c.args.self.now.entries c.args.entry)
     (sym (ap (λ (state : State). state.opening) c.self.view_is)) c.requires.0) in
@@ -27,13 +28,15 @@ invariant_of-self c =
     let moment = c.last_moment-self-inside.ensures
     ∙ ap (λ (l : Log). last_moment l) c.journal.ensures in
     let files = c.version-self-inside.ensures
-    ∙ ap (λ (l : Log). counted (version l)) c.journal-2.ensures in (
-      subst (λ (es : List Entry). IsKept new es) (sym c.push_reserved.ensures.items)
-          (kept_more log new entries c.args.entry kept pending c.install.ensures follows),
-      subst (λ (es : List Entry). AreNumbers (opening_of new) es
+    ∙ ap (λ (l : Log). counted (version l)) c.journal-2.ensures in
+    let behind = number_behind c.self.inside.first log entries c.args.entry c.self.inside.behind _
+    pending c.self.invariant.2 c.requires.0.adds in (
+      subst (λ (es : List Entry). IsKept c.self.inside.first new es) (sym c.push_reserved.ensures.items)
+          (kept_more c.self.inside.first log new entries c.args.entry kept pending c.install.ensures follows),
+      subst (λ (es : List Entry). AreNumbers (opening_of c.self.inside.first new) es
           c.saturating_add-self-inside.result c.last_moment-self-inside.result
-          c.version-self-inside.result) (sym c.push_reserved.ensures.items)
-          (numbers_more log new entries c.args.entry kept pending c.install.ensures _ _ _ size
-          moment files),
-      inl (none_pending log new entries c.args.entry kept pending c.install.ensures),
+          c.version-self-inside.result c.self.inside.behind) (sym c.push_reserved.ensures.items)
+          (numbers_more c.self.inside.first log new entries c.args.entry kept pending
+          c.install.ensures _ _ _ _ size moment files behind),
+      inl (none_pending c.self.inside.first log new entries c.args.entry kept pending c.install.ensures),
     )

@@ -9,23 +9,23 @@ pub invariant_of-self : goal.invariant_of-self
 invariant_of-self c =
     let log = c.self.inside.journal in
     let entries = c.self.inside.entries.items in
-    let behind = back_behind log c.back_to_installed.new.self entries c.self.invariant.0
+    let behind = back_behind c.self.inside.first log c.back_to_installed.new.self entries c.self.invariant.0
     c.back_to_installed.ensures in (
-      back_kept log c.back_to_installed.new.self entries c.self.invariant.0
+      back_kept c.self.inside.first log c.back_to_installed.new.self entries c.self.invariant.0
           c.back_to_installed.ensures,
-      numbers_behind c.back_to_installed.new.self entries _ (opening_of log) behind _ _ _
+      numbers_behind c.back_to_installed.new.self entries _ (opening_of c.self.inside.first log) behind _ _ _ _
           c.self.invariant.1,
-      inl (pending_behind c.back_to_installed.new.self entries _ (opening_of log) behind),
+      inl (pending_behind c.back_to_installed.new.self entries _ (opening_of c.self.inside.first log) behind),
     )
 
 pub returns : goal.returns
 returns c =
     let log = c.self.inside.journal in
     let entries = c.self.inside.entries.items in
-    let behind = back_behind log c.back_to_installed.new.self entries c.self.invariant.0
+    let behind = back_behind c.self.inside.first log c.back_to_installed.new.self entries c.self.invariant.0
     c.back_to_installed.ensures in
     state_is _ _ _ _ _ _
-    (opening_behind c.back_to_installed.new.self entries _ (opening_of log) behind
+    (opening_behind c.back_to_installed.new.self entries _ (opening_of c.self.inside.first log) behind
     ∙ ap (λ (state : State). state.opening) c.self.view_is)
     (ap (λ (state : State). state.entries) c.self.view_is)
-    (pending_behind c.back_to_installed.new.self entries _ (opening_of log) behind)
+    (pending_behind c.back_to_installed.new.self entries _ (opening_of c.self.inside.first log) behind)

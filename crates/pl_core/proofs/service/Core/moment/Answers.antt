@@ -7,5 +7,5 @@ returns-clause-within c =
     omega (
       arith,
       c.self.invariant.1.moment_is,
-      moment_within c.self.inside.journal c.self.inside.entries.items c.self.invariant.0,
+      moment_within c.self.inside.first c.self.inside.journal c.self.inside.entries.items c.self.invariant.0,
     )

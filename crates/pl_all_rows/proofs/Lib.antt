@@ -1,0 +1,5 @@
+mod Members
+mod Bringing
+pub mod Pushed
+pub mod Ordered
+pub mod Leaving

@@ -1,0 +1,4 @@
+pub mod Rereading
+pub mod Judging
+pub mod Planned
+pub mod Saying
