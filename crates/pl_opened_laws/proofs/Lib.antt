@@ -1,0 +1,13 @@
+pub mod Lists
+pub mod Good
+pub mod Standing
+pub mod Telling
+pub mod Known
+pub mod Tests
+pub mod Runs
+pub mod Again
+pub mod There
+pub mod Fitting
+pub mod Rows
+pub mod Numbers
+pub mod Opening
