@@ -7,15 +7,15 @@ use Rattle.pl_core.specs.Prepared.{IsEntryOf, added_by, entries_with, installed,
 use Rattle.pl_core.specs.State.{State, held, log}
 use Rattle.pl_facts.specs.declared.entry.Entry.{Entry}
 use Rattle.pl_facts.specs.declared.fact.Fact.{Fact}
-use Rattle.pl_history.specs.Claims.{IsOrderly}
-use Rattle.pl_history.specs.Guarded.{IsAnswered, IsGuarded}
-use Rattle.pl_history.specs.Legal.{Legal}
-use Rattle.pl_history.specs.Made.{IsMadeFor}
-use Rattle.pl_history.specs.History.{Opening, held_of, log_of}
+use Rattle.pl_core.specs.Below.pl_history.specs.Claims.{IsOrderly}
+use Rattle.pl_core.specs.Below.pl_history.specs.Guarded.{IsAnswered, IsGuarded}
+use Rattle.pl_core.specs.Below.pl_history.specs.Legal.{Legal}
+use Rattle.pl_core.specs.Below.pl_history.specs.Made.{IsMadeFor}
+use Rattle.pl_core.specs.Below.pl_history.specs.History.{Opening, held_of, log_of}
 use Rattle.pl_queueing.specs.Queueing.{Made}
 use Rattle.pl_requests.specs.declared.call.Call.{Call}
 use Rattle.pl_requests.specs.declared.reply.Reply.{Reply}
-use Rattle.pl_step.specs.Step.{IsStep, stepped_with}
+use Rattle.pl_core.specs.Below.pl_step.specs.Step.{IsStep, stepped_with}
 
 -- ---- the entry is that of the call
 
@@ -80,10 +80,10 @@ module _ (first back prepared last : State) (call : Call) (made : Made) (entry :
     is = carried (λ opening entries. IsMadeFor (log_of opening entries) call made) made_is;
     added = added_by entry;
     steps =
-        subst (λ (told : Reply). IsStep (held_of first.entries)
+        subst (λ (told : Reply). IsStep (held_of first.opening first.entries)
         (log_of first.opening first.entries) call made (stepped_with told (added_by entry)))
         (sym reply_is)
-        (carried (λ opening entries. IsStep (held_of entries) (log_of opening entries) call made
+        (carried (λ opening entries. IsStep (held_of opening entries) (log_of opening entries) call made
         (stepped_with given (added_by entry))) steps);
     opening = ap (λ (state : State). state.opening) last_is ∙ opening_is ∙ back_opening;
     seen =

@@ -4,11 +4,11 @@ use Rattle.pl_alone.specs.declared.alone.Alone.{Alone}
 use Rattle.pl_base.specs.declared.digest.Digest.{Digest}
 use Rattle.pl_facts.specs.declared.entry.Entry.{Entry}
 use Rattle.pl_facts.specs.declared.fact.Fact.{Fact}
-use Rattle.pl_history.specs.Claims.{IsOrderly}
-use Rattle.pl_history.specs.Guarded.{IsAnswered, IsGuarded}
-use Rattle.pl_history.specs.Legal.{Legal}
-use Rattle.pl_history.specs.Made.{IsMadeFor}
-use Rattle.pl_history.specs.History.{Opening, held_of, log_of}
+use Rattle.pl_core.specs.Below.pl_history.specs.Claims.{IsOrderly}
+use Rattle.pl_core.specs.Below.pl_history.specs.Guarded.{IsAnswered, IsGuarded}
+use Rattle.pl_core.specs.Below.pl_history.specs.Legal.{Legal}
+use Rattle.pl_core.specs.Below.pl_history.specs.Made.{IsMadeFor}
+use Rattle.pl_core.specs.Below.pl_history.specs.History.{Opening, held_of, log_of}
 use Rattle.pl_journal.specs.Log.{Log, last_moment}
 use Rattle.pl_queueing.specs.Queueing.{Made}
 use Rattle.pl_requests.specs.declared.call.Call.{Call}
@@ -16,7 +16,7 @@ use Rattle.pl_requests.specs.declared.reply.Reply.{Reply as Replied}
 use Rattle.pl_requests.specs.declared.request.Request.{Request}
 use Rattle.pl_sessions.specs.declared.answer.Answer.{Answer}
 use Rattle.pl_sessions.specs.declared.answer.Answer.TheVariants.{Reply, KeeperFault, Memory}
-use Rattle.pl_step.specs.Step.{IsStep, stepped_with}
+use Rattle.pl_core.specs.Below.pl_step.specs.Step.{IsStep, stepped_with}
 use Rattle.pl_wire.specs.Refusals.{reply_to_refused}
 use Rattle.pl_wire.specs.declared.message.Message.{Message}
 use Rattle.pl_wire.specs.declared.message.Message.TheVariants.{Ask, Refused}
@@ -54,7 +54,7 @@ pub record Serves (old : Parts) (call : Call) (reply : Replied) (new : Parts) : 
   pub made : Made
   pub is : IsMadeFor (log old) call made
   pub added : List Fact
-  pub steps : IsStep (held_of old.seen) (log old) call made (stepped_with reply added)
+  pub steps : IsStep (held_of old.opening old.seen) (log old) call made (stepped_with reply added)
   pub opening : new.opening ≡ old.opening
   pub seen : new.seen ≡ seen_with old.seen call added
   pub legal : Legal new.opening new.seen

@@ -1,9 +1,9 @@
 ghost use Rattle.std.specs.Prelude.{◌≡◌, ◌≤◌, [], true, IfOk, OnErr};
 ghost use Rattle.pl_alone.specs.Desk.{Act, Serves, call_at, parts};
 ghost use Rattle.pl_core.specs.State.{log as log_of_core};
-ghost use Rattle.pl_due.specs.Fit.{last_moment as last_of_all};
-ghost use Rattle.pl_history.specs.Made.{IsMadeFor};
-ghost use Rattle.pl_history.specs.History.{opened};
+ghost use Rattle.pl_core.specs.Below.pl_due.specs.Fit.{last_moment as last_of_all};
+ghost use Rattle.pl_core.specs.Below.pl_history.specs.Made.{IsMadeFor};
+ghost use Rattle.pl_core.specs.Below.pl_history.specs.History.{opened};
 ghost use Rattle.pl_journal.specs.Log.{last_moment};
 ghost use Rattle.pl_requests.specs.WellFormed.{is_request, is_well_formed};
 ghost use Rattle.pl_wire.specs.declared.message.Message.TheVariants as asks;

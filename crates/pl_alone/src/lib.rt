@@ -4,3 +4,4 @@
 mod alone;
 
 pub use alone::Alone;
+pub use pl_core::{access_laws, claim_laws};

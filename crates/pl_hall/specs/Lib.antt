@@ -1,2 +1,4 @@
+pub mod Below
 pub mod Grown
+pub mod Opening
 pub mod Seats

@@ -3,12 +3,12 @@ use Rattle.std.specs.Prelude.{◌≡◌, ◌≤◌, ℕ, Bool, true, false, List
 use Rattle.std.specs.Option.{option_map}
 use mathlib.Core.List.{IsPrefix}
 use Rattle.atomic_table.specs.Seated.{TableId}
-use Rattle.pl_compilation.specs.Made.{IsMadeOf}
-use Rattle.pl_core.specs.State.{State}
+use Rattle.pl_service.specs.Below.pl_compilation.specs.Made.{IsMadeOf}
+use Rattle.pl_service.specs.Below.pl_core.specs.State.{State}
 use Rattle.pl_facts.specs.declared.entry.Entry.{Entry}
-use Rattle.pl_history.specs.History.{Opening}
-use Rattle.pl_history.specs.Legal.{Legal}
-use Rattle.pl_history.specs.Made.{WantsFor}
+use Rattle.pl_service.specs.Below.pl_core.specs.Below.pl_history.specs.History.{Opening}
+use Rattle.pl_service.specs.Below.pl_core.specs.Below.pl_history.specs.Legal.{Legal}
+use Rattle.pl_service.specs.Below.pl_core.specs.Below.pl_history.specs.Made.{WantsFor}
 use Rattle.pl_requests.specs.declared.call.Call.{Call}
 use Rattle.pl_requests.specs.declared.request.Request.{Request}
 use Rattle.pl_requests.specs.declared.request.Request.TheVariants as request

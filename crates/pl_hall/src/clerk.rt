@@ -8,8 +8,8 @@ ghost use Rattle.pl_wire.specs.declared.message.Message.TheVariants as asks;
 use crate::gate::Gate;
 use crate::turns::{answer_in_turn, look_ahead};
 use pl_base::{Digest, Memory, Moment};
-use pl_core::{Call, Request};
-use pl_service::Service;
+use pl_keeper::{Keeper, KeeperFault};
+use pl_service::{Call, Request, Service};
 use pl_sessions::{Answer, Desk};
 use pl_turn::{Seat, TurnLock};
 use pl_wire::{Message, refused_reply};
@@ -20,18 +20,18 @@ use std::sync::Wait;
 /// a run first takes another turn, to look what is to be compiled, passes the gate, and compiles
 /// that without a turn; what was compiled is used where neither the files nor the root moved.
 #[derive(Drop)]
-pub struct Clerk<'a, R, G: Drop> {
+pub struct Clerk<'a, R, G: Drop, K: Keeper + Drop> {
     rt: &'a R,
-    lock: &'a TurnLock<Service>,
-    seat: Seat<Service>,
+    lock: &'a TurnLock<Service<K>>,
+    seat: Seat<Service<K>>,
     gate: G,
     ghost own: { seat.lock ≡ lock.now },
     ghost free: { seat.turn ≡ false },
 }
 
-impl<R: Wait, G: Gate + Drop> Clerk<'_, R, G> {
+impl<R: Wait, G: Gate + Drop, K: Keeper + Drop> Clerk<'_, R, G, K> {
     /// The seat, which has no turn.
-    pub fn into_seat(self) -> Seat<Service>
+    pub fn into_seat(self) -> Seat<Service<K>>
         ensures seat { result ≡ self.entry.seat }
         ensures free { IsFree self.entry.lock.now result }
     {
@@ -60,14 +60,15 @@ impl<R: Wait, G: Gate + Drop> Clerk<'_, R, G> {
         match look_ahead(self.rt, alloc, lock, &self.gate, &mut self.seat, &call) {
             Ok(ahead) => match answer_in_turn(self.rt, alloc, lock, &mut self.seat, call, ahead) {
                 Ok(reply) => Answer::Reply(reply),
-                Err(Memory) => Answer::Memory,
+                Err(KeeperFault::Failed) => Answer::KeeperFault,
+                Err(KeeperFault::Memory) => Answer::Memory,
             },
             Err(Memory) => Answer::Memory,
         }
     }
 }
 
-impl<R: Wait, G: Gate + Drop> Desk for Clerk<'_, R, G> {
+impl<R: Wait, G: Gate + Drop, K: Keeper + Drop> Desk for Clerk<'_, R, G, K> {
     ghost acts = { λ old moment message answer new.
         Act (parts_of old.seat) moment message answer (parts_of new.seat) };
 
@@ -83,12 +84,12 @@ impl<R: Wait, G: Gate + Drop> Desk for Clerk<'_, R, G> {
 }
 
 /// A clerk at a seat.
-pub(crate) fn at_seat<'a, R: Wait, G: Gate + Drop>(
+pub(crate) fn at_seat<'a, R: Wait, G: Gate + Drop, K: Keeper + Drop>(
     rt: &'a R,
-    lock: &'a TurnLock<Service>,
-    seat: Seat<Service>,
+    lock: &'a TurnLock<Service<K>>,
+    seat: Seat<Service<K>>,
     gate: G,
-) -> Clerk<'a, R, G>
+) -> Clerk<'a, R, G, K>
     requires { IsFree lock.now seat }
     ensures seat { result.seat ≡ seat }
     ensures lock { result.lock.now ≡ lock.entry.now }

@@ -12,3 +12,4 @@ pub use clerk::Clerk;
 pub use gate::{Free, Gate};
 pub use hall::Hall;
 pub use laws::sessions_grow;
+pub use pl_service::Service;

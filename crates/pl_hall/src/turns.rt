@@ -1,6 +1,6 @@
 //! The turns that a clerk takes.
 
-ghost use Rattle.std.specs.Prelude.{◌≡◌, ◌≤◌, true, IfOk, IfSome, OnErr};
+ghost use Rattle.std.specs.Prelude.{◌≡◌, ◌<◌, ◌≤◌, true, IfOk, IfSome, IsErrOf, OnErr};
 ghost use Rattle.pl_due.specs.Fit.{last_moment as last_of_all};
 ghost use Rattle.pl_hall.specs.Seats.{IsAheadHere, IsFree, Passes, WantsHere};
 ghost use Rattle.pl_hall.specs.Seats.{parts_of, queues};
@@ -9,21 +9,21 @@ ghost use Rattle.pl_service.specs.Desk.{Keeps, Serves};
 
 use crate::gate::Gate;
 use pl_base::Memory;
-use pl_core::{Call, Reply, Request, Snapshot};
-use pl_service::{Ahead, Service};
+use pl_keeper::{Keeper, KeeperFault};
+use pl_service::{Ahead, Call, Reply, Request, Service, Snapshot};
 use pl_turn::{Seat, TurnLock};
 use std::alloc::Global;
 use std::sync::Wait;
 
 /// Answers a call in a turn, with what was compiled before it.
-pub(crate) fn answer_in_turn<R: Wait>(
+pub(crate) fn answer_in_turn<R: Wait, K: Keeper + Drop>(
     rt: &R,
     alloc: Global,
-    lock: &TurnLock<Service>,
-    seat: &mut Seat<Service>,
+    lock: &TurnLock<Service<K>>,
+    seat: &mut Seat<Service<K>>,
     call: Call,
     ahead: Option<Ahead>,
-) -> Result<Reply, Memory>
+) -> Result<Reply, KeeperFault>
     requires free { IsFree lock.now seat.old }
     requires moment { call.moment ≤ last_of_all }
     requires well_formed { is_request call.request ≡ true }
@@ -33,6 +33,8 @@ pub(crate) fn answer_in_turn<R: Wait>(
     ensures serves { IfOk result (λ reply.
         Serves (parts_of seat.old) call reply (parts_of seat.new)) }
     ensures same { OnErr result ((parts_of seat.new).mine ≡ (parts_of seat.old).mine) }
+    ensures failed { IsErrOf result KeeperFault.Failed →
+        (parts_of seat.old).faults < (parts_of seat.new).faults }
 {
     let mut service = lock.take(rt, seat);
     let reply = service.answer(alloc, seat.number(), call, ahead);
@@ -41,11 +43,11 @@ pub(crate) fn answer_in_turn<R: Wait>(
 }
 
 // What a call wants to be compiled, in a turn that adds nothing.
-fn wanted<R: Wait>(
+fn wanted<R: Wait, K: Keeper + Drop>(
     rt: &R,
     alloc: Global,
-    lock: &TurnLock<Service>,
-    seat: &mut Seat<Service>,
+    lock: &TurnLock<Service<K>>,
+    seat: &mut Seat<Service<K>>,
     call: &Call,
 ) -> Result<Option<Snapshot>, Memory>
     requires free { IsFree lock.now seat.old }
@@ -62,12 +64,12 @@ fn wanted<R: Wait>(
 }
 
 // What a call wants to be compiled, in a turn, and what it is compiled to, without one.
-fn compiled_ahead<R: Wait, G: Gate>(
+fn compiled_ahead<R: Wait, G: Gate, K: Keeper + Drop>(
     rt: &R,
     alloc: Global,
-    lock: &TurnLock<Service>,
+    lock: &TurnLock<Service<K>>,
     gate: &G,
-    seat: &mut Seat<Service>,
+    seat: &mut Seat<Service<K>>,
     call: &Call,
 ) -> Result<Option<Ahead>, Memory>
     requires free { IsFree lock.now seat.old }
@@ -103,12 +105,12 @@ fn queues(request: &Request) -> bool
 
 /// The same for a call that queues a run; for any other there is nothing to compile, and no turn is
 /// taken.
-pub(crate) fn look_ahead<R: Wait, G: Gate>(
+pub(crate) fn look_ahead<R: Wait, G: Gate, K: Keeper + Drop>(
     rt: &R,
     alloc: Global,
-    lock: &TurnLock<Service>,
+    lock: &TurnLock<Service<K>>,
     gate: &G,
-    seat: &mut Seat<Service>,
+    seat: &mut Seat<Service<K>>,
     call: &Call,
 ) -> Result<Option<Ahead>, Memory>
     requires free { IsFree lock.now seat.old }

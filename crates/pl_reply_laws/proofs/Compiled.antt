@@ -6,12 +6,12 @@ use Rattle.pl_base.specs.declared.expanded.Argument.{Argument}
 use Rattle.pl_base.specs.declared.expanded.Expanded.{Expanded}
 use Rattle.pl_base.specs.declared.expanded.Refusal.{Refusal}
 use Rattle.pl_base.specs.declared.place.FileKey.{FileKey}
-use Rattle.pl_compilation.specs.Made.{IsMadeOf}
-use Rattle.pl_compile.specs.Compiling.{IsMisread, IsRefusalOf, IsUnplanned, plan_refusal}
-use Rattle.pl_compile.specs.Compiling.{schema_refusal}
-use Rattle.pl_compile.specs.Reading.{Texts}
-use Rattle.pl_compile.specs.Refusals.{refusal_of}
-use Rattle.pl_compile.specs.declared.fault.CompileFault.TheVariants as told
+use Rattle.pl_alone.specs.Below.pl_compilation.specs.Made.{IsMadeOf}
+use Rattle.pl_sources.specs.Below.pl_compile.specs.Compiling.{IsMisread, IsRefusalOf, IsUnplanned, plan_refusal}
+use Rattle.pl_sources.specs.Below.pl_compile.specs.Compiling.{schema_refusal}
+use Rattle.pl_sources.specs.Below.pl_compile.specs.Reading.{Texts}
+use Rattle.pl_sources.specs.Below.pl_compile.specs.Refusals.{refusal_of}
+use Rattle.pl_sources.specs.Below.pl_compile.specs.declared.fault.CompileFault.TheVariants as told
 use Rattle.pl_plan.proofs.OneAnswer.{one_answer}
 use Rattle.pl_plan.specs.Plans.{IsPlanOf}
 use Rattle.pl_plan.specs.declared.plan.Compiled.{Compiled}

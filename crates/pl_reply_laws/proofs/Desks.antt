@@ -2,7 +2,7 @@
 use Rattle.std.proofs.Common.{◌≡◌, ℕ, List, [], ◌∷◌, refl, sym, ap, subst, ◌∙◌}
 use Rattle.pl_alone.specs.Desk.{Act, Parts, Serves, call_at, log, seen_with}
 use Rattle.pl_facts.specs.declared.fact.Fact.{Fact}
-use Rattle.pl_history.specs.History.{held_of}
+use Rattle.pl_alone.specs.Below.pl_history.specs.History.{held_of}
 use Rattle.pl_journal.specs.Log.{Log}
 use Rattle.pl_queueing.specs.Queueing.{Made}
 use Rattle.pl_requests.specs.declared.call.Call.{Call}
@@ -11,9 +11,9 @@ use Rattle.pl_sessions.specs.Acts.{Acts, Turn}
 use Rattle.pl_sessions.specs.declared.answer.Answer.{Answer}
 use Rattle.pl_sessions.specs.declared.answer.Answer.TheVariants.{Reply, KeeperFault, Memory}
 use Rattle.pl_sources.specs.Again.{CompilesToOne}
-use Rattle.pl_step.specs.Step.{IsStep, stepped_with}
-use Rattle.pl_step.specs.declared.held.Held.{Held}
-use Rattle.pl_step.specs.declared.stepped.Stepped.{Stepped}
+use Rattle.pl_step_laws.specs.Below.pl_step.specs.Step.{IsStep, stepped_with}
+use Rattle.pl_step_laws.specs.Below.pl_step.specs.declared.held.Held.{Held}
+use Rattle.pl_step_laws.specs.Below.pl_step.specs.declared.stepped.Stepped.{Stepped}
 use Rattle.pl_wire.specs.declared.message.Message.{Message}
 use Rattle.pl_wire.specs.declared.message.Message.TheVariants.{Ask, Refused}
 use Rattle.pl_reply_laws.specs.Alike.{AreAsked, AreOne, AreReplied}
@@ -33,10 +33,10 @@ module _ (compiles : CompilesToOne) (steps : OneStep) where
       let made : is.made ≡ has.made =
       one_made_for compiles (log old) call is.made has.made is.is has.is in
       let stepped : stepped_with left is.added ≡ stepped_with right has.added =
-      steps (held_of old.seen) (log old) call has.made (stepped_with left is.added)
+      steps (held_of old.opening old.seen) (log old) call has.made (stepped_with left is.added)
       (stepped_with right has.added)
       (subst (λ (made : Made).
-      IsStep (held_of old.seen) (log old) call made (stepped_with left is.added)) made is.steps)
+      IsStep (held_of old.opening old.seen) (log old) call made (stepped_with left is.added)) made is.steps)
       has.steps in
       let reply : left ≡ right = ap (λ (stepped : Stepped). stepped.reply) stepped in
       let added : is.added ≡ has.added = ap (λ (stepped : Stepped). stepped.added) stepped in

@@ -4,8 +4,8 @@ use Rattle.std.proofs.Common.{ap, subst, ◌∙◌}
 use Rattle.std.proofs.lemmas.Option.{none-some}
 use Rattle.std.specs.FinMap.{same_map}
 use Rattle.pl_base.proofs.FileKeys.{exact_files, files_total}
-use Rattle.pl_compilation.specs.Made.{IsMade}
-use Rattle.pl_history.specs.Made.{IsMadeFor, WantsAs, WantsFor}
+use Rattle.pl_alone.specs.Below.pl_compilation.specs.Made.{IsMade}
+use Rattle.pl_alone.specs.Below.pl_history.specs.Made.{IsMadeFor, WantsAs, WantsFor}
 use Rattle.pl_journal.specs.Log.{Log}
 use Rattle.pl_journal.specs.Settings.{principal_with}
 use Rattle.pl_queueing.specs.Queueing.{Made}

@@ -1,6 +1,6 @@
 ghost use Rattle.std.specs.Prelude.{◌≡◌, ℕ, false, List, Option, Some};
 ghost use Rattle.pl_alone.specs.Desk.{Act, Parts};
-ghost use Rattle.pl_history.specs.Made.{IsMadeFor, WantsFor};
+ghost use Rattle.pl_alone.specs.Below.pl_history.specs.Made.{IsMadeFor, WantsFor};
 ghost use Rattle.pl_journal.specs.Log.{Log};
 ghost use Rattle.pl_queueing.specs.Queueing.{Made};
 ghost use Rattle.pl_reply_laws.specs.Alike.{AreAsked, AreOne, AreReplied};

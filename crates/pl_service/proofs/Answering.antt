@@ -2,16 +2,18 @@
 use Rattle.std.proofs.Common.{◌≡◌, ◌+◌, ◌++◌, ℕ, List, [], ◌∷◌, Option, Some, None, length, refl}
 use Rattle.std.proofs.Common.{sym, ap, subst, ◌∙◌, append-nil, max, Result, IfOk, OnErr, IfSome}
 use Rattle.pl_base.specs.declared.memory.Memory.{Memory}
-use Rattle.pl_core.specs.Prepared.{IsEntryOf, added_by, entries_with, installed, next_number}
-use Rattle.pl_core.specs.State.{State, held, log}
+use Rattle.pl_opening.specs.Below.pl_core.specs.Prepared.{IsEntryOf, added_by, entries_with}
+use Rattle.pl_opening.specs.Below.pl_core.specs.Prepared.{installed, next_number}
+use Rattle.pl_opening.specs.Below.pl_core.specs.State.{State, held, log}
 use Rattle.pl_facts.specs.declared.entry.Entry.{Entry}
 use Rattle.pl_facts.specs.declared.fact.Fact.{Fact}
-use Rattle.pl_history.specs.Claims.{IsOrderly}
-use Rattle.pl_history.specs.Guarded.{IsAnswered, IsGuarded}
-use Rattle.pl_history.specs.History.{log_of}
-use Rattle.pl_history.specs.Made.{IsMadeFor, WantsFor}
+use Rattle.pl_opening.specs.Below.pl_history.specs.Claims.{IsOrderly}
+use Rattle.pl_opening.specs.Below.pl_history.specs.Guarded.{IsAnswered, IsGuarded}
+use Rattle.pl_opening.specs.Below.pl_history.specs.History.{log_of}
+use Rattle.pl_opening.specs.Below.pl_history.specs.Made.{IsMadeFor, WantsFor}
 use Rattle.pl_journal.specs.Log.{last_moment}
-use Rattle.pl_queueing.specs.Queueing.{Made}
+use Rattle.pl_keeper.specs.declared.fault.KeeperFault.{KeeperFault}
+use Rattle.pl_opening.specs.Below.pl_queueing.specs.Queueing.{Made}
 use Rattle.pl_requests.specs.declared.call.Call.{Call}
 use Rattle.pl_requests.specs.declared.reply.Reply.{Reply}
 use Rattle.pl_service.proofs.Standing.{ahead_lifted}
@@ -19,7 +21,7 @@ use Rattle.pl_service.specs.Ahead.{IsAhead}
 use Rattle.pl_service.specs.Past.{Answers, Past, lifted, recorded}
 use Rattle.pl_service.specs.declared.ahead.Ahead.{Ahead}
 use Rattle.pl_snapshots.specs.declared.snapshot.Snapshot.{Snapshot}
-use Rattle.pl_step.specs.Step.{IsStep, stepped_with}
+use Rattle.pl_opening.specs.Below.pl_step.specs.Step.{IsStep, stepped_with}
 
 -- ---- the entry is that of the call
 
@@ -97,7 +99,7 @@ pub past_back : (first back : State) → back ≡ record first { pending = [] }
 past_back first back is = ap (λ (state : State). past_at state) is
 
 module _ (first back : State) (is : back ≡ record first { pending = [] }) where
-  pub answered_by : (seat : ℕ) (call : Call) (later moment : ℕ) (result : Result Reply Memory)
+  pub answered_by : (seat : ℕ) (call : Call) (later moment : ℕ) (result : Result Reply KeeperFault)
       (new : Past) → later ≡ max call.moment moment → moment ≡ last_moment (log back)
       → IfOk result (λ reply. Answers seat (past_at back) (record call { moment = later }) reply
       new)
@@ -109,7 +111,7 @@ module _ (first back : State) (is : back ≡ record first { pending = [] }) wher
       (record call { moment = m }) reply new))
       (later_is ∙ ap (λ (m : ℕ). max call.moment m) moment_is) told)
 
-  pub same_by : (result : Result Reply Memory) (new : Past)
+  pub same_by : (result : Result Reply KeeperFault) (new : Past)
       → OnErr result (new ≡ past_at back) → OnErr result (new ≡ past_at first)
   same_by result new told =
       subst (λ (past : Past). OnErr result (new ≡ past)) (past_back first back is) told

@@ -12,14 +12,14 @@ use Rattle.pl_base.specs.declared.digest.Digest.{Digest}
 use Rattle.pl_base.specs.declared.expanded.Argument.{Argument}
 use Rattle.pl_base.specs.declared.expanded.Refusal.{Refusal}
 use Rattle.pl_base.specs.declared.place.FileKey.{FileKey}
-use Rattle.pl_compilation.specs.Made.{IsMadeOf}
+use Rattle.pl_opening.specs.Below.pl_compilation.specs.Made.{IsMadeOf}
 use Rattle.pl_facts.specs.Sizes.{counted}
 use Rattle.pl_facts.specs.declared.entry.Entry.{Entry}
 use Rattle.pl_facts.specs.declared.fact.Event.{Event}
 use Rattle.pl_facts.specs.declared.fact.Event.TheVariants as event
 use Rattle.pl_facts.specs.declared.fact.Fact.{Fact}
-use Rattle.pl_history.specs.History.{Opening, facts_of, log_of}
-use Rattle.pl_history.specs.Made.{WantsAs, WantsFor}
+use Rattle.pl_opening.specs.Below.pl_history.specs.History.{Opening, facts_of, log_of}
+use Rattle.pl_opening.specs.Below.pl_history.specs.Made.{WantsAs, WantsFor}
 use Rattle.pl_journal.specs.About.{is_about, key_of}
 use Rattle.pl_journal.specs.Kinds.{is_file_change}
 use Rattle.pl_journal.specs.Log.{Log, version}
@@ -33,7 +33,7 @@ use Rattle.pl_requests.specs.declared.settings.PrincipalSetting.{PrincipalSettin
 use Rattle.pl_service.specs.Ahead.{IsAhead, Stands}
 use Rattle.pl_service.specs.Past.{Past, log}
 use Rattle.pl_service.specs.declared.ahead.Ahead.{Ahead}
-use Rattle.pl_settling.proofs.Behind.{untouched}
+use Rattle.pl_opening.specs.Below.pl_settling.proofs.Behind.{untouched}
 use Rattle.pl_snapshots.specs.Snapshots.{AreFiles, Texts, Wants, of_text}
 use Rattle.pl_snapshots.specs.declared.snapshot.Snapshot.{Snapshot}
 

@@ -1,10 +1,10 @@
 -- What is compiled before the turn in which it is used.
 use Rattle.std.specs.Prelude.{◌≡◌, ◌<◌, List, Some}
 use mathlib.Core.List.{IsPrefix}
-use Rattle.pl_compilation.specs.Made.{IsMadeOf}
+use Rattle.pl_opening.specs.Below.pl_compilation.specs.Made.{IsMadeOf}
 use Rattle.pl_facts.specs.declared.entry.Entry.{Entry}
-use Rattle.pl_history.specs.History.{log_of}
-use Rattle.pl_history.specs.Made.{WantsFor}
+use Rattle.pl_opening.specs.Below.pl_history.specs.History.{log_of}
+use Rattle.pl_opening.specs.Below.pl_history.specs.Made.{WantsFor}
 use Rattle.pl_requests.specs.declared.call.Call.{Call}
 use Rattle.pl_service.specs.Past.{Past}
 use Rattle.pl_service.specs.declared.ahead.Ahead.{Ahead}

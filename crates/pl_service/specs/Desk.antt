@@ -4,8 +4,8 @@ use mathlib.Core.List.{IsPrefix}
 use Rattle.atomic_table.specs.Seated.{TableId}
 use Rattle.pl_base.specs.declared.digest.Digest.{Digest}
 use Rattle.pl_facts.specs.declared.entry.Entry.{Entry}
-use Rattle.pl_history.specs.History.{Opening}
-use Rattle.pl_history.specs.Legal.{Legal}
+use Rattle.pl_opening.specs.Below.pl_history.specs.History.{Opening}
+use Rattle.pl_opening.specs.Below.pl_history.specs.Legal.{Legal}
 use Rattle.pl_requests.specs.declared.call.Call.{Call}
 use Rattle.pl_requests.specs.declared.reply.Reply.{Reply as Replied}
 use Rattle.pl_requests.specs.declared.request.Request.{Request}

@@ -2,8 +2,8 @@
 use Rattle.std.specs.Prelude.{◌≡◌, ◌≤◌, ◌++◌, ℕ, List, [], ◌∷◌, Some}
 use mathlib.Core.List.{IsPrefix}
 use Rattle.pl_facts.specs.declared.entry.Entry.{Entry}
-use Rattle.pl_history.specs.History.{Opening}
-use Rattle.pl_history.specs.Legal.{Legal}
+use Rattle.pl_opening.specs.Below.pl_history.specs.History.{Opening}
+use Rattle.pl_opening.specs.Below.pl_history.specs.Legal.{Legal}
 use Rattle.pl_requests.specs.declared.reply.Reply.{Reply as Replied}
 use Rattle.pl_service.specs.Desk.{Act, Parts}
 use Rattle.pl_sessions.specs.Acts.{Acts, Turn}

@@ -1,11 +1,11 @@
 //! What is compiled before the turn in which it is used.
 
 ghost use Rattle.std.specs.Prelude.{◌≡◌, ◌<◌, IfOk, IfSome, IsTrue};
-ghost use Rattle.pl_compilation.specs.Made.{IsMadeOf};
+ghost use Rattle.pl_opening.specs.Below.pl_compilation.specs.Made.{IsMadeOf};
 ghost use Rattle.pl_service.specs.Ahead.{IsCurrent, Stands};
 
 use pl_base::{Memory, Refusal, Shared};
-use pl_compilation::compiled;
+use pl_opening::compiled;
 use pl_plan::Compiled;
 use pl_snapshots::Snapshot;
 use std::alloc::Global;

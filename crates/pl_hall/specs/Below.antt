@@ -1,0 +1,4 @@
+-- The libraries below whose names are given on to those above.
+pub use Rattle.pl_service as pl_service
+pub use Rattle.pl_service.specs.Below.pl_core as pl_core
+pub use Rattle.pl_service.specs.Below.pl_history as pl_history
