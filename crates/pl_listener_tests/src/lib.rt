@@ -1,0 +1,6 @@
+//! Tests of `pl_listener`: in a crate of their own, so that they are proved without proving it
+//! again.
+#![tactic(auto)]
+
+#[cfg(test)]
+mod tests;

@@ -1,0 +1,3 @@
+pub mod Foreign
+pub mod Refusals
+pub mod Stores
