@@ -1,0 +1,11 @@
+pub mod Free
+pub mod Holders
+pub mod Jobs
+pub mod Late
+pub mod Legs
+pub mod Own
+pub mod Owners
+pub mod Planned
+pub mod Rising
+pub mod Stages
+pub mod Standing
