@@ -26,11 +26,12 @@ WORDS = ["${{ parameters.a }}", "${{ each x in parameters.l }}:", "${{ if 1 }}:"
 def seeds():
     """Texts of bundles."""
     found = [written() for name, written, _statuses, seed, _wanted in ALL if seed and name not in OVER]
-    for path in sorted(glob.glob(f"{TOP}/crates/cases_bundles/data/*.cases")):
+    for path in sorted(glob.glob(f"{TOP}/beside/cases_bundles/data/*.cases")):
         with open(path, encoding="utf-8", errors="replace") as file:
             for part in file.read().split("%%% case ")[1:]:
-                text = part.partition("\n")[2]
-                found.append("%%% app refs/heads/main /ci.yml\n" + text)
+                text = part.partition("\n")[2].partition("%%% ask ")[0]
+                # A second file of the same key would make it no bundle.
+                found.append(text if text.startswith("%%% ") else "%%% app refs/heads/main /ci.yml\n" + text)
     return [text for text in found if len(text) < 300_000]
 
 

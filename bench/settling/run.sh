@@ -11,9 +11,10 @@ top=$(cd "$here/../.." && pwd)
 command -v valgrind >/dev/null || { echo "valgrind is needed: apt-get install valgrind" >&2; exit 1; }
 work=$(mktemp -d)
 trap 'rm -rf "$work"' EXIT
-program=${1:-$top/crates/cases_settling/out/cases_settling}
-if [ -z "$1" ]; then
-    (cd "$top/crates/cases_settling" && rt run <stdin >"$work/log" 2>&1) || { cat "$work/log" >&2; exit 1; }
+program=$1
+if [ -z "$program" ]; then
+    "$top/tools/beside" --keep "$work/beside" cases_settling >"$work/log" 2>&1 || { cat "$work/log" >&2; exit 1; }
+    program=$work/beside/crates/cases_settling/out/cases_settling
 fi
 python3 - "$here/scripts.py" "$program" "$work" <<'PYTHON'
 import re
