@@ -9,9 +9,9 @@ use Rattle.pl_commands.specs.declared.status.Status.{Status}
 use Rattle.pl_commands.specs.declared.status.Status.TheVariants as status
 use Rattle.pl_commands.specs.People.{told_of}
 use Rattle.pl_commands.specs.Statuses.{compile_status, status_of}
-use Rattle.pl_history.specs.Access.{IsSound}
-use Rattle.pl_history.specs.Claims.{IsOrderly}
-use Rattle.pl_history.specs.History.{opened}
+use Rattle.pl_alone.specs.Below.pl_history.specs.Access.{IsSound}
+use Rattle.pl_alone.specs.Below.pl_history.specs.Claims.{IsOrderly}
+use Rattle.pl_alone.specs.Below.pl_history.specs.History.{opened}
 use Rattle.pl_offline.specs.Running.{Runs as RunsOffline}
 use Rattle.pl_offline.specs.declared.ending.Ending.{Ending}
 use Rattle.pl_sessions.specs.Messages.{Spelled}

@@ -11,10 +11,9 @@ ghost use Rattle.pl_words.specs.Words.{command_of};
 
 use crate::outfit::Outfit;
 use crate::status::Status;
-use pl_alone::Alone;
+use pl_alone::{Alone, access_laws, claim_laws};
 use pl_base::{Argument, Digest, List, Memory};
 use pl_budgets::Budget;
-use pl_history::{access_laws, claim_laws};
 use pl_offline::{Ending, compile_bundle};
 use pl_sessions::{Served, replay_link, write_all};
 use pl_words::{Command, parse};

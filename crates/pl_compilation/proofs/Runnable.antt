@@ -22,7 +22,7 @@ use Rattle.pl_plan.specs.Laws.{IsSound}
 use Rattle.pl_plan.specs.Plans.{IsPlanOf}
 use Rattle.pl_plan.specs.declared.plan.Compiled.{Compiled}
 use Rattle.pl_plan.specs.declared.plan.Plan.{Plan}
-use Rattle.pl_results.specs.Nodes.{CanRun}
+use Rattle.pl_cond.specs.Below.pl_results.specs.Nodes.{CanRun}
 use Rattle.pl_schema_parts.specs.declared.pipeline.JobSpec.{JobSpec}
 use Rattle.pl_schema_parts.specs.declared.pipeline.Pipeline.{Pipeline}
 use Rattle.pl_schema_parts.specs.declared.pipeline.StageSpec.{StageSpec}

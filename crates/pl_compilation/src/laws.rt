@@ -1,7 +1,7 @@
 ghost use Rattle.std.specs.Prelude.{Ok};
 ghost use Rattle.pl_compilation.specs.Made.{IsMadeOf};
 ghost use Rattle.pl_plan.specs.declared.plan.Compiled.{Compiled};
-ghost use Rattle.pl_results.specs.Nodes.{CanRun};
+ghost use Rattle.pl_cond.specs.Below.pl_results.specs.Nodes.{CanRun};
 ghost use Rattle.pl_snapshots.specs.declared.snapshot.Snapshot.{Snapshot};
 
 /// The plan of what was compiled can run: what its stages and jobs wait for are places of its lists

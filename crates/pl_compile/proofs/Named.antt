@@ -10,13 +10,13 @@ use Rattle.pl_base.specs.declared.place.FileKey.{FileKey}
 use Rattle.pl_base.specs.declared.place.Place.{Place}
 use Rattle.pl_line.specs.declared.code.YamlCode.{YamlCode}
 use Rattle.pl_yaml.specs.Spells as yaml
-use Rattle.pl_calls.specs.declared.files.Parsed.{Parsed}
-use Rattle.pl_calls.specs.declared.files.Parsed.TheVariants.{Good}
-use Rattle.pl_origins.specs.Places.{places_of}
-use Rattle.pl_root.specs.Reading.{parsed, read_as}
-use Rattle.pl_provenance.specs.Reader.{NamesFile}
-use Rattle.pl_provenance.specs.Written.{StandsInFile}
-use Rattle.pl_provenance.proofs.Reader.{named}
+use Rattle.pl_step_origins.specs.Below.pl_calls.specs.declared.files.Parsed.{Parsed}
+use Rattle.pl_step_origins.specs.Below.pl_calls.specs.declared.files.Parsed.TheVariants.{Good}
+use Rattle.pl_step_origins.specs.Below.pl_origins.specs.Places.{places_of}
+use Rattle.pl_step_origins.specs.Below.pl_expand.specs.Below.pl_root.specs.Reading.{parsed, read_as}
+use Rattle.pl_step_origins.specs.Below.pl_provenance.specs.Reader.{NamesFile}
+use Rattle.pl_step_origins.specs.Below.pl_provenance.specs.Written.{StandsInFile}
+use Rattle.pl_step_origins.specs.Below.pl_provenance.proofs.Reader.{named}
 use Rattle.pl_compile.specs.Named.{PlacesNameTheirFile}
 use Rattle.pl_compile.specs.Reading.{Texts, read_all}
 use Rattle.pl_compile.proofs.Reading.{read_at}

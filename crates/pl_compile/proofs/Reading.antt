@@ -12,7 +12,7 @@ use Rattle.std.specs.declared.cmp.Ordering.TheVariants.{Less, Equal, Greater}
 use Rattle.pl_base.specs.Files.{file_cmp}
 use Rattle.pl_base.specs.declared.place.FileKey.{FileKey}
 use Rattle.pl_base.proofs.FileKeys.{exact_files, files_total}
-use Rattle.pl_root.specs.Reading.{parsed}
+use Rattle.pl_step_origins.specs.Below.pl_expand.specs.Below.pl_root.specs.Reading.{parsed}
 use Rattle.pl_compile.specs.Reading.{AreOf, Read, Texts, read_all, read_one}
 
 tied : (order : Ordering) → is_eq order ≡ true → order ≡ Equal

@@ -6,14 +6,15 @@ use Rattle.pl_base.specs.declared.expanded.Expanded.{Expanded}
 use Rattle.pl_base.specs.declared.place.FileKey.{FileKey}
 use Rattle.pl_eval_laws.specs.Marks.{marks_of}
 use Rattle.pl_eval_laws.specs.Trees.{origins_of}
-use Rattle.pl_origins.specs.Through.{IsThrough}
+use Rattle.pl_step_origins.specs.Below.pl_origins.specs.Through.{IsThrough}
 use Rattle.pl_plan.specs.Plans.{IsPlanOf}
 use Rattle.pl_plan.specs.declared.plan.Compiled.{Compiled}
-use Rattle.pl_provenance.specs.Closure.{ArePairsFromClosure, IsFromClosure}
-use Rattle.pl_provenance.specs.Known.{home_in, IsKnown}
-use Rattle.pl_provenance.specs.Roots.{IsPairThrough, jobs_of}
-use Rattle.pl_provenance.specs.Texts.{IsSaid, Says}
-use Rattle.pl_provenance.specs.Written.{ArePairsWhereTold, IsWhereTold}
+use Rattle.pl_step_origins.specs.Below.pl_provenance.specs.Closure.{ArePairsFromClosure}
+use Rattle.pl_step_origins.specs.Below.pl_provenance.specs.Closure.{IsFromClosure}
+use Rattle.pl_step_origins.specs.Below.pl_provenance.specs.Known.{home_in, IsKnown}
+use Rattle.pl_step_origins.specs.Below.pl_provenance.specs.Roots.{IsPairThrough, jobs_of}
+use Rattle.pl_step_origins.specs.Below.pl_provenance.specs.Texts.{IsSaid, Says}
+use Rattle.pl_step_origins.specs.Below.pl_provenance.specs.Written.{ArePairsWhereTold, IsWhereTold}
 use Rattle.pl_schema.specs.Pipelines.{pipeline_of}
 use Rattle.pl_schema_parts.specs.declared.pipeline.Pipeline.{Pipeline}
 use Rattle.pl_step_origins.proofs.Planned.{extend_same, jobs_hold, steps_hold, steps_say}

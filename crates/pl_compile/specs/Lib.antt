@@ -1,3 +1,4 @@
+pub mod Below
 pub mod Codes
 pub mod Compiling
 pub mod Named

@@ -5,10 +5,10 @@ use Rattle.pl_base.specs.Files.{file_cmp}
 use Rattle.pl_base.specs.declared.expanded.Argument.{Argument}
 use Rattle.pl_base.specs.declared.expanded.Expanded.{Expanded}
 use Rattle.pl_base.specs.declared.place.FileKey.{FileKey}
-use Rattle.pl_calls.specs.declared.files.Parsed.{Parsed}
+use Rattle.pl_step_origins.specs.Below.pl_calls.specs.declared.files.Parsed.{Parsed}
 use Rattle.pl_directives.specs.declared.fault.ExpandFault.{ExpandFault}
-use Rattle.pl_root.specs.Reading.{parsed}
-use Rattle.pl_expand.specs.Tree.{expansion}
+use Rattle.pl_step_origins.specs.Below.pl_expand.specs.Below.pl_root.specs.Reading.{parsed}
+use Rattle.pl_step_origins.specs.Below.pl_expand.specs.Tree.{expansion}
 use Rattle.std.specs.Prelude.{Result}
 
 abbrev pub Texts : Type 0

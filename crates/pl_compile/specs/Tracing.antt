@@ -4,12 +4,12 @@ use Rattle.std.specs.Prelude.{◌≡◌, List, Some}
 use Rattle.pl_base.specs.declared.expanded.Argument.{Argument}
 use Rattle.pl_base.specs.declared.expanded.Expanded.{Expanded}
 use Rattle.pl_base.specs.declared.place.FileKey.{FileKey}
-use Rattle.pl_origins.specs.Through.{IsThrough}
+use Rattle.pl_step_origins.specs.Below.pl_origins.specs.Through.{IsThrough}
 use Rattle.pl_plan.specs.declared.plan.Compiled.{Compiled}
-use Rattle.pl_provenance.specs.Closure.{IsFromClosure}
-use Rattle.pl_provenance.specs.Known.{home_in, IsKnown}
-use Rattle.pl_provenance.specs.Texts.{IsSaid}
-use Rattle.pl_provenance.specs.Written.{IsWhereTold}
+use Rattle.pl_step_origins.specs.Below.pl_provenance.specs.Closure.{IsFromClosure}
+use Rattle.pl_step_origins.specs.Below.pl_provenance.specs.Known.{home_in, IsKnown}
+use Rattle.pl_step_origins.specs.Below.pl_provenance.specs.Texts.{IsSaid}
+use Rattle.pl_step_origins.specs.Below.pl_provenance.specs.Written.{IsWhereTold}
 use Rattle.pl_step_origins.specs.Steps.{AreStepsFrom, AreStepsSaying}
 use Rattle.pl_compile.specs.Compiling.{Expands, texts_of}
 use Rattle.pl_compile.specs.Reading.{Texts, read_all}

@@ -6,11 +6,11 @@ ghost use Rattle.pl_directives.specs.Gives.{Gives};
 ghost use Rattle.pl_directives.specs.declared.fault.ExpandFault.{ExpandFault as Fault};
 ghost use Rattle.pl_eval_laws.specs.Marks.{marks_of};
 ghost use Rattle.pl_eval_laws.specs.Trees.{origins_of};
-ghost use Rattle.pl_provenance.specs.Closure.{ArePairsFromClosure};
-ghost use Rattle.pl_provenance.specs.Known.{IsKnown, home_in};
-ghost use Rattle.pl_provenance.specs.Roots.{IsPairThrough, jobs_of};
-ghost use Rattle.pl_provenance.specs.Texts.{IsSaid};
-ghost use Rattle.pl_provenance.specs.Written.{ArePairsWhereTold};
+ghost use Rattle.pl_step_origins.specs.Below.pl_provenance.specs.Closure.{ArePairsFromClosure};
+ghost use Rattle.pl_step_origins.specs.Below.pl_provenance.specs.Known.{IsKnown, home_in};
+ghost use Rattle.pl_step_origins.specs.Below.pl_provenance.specs.Roots.{IsPairThrough, jobs_of};
+ghost use Rattle.pl_step_origins.specs.Below.pl_provenance.specs.Texts.{IsSaid};
+ghost use Rattle.pl_step_origins.specs.Below.pl_provenance.specs.Written.{ArePairsWhereTold};
 ghost use Rattle.pl_compile.specs.Reading.{read_all, tree_of};
 ghost use Rattle.pl_compile.specs.Refusals.{Tells};
 
@@ -20,7 +20,7 @@ use crate::text_files::TextFiles;
 use pl_base::{Argument, Expanded, FileKey, FileSet, List};
 use pl_budgets::Meter;
 use pl_directives::ExpandFault;
-use pl_provenance::expand;
+use pl_step_origins::expand;
 use std::alloc::Global;
 
 /// What is told of an expansion.

@@ -1,11 +1,11 @@
 ghost use Rattle.std.specs.Prelude.{◌≡◌, OnOk, OnErr};
 ghost use Rattle.std.specs.FinMap as finite;
-ghost use Rattle.pl_root.specs.Reading.{parsed};
+ghost use Rattle.pl_step_origins.specs.Below.pl_expand.specs.Below.pl_root.specs.Reading.{parsed};
 ghost use Rattle.pl_compile.specs.Reading.{AreOf, read_all};
 
 use pl_base::{ExactCopy, FileKey, FileSet, Memory, Shared};
 use pl_budgets::{Budget, Meter};
-use pl_expand::{Files, MemFiles, Parsed};
+use pl_step_origins::{Files, MemFiles, Parsed};
 use std::alloc::Global;
 use std::marker::Model;
 

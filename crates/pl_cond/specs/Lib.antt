@@ -1,3 +1,4 @@
+pub mod Below
 pub mod Conditions
 pub mod Contexts
 pub mod Objects

@@ -1,4 +1,5 @@
 pub mod Asked
+pub mod Below
 pub mod Checked
 pub mod Contention
 pub mod Due

@@ -25,3 +25,4 @@ pub use contention::{Contention, contender_of, contention_at};
 pub use first_due::due;
 pub use laws::due_laws;
 pub use one_stage::judgement_of;
+pub use pl_open_runs::IndexedJournal;

@@ -1,2 +1,3 @@
+pub mod Below
 pub mod Merging
 pub mod Tree

@@ -5,8 +5,8 @@ use Rattle.std.specs.Prelude.{ℕ, ◌+◌, min, List, [], ◌∷◌, length, Op
 use Rattle.pl_base.specs.declared.expanded.Argument.{Argument}
 use Rattle.pl_base.specs.declared.expanded.Refusal.{Refusal}
 use Rattle.pl_base.specs.declared.place.FileKey.{FileKey}
-use Rattle.pl_checks.specs.declared.check.Check.{Check}
-use Rattle.pl_checks.specs.declared.check.Check.TheVariants as check
+use Rattle.pl_requests.specs.Below.pl_checks.specs.declared.check.Check.{Check}
+use Rattle.pl_requests.specs.Below.pl_checks.specs.declared.check.Check.TheVariants as check
 use Rattle.pl_plan.specs.declared.plan.Sources.{Sources}
 use Rattle.pl_requests.specs.declared.request.JobName.{JobName}
 use Rattle.pl_requests.specs.declared.request.Order.{Order}

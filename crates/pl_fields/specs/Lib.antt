@@ -10,3 +10,4 @@ pub mod WaysOfKinds
 pub mod WaysOfKeys
 pub mod WaysOfRules
 pub mod WaysOfChecks
+pub mod Below

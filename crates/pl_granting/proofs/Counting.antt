@@ -3,7 +3,7 @@ use Rattle.std.proofs.Common.{◌≡◌, ◌+◌, ℕ, Bool, true, false, cond, 
 use Rattle.std.proofs.Common.{arith}
 use Rattle.std.specs.List.{count_by, range_with_len}
 use Rattle.std.proofs.lemmas.List.Sums.{sum_by-append, sum_by-cons}
-use Rattle.pl_results.proofs.Turns.{range_more}
+use Rattle.pl_due.specs.Below.pl_results.proofs.Turns.{range_more}
 
 module _ (p : ℕ → Bool) (n old new : ℕ) (so_far : old ≡ count_by p (range_with_len 0 n)) where
   counted : (b : Bool) → p n ≡ b → new ≡ old + cond b 1 0 →

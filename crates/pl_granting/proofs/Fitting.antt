@@ -11,7 +11,7 @@ use Rattle.pl_journal.specs.Runs.{queueing, run_told}
 use Rattle.pl_journal.specs.Settings.{by}
 use Rattle.pl_log.specs.Keys.{Run}
 use Rattle.pl_plan.specs.declared.plan.PlanStage.{PlanStage}
-use Rattle.pl_results.specs.Nodes.{CanRun}
+use Rattle.pl_due.specs.Below.pl_results.specs.Nodes.{CanRun}
 use Rattle.pl_due.specs.Fit.{AreFit, CanRunIf, IsFit}
 use Rattle.pl_granting.specs.Named.{stage_named}
 use Rattle.pl_views.proofs.Moments.{latest_holds}

@@ -9,8 +9,8 @@ use Rattle.std.proofs.lemmas.Option.{slice_get_within}
 use Rattle.pl_facts.specs.declared.fact.Fact.{Fact}
 use Rattle.pl_facts.specs.declared.fact.QueuedRun.{QueuedRun}
 use Rattle.pl_journal.specs.Runs.{stage_end}
-use Rattle.pl_open_runs.specs.Open.{has_open_stage, is_open, open_runs}
-use Rattle.pl_open_runs.proofs.OpenRuns.{open_runs_hold}
+use Rattle.pl_due.specs.Below.pl_open_runs.specs.Open.{has_open_stage, is_open, open_runs}
+use Rattle.pl_due.specs.Below.pl_open_runs.proofs.OpenRuns.{open_runs_hold}
 use Rattle.pl_requests.specs.declared.settings.AgentSetting.{AgentSetting}
 use Rattle.pl_due.proofs.Standing.{running_open}
 use Rattle.pl_granting.specs.Named.{IsJobOf, JobOf}

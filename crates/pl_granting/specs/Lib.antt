@@ -1,4 +1,5 @@
 pub mod Asked
+pub mod Below
 pub mod Broken
 pub mod Drawn
 pub mod Grantable

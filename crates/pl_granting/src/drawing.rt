@@ -14,9 +14,9 @@ ghost use Rattle.pl_journal.specs.Settings.{by};
 use crate::agents::held_job;
 use crate::free::{is_at_work, may_take};
 use crate::job_at::{JobAt, job_in};
+use pl_due::IndexedJournal;
 use pl_facts::{AgentSetting, QueuedRun};
 use pl_journal::Journal;
-use pl_open_runs::IndexedJournal;
 use pl_plan::PlanStage;
 
 /// Whether the job at a place of a stage that runs may be given to an agent that holds none.

@@ -13,9 +13,9 @@ use crate::jobs::{ended, full, job_waits, taken};
 use crate::locked::{awaits, by_locks};
 use crate::stages::{is_started, stage_waits, unpermitted};
 use pl_base::{Memory, Moment};
+use pl_due::IndexedJournal;
 use pl_facts::{AgentSetting, Rule};
 use pl_journal::Journal;
-use pl_open_runs::IndexedJournal;
 use pl_requests::JobName;
 use std::alloc::Global;
 

@@ -4,7 +4,7 @@ ghost use Rattle.pl_due.specs.Fit.{AreFit};
 ghost use Rattle.pl_granting.specs.Asked.{seen};
 ghost use Rattle.pl_granting.specs.Named as spec;
 ghost use Rattle.pl_plan.specs.Labels.{label};
-ghost use Rattle.pl_results.specs.Nodes.{CanRun};
+ghost use Rattle.pl_due.specs.Below.pl_results.specs.Nodes.{CanRun};
 
 use pl_base::Text;
 use pl_facts::QueuedRun;

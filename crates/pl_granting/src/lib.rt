@@ -17,3 +17,5 @@ pub use first_broken::{broken, broken_of_name};
 pub use job_at::{JobAt, job_named};
 pub use jobs::ended;
 pub use laws::granting_laws;
+pub use pl_settling::{settle, settling_laws};
+pub use pl_views::run_view;

@@ -12,12 +12,13 @@ ghost use Rattle.pl_locks.specs.Kept.{IsOrdered};
 
 use crate::job_at::JobAt;
 use pl_base::{ExactCopy, Memory, Moment, ResourceKey};
-use pl_due::{Contention, contender_of, contention_at, exclusive_uses, judgement_of};
+use pl_due::{
+    Contention, IndexedJournal, contender_of, contention_at, exclusive_uses, judgement_of,
+};
 use pl_facts::Rule;
 use pl_journal::Journal;
 use pl_judgement::Judgement;
 use pl_locks::{Contender, comes_first};
-use pl_open_runs::IndexedJournal;
 use std::alloc::Global;
 
 /// The rule by which the first check waits that waits.

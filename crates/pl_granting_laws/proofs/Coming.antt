@@ -6,12 +6,13 @@ use Rattle.pl_facts.specs.declared.fact.QueuedRun.{QueuedRun}
 use Rattle.pl_journal.specs.Runs.{queueing, run_told}
 use Rattle.pl_journal.specs.Settings.{by}
 use Rattle.pl_plan.specs.declared.plan.PlanStage.{PlanStage}
-use Rattle.pl_due.specs.Due.{Among, IsDue, Next, Superseded}
-use Rattle.pl_due.specs.Kinds.{Fails, IsDone, IsPassedOver, JobIsPassedOver, TimesOut}
-use Rattle.pl_due.specs.Least.{IsLeastOf}
-use Rattle.pl_due.specs.Nodes.{IsStageOf}
-use Rattle.pl_due.proofs.Standing.{waiting_open, waiting_unstarted}
-use Rattle.pl_settling.proofs.Giving.{eligible_one}
+use Rattle.pl_granting.specs.Below.pl_due.specs.Due.{Among, IsDue, Next, Superseded}
+use Rattle.pl_granting.specs.Below.pl_due.specs.Kinds.{Fails, IsDone, IsPassedOver, JobIsPassedOver}
+use Rattle.pl_granting.specs.Below.pl_due.specs.Kinds.{TimesOut}
+use Rattle.pl_granting.specs.Below.pl_due.specs.Least.{IsLeastOf}
+use Rattle.pl_granting.specs.Below.pl_due.specs.Nodes.{IsStageOf}
+use Rattle.pl_granting.specs.Below.pl_due.proofs.Standing.{waiting_open, waiting_unstarted}
+use Rattle.pl_granting.specs.Below.pl_settling.proofs.Giving.{eligible_one}
 use Rattle.pl_granting_laws.specs.Histories.{MayCome}
 
 -- a run that has a stage was queued

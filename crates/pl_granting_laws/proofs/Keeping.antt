@@ -20,13 +20,13 @@ use Rattle.pl_log.specs.Keys.{Job, Run, Stage, same_key}
 use Rattle.pl_log.proofs.Naming.{exact_key}
 use Rattle.pl_plan.specs.declared.plan.PlanStage.{PlanStage}
 use Rattle.pl_rules.specs.declared.rule.Rule.{Rule}
-use Rattle.pl_views.specs.Ready.{job_has_ended}
-use Rattle.pl_due.specs.Nodes.{has_done_all}
-use Rattle.pl_due.proofs.OneStage.{one_planned}
-use Rattle.pl_due.proofs.Ranges.{not_all}
-use Rattle.pl_due.proofs.Standing.{first_of_two}
-use Rattle.pl_settling.specs.Settles.{Adds}
-use Rattle.pl_settling.proofs.Behind.{none_before, untouched}
+use Rattle.pl_granting.specs.Below.pl_views.specs.Ready.{job_has_ended}
+use Rattle.pl_granting.specs.Below.pl_due.specs.Nodes.{has_done_all}
+use Rattle.pl_granting.specs.Below.pl_due.proofs.OneStage.{one_planned}
+use Rattle.pl_granting.specs.Below.pl_due.proofs.Ranges.{not_all}
+use Rattle.pl_granting.specs.Below.pl_due.proofs.Standing.{first_of_two}
+use Rattle.pl_granting.specs.Below.pl_settling.specs.Settles.{Adds}
+use Rattle.pl_granting.specs.Below.pl_settling.proofs.Behind.{none_before, untouched}
 use Rattle.pl_granting.specs.Grantable.{AreDone}
 use Rattle.pl_granting.specs.Named.{IsJobOf, JobOf}
 use Rattle.pl_granting.proofs.Places.{its_stage}

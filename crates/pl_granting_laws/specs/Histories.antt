@@ -8,7 +8,7 @@ use Rattle.pl_facts.specs.declared.fact.Fact.{Fact}
 use Rattle.pl_facts.specs.declared.fact.QueuedRun.{QueuedRun}
 use Rattle.pl_journal.specs.Runs.{queueing, stage_end, stage_start}
 use Rattle.pl_plan.specs.declared.plan.PlanStage.{PlanStage}
-use Rattle.pl_due.specs.Nodes.{IsStageOf, has_done_all}
+use Rattle.pl_granting.specs.Below.pl_due.specs.Nodes.{IsStageOf, has_done_all}
 use Rattle.pl_granting.specs.Grantable.{AreDone}
 
 pub record AreOrderly (facts : List Fact) : Type 0 where

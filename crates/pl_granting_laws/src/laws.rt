@@ -1,7 +1,7 @@
 ghost use Rattle.std.specs.Prelude.{◌++◌, ◌∷◌, [], ℕ, List};
 ghost use Rattle.pl_facts.specs.declared.fact.Fact.{Fact};
 ghost use Rattle.pl_granting_laws.specs.Histories.{AreOrderly, MayCome};
-ghost use Rattle.pl_settling.specs.Settles.{Adds};
+ghost use Rattle.pl_granting.specs.Below.pl_settling.specs.Settles.{Adds};
 
 /// Laws of histories that begin without a fact and to which what may come is added.
 ///

@@ -4,3 +4,4 @@
 mod laws;
 
 pub use laws::history_laws;
+pub use pl_granting::{granting_laws, settling_laws};

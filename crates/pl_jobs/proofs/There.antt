@@ -3,7 +3,7 @@ use Rattle.std.proofs.Common.{◌≡◌, ◌<◌, ℕ, List, [], Option, Some, N
 use Rattle.std.proofs.Common.{sym, ap, subst}
 use Rattle.std.specs.Option.{option_and_then, option_map_or}
 use Rattle.std.proofs.lemmas.Option.{slice_get_within}
-use Rattle.pl_due.specs.Fit.{AreFit}
+use Rattle.pl_granting.specs.Below.pl_due.specs.Fit.{AreFit}
 use Rattle.pl_facts.specs.declared.fact.Fact.{Fact}
 use Rattle.pl_facts.specs.declared.fact.QueuedRun.{QueuedRun}
 use Rattle.pl_granting.proofs.Fitting.{can_run}
@@ -15,7 +15,7 @@ use Rattle.pl_journal.specs.Settings.{by}
 use Rattle.pl_plan.specs.declared.plan.Compiled.{Compiled}
 use Rattle.pl_plan.specs.declared.plan.PlanStage.{PlanStage}
 use Rattle.pl_requests.specs.declared.request.JobName.{JobName}
-use Rattle.pl_results.specs.Nodes.{CanRun, jobs_of}
+use Rattle.pl_cond.specs.Below.pl_results.specs.Nodes.{CanRun, jobs_of}
 
 -- ---- by name
 

@@ -19,7 +19,7 @@ use Rattle.pl_requests.specs.declared.request.JobName.{JobName}
 use Rattle.pl_requests.specs.declared.settings.AgentSetting.{AgentSetting}
 use Rattle.pl_rules.specs.declared.rule.Rule.{Rule}
 use Rattle.pl_rules.specs.declared.rule.Rule.TheVariants as rules
-use Rattle.pl_views.specs.RunViews.{run_view}
+use Rattle.pl_granting.specs.Below.pl_views.specs.RunViews.{run_view}
 
 -- ---- a job that is given: its object; it is taken, or given once more where the agent holds it
 

@@ -2,7 +2,7 @@
 
 ghost use Rattle.std.specs.Prelude.{◌≡◌, ◌≤◌, None, IfOk};
 ghost use Rattle.std.specs.Option.{option_copied};
-ghost use Rattle.pl_due.specs.Fit.{AreFit, last_moment};
+ghost use Rattle.pl_granting.specs.Below.pl_due.specs.Fit.{AreFit, last_moment};
 ghost use Rattle.pl_granting.specs.Asked.{of};
 ghost use Rattle.pl_granting.specs.Named.{IsJobOf};
 ghost use Rattle.pl_jobs.specs.Granting as spec;
@@ -12,13 +12,12 @@ use pl_answers::{Answer, json_reply, no_content};
 use pl_base::{ExactCopy, Memory, Moment, Shared, Text};
 use pl_cond::variables_of;
 use pl_facts::Event;
-use pl_granting::{JobAt, broken_of_name, drawn, is_held_by, job_named};
+use pl_granting::{JobAt, broken_of_name, drawn, is_held_by, job_named, run_view};
 use pl_journal::Journal;
 use pl_objects::job_object;
 use pl_open_runs::IndexedJournal;
 use pl_refusals::rule_object;
 use pl_requests::{AgentSetting, JobName, Reply, Rule};
-use pl_views::run_view;
 use std::alloc::Global;
 
 /// A job as an agent gets it, as a reply.

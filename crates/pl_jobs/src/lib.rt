@@ -6,4 +6,5 @@ mod giving;
 mod reporting;
 
 pub use giving::{claim, draw, why};
+pub use pl_granting::{granting_laws, settle};
 pub use reporting::report;

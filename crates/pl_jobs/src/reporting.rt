@@ -2,7 +2,7 @@
 
 ghost use Rattle.std.specs.Prelude.{◌≡◌, IfOk};
 ghost use Rattle.std.specs.Option.{option_copied};
-ghost use Rattle.pl_due.specs.Fit.{AreFit};
+ghost use Rattle.pl_granting.specs.Below.pl_due.specs.Fit.{AreFit};
 ghost use Rattle.pl_granting.specs.Asked.{of};
 ghost use Rattle.pl_jobs.specs.Reports as spec;
 

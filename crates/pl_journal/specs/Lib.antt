@@ -1,4 +1,5 @@
 pub mod About
+pub mod Below
 pub mod Counted
 pub mod Kinds
 pub mod Log

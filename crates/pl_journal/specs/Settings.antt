@@ -12,11 +12,11 @@ use Rattle.pl_base.specs.declared.resource.ResourceKey.{ResourceKey}
 use Rattle.pl_facts.specs.declared.fact.Event.{Event}
 use Rattle.pl_facts.specs.declared.fact.Event.TheVariants as event
 use Rattle.pl_facts.specs.declared.fact.Fact.{Fact}
-use Rattle.pl_requests.specs.declared.settings.AgentSetting.{AgentSetting}
-use Rattle.pl_requests.specs.declared.settings.FileText.{FileText}
-use Rattle.pl_requests.specs.declared.settings.PipelineSetting.{PipelineSetting}
-use Rattle.pl_requests.specs.declared.settings.PrincipalSetting.{PrincipalSetting}
-use Rattle.pl_requests.specs.declared.settings.ResourceSetting.{ResourceSetting}
+use Rattle.pl_facts.specs.Below.pl_requests.specs.declared.settings.AgentSetting.{AgentSetting}
+use Rattle.pl_facts.specs.Below.pl_requests.specs.declared.settings.FileText.{FileText}
+use Rattle.pl_facts.specs.Below.pl_requests.specs.declared.settings.PipelineSetting.{PipelineSetting}
+use Rattle.pl_facts.specs.Below.pl_requests.specs.declared.settings.PrincipalSetting.{PrincipalSetting}
+use Rattle.pl_facts.specs.Below.pl_requests.specs.declared.settings.ResourceSetting.{ResourceSetting}
 use Rattle.pl_rules.specs.declared.role.Role.{Role}
 use Rattle.pl_rules.specs.declared.role.Role.TheVariants as role
 use Rattle.pl_journal.specs.About.{is_also_about, latest_about}

@@ -13,4 +13,5 @@ mod settings;
 mod told;
 
 pub use journal::{Journal, Numbers};
+pub use pl_facts::{Event, Fact, QueuedRun};
 pub use told::{outcome_told, outputs_told, rule_told, taker_told, verdict_told};

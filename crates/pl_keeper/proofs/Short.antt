@@ -5,9 +5,9 @@ use Rattle.std.specs.Prelude.{IfSome}
 use Rattle.std.specs.List.{AllByRecursion}
 use Rattle.pl_base.specs.declared.expanded.Argument.{Argument}
 use Rattle.pl_base.specs.declared.place.FileKey.{FileKey}
-use Rattle.pl_checks.specs.declared.check.Check.{Check}
-use Rattle.pl_checks.specs.declared.check.Check.TheVariants.{RequiredTemplate, Branch, Approval}
-use Rattle.pl_checks.specs.declared.check.Check.TheVariants.{Hours}
+use Rattle.pl_limits.specs.Below.pl_checks.specs.declared.check.Check.{Check}
+use Rattle.pl_limits.specs.Below.pl_checks.specs.declared.check.Check.TheVariants.{RequiredTemplate, Branch, Approval}
+use Rattle.pl_limits.specs.Below.pl_checks.specs.declared.check.Check.TheVariants.{Hours}
 use Rattle.pl_rules.specs.declared.rule.Rule.{Rule}
 use Rattle.pl_rules.specs.declared.rule.Rule.TheVariants.{TemplateArgument, BranchRefused}
 use Rattle.pl_rules.specs.declared.rule.Rule.TheVariants.{ApprovalRejected, LockSuperseded}

@@ -7,7 +7,7 @@ use Rattle.pl_base.specs.declared.expanded.Argument.{Argument}
 use Rattle.pl_base.specs.declared.place.FileKey.{FileKey}
 use Rattle.pl_base.specs.declared.resource.ResourceKey.{ResourceKey}
 use Rattle.pl_base.specs.declared.row.Row.{Row}
-use Rattle.pl_checks.specs.declared.check.Check.{Check}
+use Rattle.pl_limits.specs.Below.pl_checks.specs.declared.check.Check.{Check}
 use Rattle.pl_rules.specs.declared.role.Role.{Role}
 use Rattle.pl_fields.specs.declared.fault.DecodeFault.{DecodeFault}
 use Rattle.pl_fields.specs.declared.fault.DecodeFault.TheVariants.{Torn, Memory}

@@ -10,8 +10,8 @@ use crate::records::{
     KeptRun, KeptStage, Meta, Record, StageEnd, Taking,
 };
 use pl_base::{Argument, Digest, FileKey, List, Moment, ResourceKey, Row, Text};
-use pl_checks::Check;
 use pl_fields::{DecodeFault, Raw};
+use pl_limits::Check;
 use pl_rules::Role;
 use std::alloc::Global;
 

@@ -1,5 +1,5 @@
 use pl_base::{Argument, Bytes, Digest, FileKey, List, Moment, Outcome, ResourceKey, Text};
-use pl_checks::Check;
+use pl_limits::Check;
 use pl_rules::{Role, Rule};
 
 /// What one kept row holds, by its table.

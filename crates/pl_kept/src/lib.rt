@@ -15,6 +15,7 @@ mod written;
 pub use decisions::decision_row;
 pub use jobs::job_row;
 pub use numbers::numbers_row;
+pub use pl_journal::Journal;
 pub use planned::{planned_job, planned_stage};
 pub use settings::{agent_row, file_row, pipeline_row, principal_row, resource_row};
 pub use stages::stage_row;

@@ -25,7 +25,7 @@ use Rattle.pl_open_runs.proofs.Numbers.{has_of, in_order_filter, in_order_of, in
 use Rattle.pl_open_runs.proofs.OpenRuns.{among_is_open, are_open_runs, open_in_order}
 use Rattle.pl_open_runs.proofs.OpenRuns.{open_is_among, open_of_known}
 use Rattle.pl_open_runs.proofs.Steps.{few_else, not_both, open_before, open_same}
-use Rattle.pl_plan.proofs.Members.{Among, among_itself, among_stays}
+use Rattle.pl_facts.specs.Below.pl_plan.proofs.Members.{Among, among_itself, among_stays}
 
 -- ---- a known run more
 

@@ -19,8 +19,9 @@ use Rattle.std.proofs.lemmas.List.Sorted.{searched}
 use Rattle.std.proofs.lemmas.Map.Views.{exact_unsigned_eq}
 use Rattle.pl_open_runs.specs.Index.{Ascends, has}
 use Rattle.pl_open_runs.specs.Open.{in_order}
-use Rattle.pl_plan.proofs.Ascending.{Ascending, ascend_put, pairs_ascend}
-use Rattle.pl_plan.proofs.Members.{Among, ascending, among_itself, among_stays, one_list}
+use Rattle.pl_facts.specs.Below.pl_plan.proofs.Ascending.{Ascending, ascend_put, pairs_ascend}
+use Rattle.pl_facts.specs.Below.pl_plan.proofs.Members.{Among, ascending, among_itself, among_stays}
+use Rattle.pl_facts.specs.Below.pl_plan.proofs.Members.{one_list}
 
 abbrev pub InOrder : List ℕ → Type 0
 InOrder = Ascending nat_cmp nat_cmp_total

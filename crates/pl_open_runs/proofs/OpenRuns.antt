@@ -23,7 +23,7 @@ use Rattle.pl_open_runs.specs.Open.{has_open_stage, is_open, open_runs, queued_r
 use Rattle.pl_open_runs.proofs.Numbers.{InOrder, among_all, among_filter, among_kept, among_of}
 use Rattle.pl_open_runs.proofs.Numbers.{ascends_of, has_of, in_order_all, in_order_filter}
 use Rattle.pl_open_runs.proofs.Numbers.{in_order_of}
-use Rattle.pl_plan.proofs.Members.{Among, one_list}
+use Rattle.pl_facts.specs.Below.pl_plan.proofs.Members.{Among, one_list}
 
 -- the run that a key names
 abbrev pub run_named : Named → ℕ

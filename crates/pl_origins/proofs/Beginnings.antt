@@ -56,8 +56,8 @@ use Rattle.pl_directives.specs.Regions.{under, is_path, call_form, inside, of_it
 use Rattle.pl_directives.specs.Scalars.{scalar_by, scalar_value}
 use Rattle.pl_directives.specs.Strays.{told, key_stray, unless_stray, given_value}
 use Rattle.pl_reading.specs.Steps.{◌>>=◌}
-use Rattle.pl_calls.specs.Meant.{◌>>>◌, alone}
-use Rattle.pl_calls.specs.Parts.{Body}
+use Rattle.pl_recursion.specs.Below.pl_calls.specs.Meant.{◌>>>◌, alone}
+use Rattle.pl_recursion.specs.Below.pl_calls.specs.Parts.{Body}
 use Rattle.pl_recursion.specs.Expanding.{Filling, Shape, Part, Entry, scalar, sequence, mapping}
 use Rattle.pl_recursion.specs.Expanding.{value_by, value_under, body_by, body, turns, path_by, done}
 use Rattle.pl_recursion.specs.Expanding.{pair_behind, items_behind as items_filled, item_behind}

@@ -46,8 +46,8 @@ use Rattle.pl_params.specs.Kinds.{with_value, read_as}
 use Rattle.pl_params.specs.Nodes.{under, text_in}
 use Rattle.pl_params.specs.Steps.{in_turn}
 use Rattle.pl_reading.specs.Steps.{◌>>=◌}
-use Rattle.pl_calls.specs.Parameters.{parameter_told, declared_by, bound_to}
-use Rattle.pl_calls.specs.Parts.{Body}
+use Rattle.pl_recursion.specs.Below.pl_calls.specs.Parameters.{parameter_told, declared_by, bound_to}
+use Rattle.pl_recursion.specs.Below.pl_calls.specs.Parts.{Body}
 use Rattle.pl_eval_laws.proofs.Leads.{Opened, head_at, head_in, head_of, array_head, object_head}
 use Rattle.pl_eval_laws.proofs.Leads.{atom_by, atom_of}
 use Rattle.pl_eval_laws.specs.Marks.{Said, key as key_said, scalar, IsOfFiles}

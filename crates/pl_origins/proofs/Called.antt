@@ -28,17 +28,17 @@ use Rattle.pl_directives.specs.declared.region.Form.TheVariants.{Stages, Jobs, S
 use Rattle.pl_directives.specs.declared.region.Region.TheVariants.{Calls as InCalls}
 use Rattle.pl_directives.specs.Counting.{entered}
 use Rattle.pl_expr.specs.Conversions.{cast_text}
-use Rattle.pl_calls.specs.Calls.{Called, text_from, path_text, pairs_from, arguments_at}
-use Rattle.pl_calls.specs.Calls.{arguments_behind}
-use Rattle.pl_calls.specs.Calls.{call_from, call_of, given_across}
-use Rattle.pl_calls.specs.Frames.{parameters_for, template_of, framed_by}
-use Rattle.pl_calls.specs.Judging.{unless_at, mapping_in, template_in, held, body_in, form_key}
-use Rattle.pl_calls.specs.Judging.{stray, may_stand, body_fits}
-use Rattle.pl_calls.specs.Parameters.{declared_by, bound_to}
-use Rattle.pl_calls.specs.Parts.{Body, body_of, key_place_of}
+use Rattle.pl_recursion.specs.Below.pl_calls.specs.Calls.{Called, text_from, path_text, pairs_from, arguments_at}
+use Rattle.pl_recursion.specs.Below.pl_calls.specs.Calls.{arguments_behind}
+use Rattle.pl_recursion.specs.Below.pl_calls.specs.Calls.{call_from, call_of, given_across}
+use Rattle.pl_recursion.specs.Below.pl_calls.specs.Frames.{parameters_for, template_of, framed_by}
+use Rattle.pl_recursion.specs.Below.pl_calls.specs.Judging.{unless_at, mapping_in, template_in, held, body_in, form_key}
+use Rattle.pl_recursion.specs.Below.pl_calls.specs.Judging.{stray, may_stand, body_fits}
+use Rattle.pl_recursion.specs.Below.pl_calls.specs.Parameters.{declared_by, bound_to}
+use Rattle.pl_recursion.specs.Below.pl_calls.specs.Parts.{Body, body_of, key_place_of}
 use Rattle.pl_params.specs.Nodes.{under}
-use Rattle.pl_calls.specs.Reaching.{Opens, node_in as file_node}
-use Rattle.pl_calls.specs.declared.reaching.Opened.{Opened as OpenedFile}
+use Rattle.pl_recursion.specs.Below.pl_calls.specs.Reaching.{Opens, node_in as file_node}
+use Rattle.pl_recursion.specs.Below.pl_calls.specs.declared.reaching.Opened.{Opened as OpenedFile}
 use Rattle.pl_recursion.specs.Expanding.{expanded}
 use Rattle.pl_recursion.specs.Following.{Follow, scope_of}
 use Rattle.pl_recursion.specs.Levels.{variable_item, items_of, items_from, frame_for, deeper}

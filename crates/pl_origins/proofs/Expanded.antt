@@ -49,7 +49,7 @@ use Rattle.pl_recursion.specs.Scalars.{scalar_at, path_at}
 use Rattle.pl_recursion.specs.Scalars.{path_by as path_text_by}
 use Rattle.pl_recursion.specs.Settling.{node_settling}
 use Rattle.pl_directives.specs.declared.progress.Counted.{Counted}
-use Rattle.pl_calls.specs.Parts.{Body}
+use Rattle.pl_recursion.specs.Below.pl_calls.specs.Parts.{Body}
 use Rattle.pl_eval_laws.specs.Marks.{key as key_said, scalar as scalar_said}
 use Rattle.pl_eval_laws.proofs.Lists.{Has}
 use Rattle.pl_eval_laws.proofs.Trees.{Asked, Told, HeadOwn, pair_from}

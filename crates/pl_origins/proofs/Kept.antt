@@ -14,7 +14,7 @@ use Rattle.pl_frame.specs.declared.frame.Loop.{Loop}
 use Rattle.pl_frame.specs.declared.frame.Parameter.{Parameter}
 use Rattle.pl_frame.specs.Names.{taken}
 use Rattle.pl_frame.specs.Origins.{across}
-use Rattle.pl_calls.specs.Reaching.{Opens, node_in as file_node}
+use Rattle.pl_recursion.specs.Below.pl_calls.specs.Reaching.{Opens, node_in as file_node}
 use Rattle.pl_recursion.specs.Expanding.{expanded}
 use Rattle.pl_recursion.specs.Following.{scope_of}
 use Rattle.pl_recursion.specs.Levels.{followed}

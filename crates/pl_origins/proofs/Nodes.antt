@@ -15,7 +15,7 @@ use Rattle.pl_base.specs.Texts.{is}
 use Rattle.pl_params.specs.Declaring.{name_of}
 use Rattle.pl_params.specs.Nodes.{text_in, text_of}
 use Rattle.pl_template.specs.Cutting.{holds_opening}
-use Rattle.pl_calls.specs.Parts.{Body, body_of}
+use Rattle.pl_recursion.specs.Below.pl_calls.specs.Parts.{Body, body_of}
 use Rattle.pl_params.specs.Nodes.{under}
 use Rattle.pl_eval_laws.specs.Marks.{Said, key as key_said, scalar}
 use Rattle.pl_eval_laws.proofs.Lists.{Has, has_map, each_append, each_found, each_front, each_back}

@@ -4,7 +4,7 @@ use Rattle.std.specs.Cmp.Lexicographic.{same_text}
 use Rattle.std.proofs.lemmas.Bool.{and_parts}
 use Rattle.pl_base.specs.Texts.{is}
 use Rattle.pl_base.specs.declared.place.FileKey.{FileKey}
-use Rattle.pl_calls.specs.Reaching.{same_file}
+use Rattle.pl_recursion.specs.Below.pl_calls.specs.Reaching.{same_file}
 
 pub same_key : (left right : FileKey) → same_file left right ≡ true → left ≡ right
 same_key left right same =

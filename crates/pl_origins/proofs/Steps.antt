@@ -4,7 +4,7 @@ use Rattle.std.specs.Prelude.{IfOk}
 use Rattle.pl_base.specs.declared.place.FileKey.{FileKey}
 use Rattle.pl_directives.specs.declared.fault.ExpandFault.{ExpandFault}
 use Rattle.pl_reading.specs.Steps.{◌>>=◌}
-use Rattle.pl_calls.specs.Meant.{◌>>>◌, alone}
+use Rattle.pl_recursion.specs.Below.pl_calls.specs.Meant.{◌>>>◌, alone}
 
 -- of what a step gives, with the files that were called by then
 abbrev pub Used : Type 0 → Type 0

@@ -9,7 +9,7 @@ use Rattle.pl_frame.specs.declared.frame.Frame.{Frame}
 use Rattle.pl_frame.specs.declared.frame.Loop.{Loop}
 use Rattle.pl_frame.specs.declared.frame.Parameter.{Parameter}
 use Rattle.pl_directives.specs.declared.region.Region.{Region}
-use Rattle.pl_calls.specs.Reaching.{Opens}
+use Rattle.pl_recursion.specs.Below.pl_calls.specs.Reaching.{Opens}
 use Rattle.pl_recursion.specs.Expanding.{expanded}
 use Rattle.pl_recursion.specs.Following.{scope_of}
 use Rattle.pl_recursion.specs.Levels.{followed}

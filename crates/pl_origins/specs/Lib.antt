@@ -1,4 +1,5 @@
 pub mod Behind
+pub mod Below
 pub mod Places
 pub mod Spots
 pub mod Through

@@ -7,7 +7,7 @@ use Rattle.std.specs.Prelude.{is_some, unwrap_or, IfSome}
 use Rattle.pl_base.specs.declared.place.FileKey.{FileKey}
 use Rattle.pl_base.specs.declared.resource.ResourceKey.{ResourceKey}
 use Rattle.pl_base.specs.declared.row.Row.{Row}
-use Rattle.pl_facts.specs.declared.fact.Fact.{Fact}
+use Rattle.pl_kept.specs.Below.pl_facts.specs.declared.fact.Fact.{Fact}
 use Rattle.pl_fields.specs.Checks.{file_key, resource_key}
 use Rattle.pl_fields.specs.Fields.{number, text}
 use Rattle.pl_fields.specs.WaysOfFields.{number_one_way, small_one_way, text_one_way}
@@ -16,11 +16,13 @@ use Rattle.pl_keeper.specs.Keeping.{place}
 use Rattle.pl_keeper.specs.Rows.{row_of, IsKept}
 use Rattle.pl_keeper.specs.declared.records.Record.{Record}
 use Rattle.pl_keeper.specs.declared.records.Record.TheVariants as kept
-use Rattle.pl_journal.specs.Runs.{canceling, decision, job_end, queueing, run_told, stage_end}
-use Rattle.pl_journal.specs.Runs.{stage_start, taking, verdict_told}
-use Rattle.pl_journal.specs.Settings.{agent_set, file, pipeline, principal_set, resource_set}
-use Rattle.pl_plan.specs.declared.plan.PlanJob.{PlanJob}
-use Rattle.pl_plan.specs.declared.plan.PlanStage.{PlanStage}
+use Rattle.pl_kept.specs.Below.pl_journal.specs.Runs.{canceling, decision, job_end, queueing}
+use Rattle.pl_kept.specs.Below.pl_journal.specs.Runs.{run_told, stage_end}
+use Rattle.pl_kept.specs.Below.pl_journal.specs.Runs.{stage_start, taking, verdict_told}
+use Rattle.pl_kept.specs.Below.pl_journal.specs.Settings.{agent_set, file, pipeline, principal_set}
+use Rattle.pl_kept.specs.Below.pl_journal.specs.Settings.{resource_set}
+use Rattle.pl_kept.specs.Below.pl_plan.specs.declared.plan.PlanJob.{PlanJob}
+use Rattle.pl_kept.specs.Below.pl_plan.specs.declared.plan.PlanStage.{PlanStage}
 use Rattle.pl_requests.specs.declared.settings.AgentSetting.{AgentSetting}
 use Rattle.pl_requests.specs.declared.settings.PipelineSetting.{PipelineSetting}
 use Rattle.pl_requests.specs.declared.settings.PrincipalSetting.{PrincipalSetting}

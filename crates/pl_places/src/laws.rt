@@ -1,6 +1,6 @@
 ghost use Rattle.std.specs.Prelude.{◌≡◌, List, Some, IfSome};
 ghost use Rattle.pl_base.specs.declared.row.Row.{Row};
-ghost use Rattle.pl_facts.specs.declared.fact.Fact.{Fact};
+ghost use Rattle.pl_kept.specs.Below.pl_facts.specs.declared.fact.Fact.{Fact};
 ghost use Rattle.pl_keeper.specs.Keeping.{place};
 ghost use Rattle.pl_keeper.specs.Rows.{IsKept};
 ghost use Rattle.pl_kept.specs.Kept.{kept_at, row_at, Where};

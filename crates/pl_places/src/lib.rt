@@ -4,3 +4,4 @@
 mod laws;
 
 pub use laws::place_laws;
+pub use pl_kept::numbers_row;

@@ -27,14 +27,14 @@ use Rattle.pl_origins.proofs.Called.{Borders}
 use Rattle.pl_origins.proofs.Kept.{IsExtending, NoFile, extended_last, silent_keeps, silent_reads}
 use Rattle.pl_origins.proofs.Steps.{ok_then}
 use Rattle.pl_expand.specs.declared.root.RootTree.{RootTree}
-use Rattle.pl_extends.specs.Forms.{is_form}
+use Rattle.pl_expand.specs.Below.pl_extends.specs.Forms.{is_form}
 use Rattle.pl_expand.specs.Tree.{Set, tree_of}
 use Rattle.pl_provenance.specs.Roots.{pairs_of, jobs_of}
 use Rattle.pl_provenance.specs.Written.{StandsInFile, behind_extends, IsCall, IsWritten}
 use Rattle.pl_provenance.specs.Closure.{IsLedTo, Closure, itself, called, IsInClosure}
 use Rattle.pl_provenance.specs.Closure.{IsFromClosure, ArePairsFromClosure, WrittenInClosure}
 use Rattle.pl_provenance.proofs.Extended.{ExtendsBorder}
-use Rattle.pl_provenance.proofs.Files.{IsIn, opens_own, root_stands}
+use Rattle.pl_provenance.proofs.Standing.{IsIn, opens_own, root_stands}
 use Rattle.pl_provenance.proofs.Through.{extends_one, Before, Behind, AnyArgument, begins}
 use Rattle.pl_provenance.proofs.Through.{any_arguments}
 use Rattle.pl_provenance.proofs.Whole.{TreeFrom, tree_jobs}

@@ -41,10 +41,10 @@ use Rattle.pl_calls.specs.Parts.{Body, body_of}
 use Rattle.pl_params.specs.Nodes.{under}
 use Rattle.pl_calls.specs.Reaching.{Opens, node_in as file_node}
 use Rattle.pl_calls.specs.declared.reaching.Opened.{Opened as OpenedFile}
-use Rattle.pl_recursion.specs.Expanding.{part_of, entry_of, expanded, pair_behind}
-use Rattle.pl_recursion.specs.Following.{Follow, scope_of}
-use Rattle.pl_recursion.specs.Levels.{followed}
-use Rattle.pl_recursion.specs.declared.followed.SettledPairs.{SettledPairs}
+use Rattle.pl_origins.specs.Below.pl_recursion.specs.Expanding.{part_of, entry_of, expanded, pair_behind}
+use Rattle.pl_origins.specs.Below.pl_recursion.specs.Following.{Follow, scope_of}
+use Rattle.pl_origins.specs.Below.pl_recursion.specs.Levels.{followed}
+use Rattle.pl_origins.specs.Below.pl_recursion.specs.declared.followed.SettledPairs.{SettledPairs}
 use Rattle.pl_eval_laws.proofs.Leads.{Opened}
 use Rattle.pl_eval_laws.specs.Marks.{scalar}
 use Rattle.pl_eval_laws.proofs.Lists.{Has, has_map, each_found}
@@ -62,16 +62,16 @@ use Rattle.pl_origins.proofs.Nodes.{said_in, under_in, Stood}
 use Rattle.pl_origins.proofs.Scalars.{OneFrom, SeenOne, scalar_value_from, seen_tree}
 use Rattle.pl_origins.proofs.Steps.{Gives, any_then, ok_then, plain_then, static_then, first_then}
 use Rattle.pl_origins.proofs.Steps.{used_then, used_static_then, alone_gives, done_gives, given}
-use Rattle.pl_extends.specs.declared.extending.Extension.{Extension}
-use Rattle.pl_extends.specs.Extending.{path_in, mapping_from, value_from, argument_behind}
-use Rattle.pl_extends.specs.Extending.{arguments_behind, may_extend, extended_pairs, body_pair}
-use Rattle.pl_extends.specs.Extending.{body_pairs, pairs_there, extension_of, body_filled}
-use Rattle.pl_extends.specs.Extending.{opened_filled, Asked, asking, shown_by, shown}
-use Rattle.pl_extends.specs.Extending.{reached_filled}
-use Rattle.pl_extends.specs.Extending.{mapping_extended, item_under, argument_given}
-use Rattle.pl_extends.specs.Extending.{arguments_given, path_given, pairs_asked, extended_from}
-use Rattle.pl_extends.specs.Extending.{value_extended, are_plain, pairs_extended, text_extended}
-use Rattle.pl_extends.specs.Extending.{extended_by, extended}
+use Rattle.pl_expand.specs.Below.pl_extends.specs.declared.extending.Extension.{Extension}
+use Rattle.pl_expand.specs.Below.pl_extends.specs.Extending.{path_in, mapping_from, value_from, argument_behind}
+use Rattle.pl_expand.specs.Below.pl_extends.specs.Extending.{arguments_behind, may_extend, extended_pairs, body_pair}
+use Rattle.pl_expand.specs.Below.pl_extends.specs.Extending.{body_pairs, pairs_there, extension_of, body_filled}
+use Rattle.pl_expand.specs.Below.pl_extends.specs.Extending.{opened_filled, Asked, asking, shown_by, shown}
+use Rattle.pl_expand.specs.Below.pl_extends.specs.Extending.{reached_filled}
+use Rattle.pl_expand.specs.Below.pl_extends.specs.Extending.{mapping_extended, item_under, argument_given}
+use Rattle.pl_expand.specs.Below.pl_extends.specs.Extending.{arguments_given, path_given, pairs_asked, extended_from}
+use Rattle.pl_expand.specs.Below.pl_extends.specs.Extending.{value_extended, are_plain, pairs_extended, text_extended}
+use Rattle.pl_expand.specs.Below.pl_extends.specs.Extending.{extended_by, extended}
 
 -- What must be so across the border of `extends` into a file, of which and of whose path's place K
 -- holds: P holds of the origins of the root's frame, and T of those of the template's.

@@ -18,8 +18,8 @@ use Rattle.pl_calls.specs.Judging.{unless_at}
 use Rattle.pl_eval_laws.proofs.Lists.{each_append, each_implies}
 use Rattle.pl_eval_laws.proofs.Trees.{Asked as Wanted, PairFrom}
 use Rattle.pl_origins.proofs.Steps.{ok_then, any_then}
-use Rattle.pl_extends.specs.declared.extending.Extension.{Extension}
-use Rattle.pl_extends.specs.Forms.{is_form, form_place}
+use Rattle.pl_expand.specs.Below.pl_extends.specs.declared.extending.Extension.{Extension}
+use Rattle.pl_expand.specs.Below.pl_extends.specs.Forms.{is_form, form_place}
 use Rattle.pl_expand.specs.Merging.{is_replaced, with_items, root_side}
 use Rattle.pl_expand.specs.Merging.{template_side, joined_pairs, shared_variables, merged_with}
 use Rattle.pl_expand.specs.Tree.{stands, object_pairs, root_object}

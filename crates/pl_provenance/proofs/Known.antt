@@ -35,9 +35,9 @@ use Rattle.pl_calls.specs.Reaching.{called_then, found_at, opened_at}
 use Rattle.pl_calls.specs.declared.files.Parsed.{Parsed}
 use Rattle.pl_calls.specs.declared.reaching.Home.{Home}
 use Rattle.pl_calls.specs.declared.reaching.Opened.{Opened as OpenedFile}
-use Rattle.pl_recursion.specs.Expanding.{expanded}
-use Rattle.pl_recursion.specs.Following.{scope_of}
-use Rattle.pl_recursion.specs.Levels.{followed}
+use Rattle.pl_origins.specs.Below.pl_recursion.specs.Expanding.{expanded}
+use Rattle.pl_origins.specs.Below.pl_recursion.specs.Following.{scope_of}
+use Rattle.pl_origins.specs.Below.pl_recursion.specs.Levels.{followed}
 use Rattle.pl_eval_laws.proofs.Lists.{Has, each_append, each_front, each_back, each_implies}
 use Rattle.pl_eval_laws.proofs.Lists.{each_contained, each_of}
 use Rattle.pl_eval_laws.specs.Marks.{IsOfFiles, marks_of, scalar}
@@ -56,14 +56,14 @@ use Rattle.pl_origins.proofs.SameFile.{same_key}
 use Rattle.pl_origins.proofs.Scalars.{OneFrom}
 use Rattle.pl_origins.proofs.Steps.{Used, Gives, ok_then, static_then, used_then}
 use Rattle.pl_origins.proofs.Steps.{done_gives}
-use Rattle.pl_extends.specs.declared.rooting.RootFilling.{RootFilling}
+use Rattle.pl_expand.specs.Below.pl_extends.specs.declared.rooting.RootFilling.{RootFilling}
 use Rattle.pl_expand.specs.declared.root.RootNode.{RootNode}
 use Rattle.pl_expand.specs.declared.root.RootTree.{RootTree}
-use Rattle.pl_root.specs.Resources.{earliest}
+use Rattle.pl_expand.specs.Below.pl_root.specs.Resources.{earliest}
 use Rattle.pl_expand.specs.Tree.{Set, unless}
-use Rattle.pl_root.specs.Arguments.{argument_file, parameters_by}
-use Rattle.pl_root.specs.Keys.{root_complaints}
-use Rattle.pl_root.specs.Frames.{first_frame}
+use Rattle.pl_expand.specs.Below.pl_root.specs.Arguments.{argument_file, parameters_by}
+use Rattle.pl_expand.specs.Below.pl_root.specs.Keys.{root_complaints}
+use Rattle.pl_expand.specs.Below.pl_root.specs.Frames.{first_frame}
 use Rattle.pl_expand.specs.Tree.{root_from, root_object, root_mapping, pairs_expanded, home_of}
 use Rattle.pl_expand.specs.Tree.{bare_home, used_files, mapping_expanded, bare_expanded}
 use Rattle.pl_expand.specs.Tree.{other_expanded, body_expanded_by, root_node, tree_of}
@@ -77,7 +77,7 @@ use Rattle.pl_provenance.proofs.Merged.{object_from_root}
 use Rattle.pl_provenance.proofs.Rooted.{RootBorder, ArgumentIn, parameters_are, root_frame_from}
 use Rattle.pl_provenance.proofs.Rooted.{pairs_expanded_give}
 use Rattle.pl_provenance.proofs.Whole.{unless_kept}
-use Rattle.pl_provenance.proofs.Files.{IsIn, files_stand, root_stands}
+use Rattle.pl_provenance.proofs.Standing.{IsIn, files_stand, root_stands}
 
 -- ---- what stands in a list
 

@@ -1,6 +1,5 @@
 pub mod Closure
 pub mod Extended
-pub mod Files
 pub mod Given
 pub mod Joined
 pub mod Known
@@ -8,6 +7,7 @@ pub mod Merged
 pub mod Reader
 pub mod Rooted
 pub mod Saying
+pub mod Standing
 pub mod Through
 pub mod Whole
 pub mod Written

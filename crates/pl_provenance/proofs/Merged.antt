@@ -26,11 +26,11 @@ use Rattle.pl_origins.proofs.Contents.{ContentFrom}
 use Rattle.pl_origins.proofs.Frames.{Keeps}
 use Rattle.pl_origins.proofs.Nodes.{Site}
 use Rattle.pl_origins.proofs.Steps.{ok_then, any_then}
-use Rattle.pl_extends.specs.declared.extending.Extension.{Extension}
-use Rattle.pl_extends.specs.Extending.{item_under}
+use Rattle.pl_expand.specs.Below.pl_extends.specs.declared.extending.Extension.{Extension}
+use Rattle.pl_expand.specs.Below.pl_extends.specs.Extending.{item_under}
 use Rattle.pl_expand.specs.Merging.{variables_from as variables_there, variables_in}
 use Rattle.pl_expand.specs.Merging.{joined_variables, both_variables, with_items, is_replaced}
-use Rattle.pl_extends.specs.Forms.{form_place}
+use Rattle.pl_expand.specs.Below.pl_extends.specs.Forms.{form_place}
 use Rattle.pl_expand.specs.Merging.{root_side, template_side, joined_pairs}
 use Rattle.pl_expand.specs.Merging.{shared_variables, merged}
 use Rattle.pl_expand.specs.Tree.{stands, object_pairs, root_object}

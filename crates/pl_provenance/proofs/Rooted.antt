@@ -49,10 +49,10 @@ use Rattle.pl_calls.specs.Parameters.{declared_by}
 use Rattle.pl_calls.specs.Parts.{Body}
 use Rattle.pl_params.specs.Nodes.{under}
 use Rattle.pl_calls.specs.Reaching.{Opens}
-use Rattle.pl_recursion.specs.Expanding.{expanded, part_of, done}
-use Rattle.pl_recursion.specs.Following.{scope_of}
-use Rattle.pl_recursion.specs.Levels.{followed}
-use Rattle.pl_recursion.specs.Settling.{node_settling}
+use Rattle.pl_origins.specs.Below.pl_recursion.specs.Expanding.{expanded, part_of, done}
+use Rattle.pl_origins.specs.Below.pl_recursion.specs.Following.{scope_of}
+use Rattle.pl_origins.specs.Below.pl_recursion.specs.Levels.{followed}
+use Rattle.pl_origins.specs.Below.pl_recursion.specs.Settling.{node_settling}
 use Rattle.pl_eval_laws.proofs.Leads.{Opened}
 use Rattle.pl_eval_laws.specs.Marks.{key as key_said, scalar}
 use Rattle.pl_eval_laws.proofs.Lists.{Has, each_append}
@@ -73,32 +73,32 @@ use Rattle.pl_origins.proofs.Scalars.{HeldFrom, OneFrom, SeenOne, ActionFrom, ke
 use Rattle.pl_origins.proofs.Scalars.{scalar_value_from, seen_tree}
 use Rattle.pl_origins.proofs.Steps.{Gives, ok_then, any_then, plain_then, first_then}
 use Rattle.pl_origins.proofs.Steps.{used_then, alone_gives, done_gives, given}
-use Rattle.pl_extends.specs.declared.extending.Extension.{Extension}
+use Rattle.pl_expand.specs.Below.pl_extends.specs.declared.extending.Extension.{Extension}
 use Rattle.pl_expand.specs.declared.filling.Early.{Early}
-use Rattle.pl_extends.specs.declared.rooting.RootFilling.{RootFilling}
+use Rattle.pl_expand.specs.Below.pl_extends.specs.declared.rooting.RootFilling.{RootFilling}
 use Rattle.pl_expand.specs.declared.root.RootNode.{RootNode}
-use Rattle.pl_root.specs.declared.root_key.RootKey.{RootKey}
-use Rattle.pl_root.specs.declared.root_key.RootKey.TheVariants as key
-use Rattle.pl_extends.specs.Extending.{extended, value_extended}
-use Rattle.pl_extends.specs.Rooting.{Rooting, filled_with, chained, counting, misplaced}
-use Rattle.pl_extends.specs.Rooting.{unless_misplaced, extended_behind, key_put, named_put}
-use Rattle.pl_extends.specs.Rooting.{item_put, given_by, given_put, all_given_put}
-use Rattle.pl_recursion.specs.Settling.{with_item}
-use Rattle.pl_extends.specs.Rooting.{value_put, text_put, list_put, pairs_put, mapping_put}
-use Rattle.pl_extends.specs.Rooting.{node_put, turns_put, asked_put, pair_put, node_seen}
-use Rattle.pl_extends.specs.Rooting.{body_seen, pair_seen}
-use Rattle.pl_extends.proofs.Itself.{node_itself}
-use Rattle.pl_root.specs.Arguments.{argument_file, whole_text, read_told, is_text}
-use Rattle.pl_root.specs.Arguments.{argument_value, kind_for, argument_given, arguments_given}
-use Rattle.pl_root.specs.Arguments.{bound_by}
-use Rattle.pl_root.specs.Arguments.{parameters_by}
-use Rattle.pl_root.specs.Frames.{root_frame, first_frame}
+use Rattle.pl_expand.specs.Below.pl_root.specs.declared.root_key.RootKey.{RootKey}
+use Rattle.pl_expand.specs.Below.pl_root.specs.declared.root_key.RootKey.TheVariants as key
+use Rattle.pl_expand.specs.Below.pl_extends.specs.Extending.{extended, value_extended}
+use Rattle.pl_expand.specs.Below.pl_extends.specs.Rooting.{Rooting, filled_with, chained, counting, misplaced}
+use Rattle.pl_expand.specs.Below.pl_extends.specs.Rooting.{unless_misplaced, extended_behind, key_put, named_put}
+use Rattle.pl_expand.specs.Below.pl_extends.specs.Rooting.{item_put, given_by, given_put, all_given_put}
+use Rattle.pl_origins.specs.Below.pl_recursion.specs.Settling.{with_item}
+use Rattle.pl_expand.specs.Below.pl_extends.specs.Rooting.{value_put, text_put, list_put, pairs_put, mapping_put}
+use Rattle.pl_expand.specs.Below.pl_extends.specs.Rooting.{node_put, turns_put, asked_put, pair_put, node_seen}
+use Rattle.pl_expand.specs.Below.pl_extends.specs.Rooting.{body_seen, pair_seen}
+use Rattle.pl_expand.specs.Below.pl_extends.proofs.Itself.{node_itself}
+use Rattle.pl_expand.specs.Below.pl_root.specs.Arguments.{argument_file, whole_text, read_told, is_text}
+use Rattle.pl_expand.specs.Below.pl_root.specs.Arguments.{argument_value, kind_for, argument_given, arguments_given}
+use Rattle.pl_expand.specs.Below.pl_root.specs.Arguments.{bound_by}
+use Rattle.pl_expand.specs.Below.pl_root.specs.Arguments.{parameters_by}
+use Rattle.pl_expand.specs.Below.pl_root.specs.Frames.{root_frame, first_frame}
 use Rattle.pl_expand.specs.Tree.{early_by}
-use Rattle.pl_root.specs.Keys.{root_key}
+use Rattle.pl_expand.specs.Below.pl_root.specs.Keys.{root_key}
 use Rattle.pl_expand.specs.Tree.{put_variables}
 use Rattle.pl_expand.specs.Tree.{passed_over, variables_pair, root_pair, given_to, early_behind}
 use Rattle.pl_expand.specs.Tree.{root_pairs, root_object, root_from}
-use Rattle.pl_root.specs.Frames.{second_frame}
+use Rattle.pl_expand.specs.Below.pl_root.specs.Frames.{second_frame}
 use Rattle.pl_expand.specs.Tree.{root_mapping, filled_root, pairs_expanded}
 use Rattle.pl_provenance.specs.Roots.{jobs_of}
 use Rattle.pl_provenance.proofs.Extended.{ExtendsBorder, ExtensionFrom, extended_gives}

@@ -12,7 +12,7 @@ use Rattle.pl_origins.proofs.Frames.{Keeps, Reads}
 use Rattle.pl_expand.specs.Tree.{Set}
 use Rattle.pl_provenance.specs.Texts.{MaySay, Says, value_said}
 use Rattle.pl_provenance.specs.Known.{IsCalling, as_written, by_expression}
-use Rattle.pl_provenance.proofs.Files.{IsIn, stood_is}
+use Rattle.pl_provenance.proofs.Standing.{IsIn, stood_is}
 
 str_text : (text : List ℕ) → cast_text (Str text) ≡ text
 str_text text = search (rules, the_lemmas)

@@ -17,7 +17,7 @@ use Rattle.pl_origins.proofs.Kept.{any_ok, NoPlace, NoFile, opens_anything, exte
 use Rattle.pl_origins.proofs.Kept.{Extending, IsExtending, kept, silent_reads}
 use Rattle.pl_origins.proofs.Nodes.{Site, site, NodeIn, anywhere, nothing_said}
 use Rattle.pl_origins.proofs.Steps.{ok_then}
-use Rattle.pl_root.specs.Arguments.{argument_file}
+use Rattle.pl_expand.specs.Below.pl_root.specs.Arguments.{argument_file}
 use Rattle.pl_expand.specs.Tree.{root_node, tree_of}
 use Rattle.pl_provenance.specs.Roots.{jobs_of, IsPairThrough, StepsComeThrough}
 use Rattle.pl_provenance.proofs.Extended.{ExtendsBorder}

@@ -19,9 +19,9 @@ use Rattle.pl_calls.specs.Parts.{Body, body_of}
 use Rattle.pl_params.specs.Nodes.{under}
 use Rattle.pl_calls.specs.Reaching.{Opens, opens as opens_of}
 use Rattle.pl_calls.specs.declared.reaching.Home.{Home}
-use Rattle.pl_recursion.specs.Expanding.{expanded}
-use Rattle.pl_recursion.specs.Following.{scope_of}
-use Rattle.pl_recursion.specs.Levels.{followed}
+use Rattle.pl_origins.specs.Below.pl_recursion.specs.Expanding.{expanded}
+use Rattle.pl_origins.specs.Below.pl_recursion.specs.Following.{scope_of}
+use Rattle.pl_origins.specs.Below.pl_recursion.specs.Levels.{followed}
 use Rattle.pl_eval_laws.proofs.Lists.{Has}
 use Rattle.pl_eval_laws.proofs.Trees.{Asked as Wanted, PairFrom}
 use Rattle.pl_origins.proofs.Called.{Borders, OpensFrom}
@@ -30,14 +30,14 @@ use Rattle.pl_origins.proofs.Frames.{ParameterFrom}
 use Rattle.pl_origins.proofs.Kept.{any_ok, NoFiles, plainly}
 use Rattle.pl_origins.proofs.Nodes.{Site, NodeIn, PairIn, BodyIn, node_in, under_in}
 use Rattle.pl_origins.proofs.Steps.{Used, ok_then, any_then}
-use Rattle.pl_extends.specs.declared.rooting.RootFilling.{RootFilling}
+use Rattle.pl_expand.specs.Below.pl_extends.specs.declared.rooting.RootFilling.{RootFilling}
 use Rattle.pl_expand.specs.declared.root.RootNode.{RootNode}
 use Rattle.pl_expand.specs.declared.root.RootTree.{RootTree}
-use Rattle.pl_root.specs.Resources.{earliest}
+use Rattle.pl_expand.specs.Below.pl_root.specs.Resources.{earliest}
 use Rattle.pl_expand.specs.Tree.{Set, unless}
-use Rattle.pl_root.specs.Keys.{root_complaints}
-use Rattle.pl_root.specs.Arguments.{parameters_by}
-use Rattle.pl_root.specs.Frames.{first_frame}
+use Rattle.pl_expand.specs.Below.pl_root.specs.Keys.{root_complaints}
+use Rattle.pl_expand.specs.Below.pl_root.specs.Arguments.{parameters_by}
+use Rattle.pl_expand.specs.Below.pl_root.specs.Frames.{first_frame}
 use Rattle.pl_expand.specs.Tree.{root_from}
 use Rattle.pl_expand.specs.Tree.{root_mapping, pairs_expanded, home_of, bare_home, mapping_expanded}
 use Rattle.pl_expand.specs.Tree.{bare_expanded, other_expanded, body_expanded_by, root_node}

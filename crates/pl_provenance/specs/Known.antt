@@ -24,7 +24,7 @@ use Rattle.pl_eval_laws.specs.Trees.{origins_of}
 use Rattle.pl_origins.specs.Places.{places_of}
 use Rattle.pl_origins.specs.Spots.{Written, begins, IsTextOf}
 use Rattle.pl_expand.specs.Tree.{Set, expansion}
-use Rattle.pl_root.specs.Arguments.{argument_file}
+use Rattle.pl_expand.specs.Below.pl_root.specs.Arguments.{argument_file}
 use Rattle.pl_provenance.specs.Texts.{IsSpot, Says}
 use Rattle.pl_provenance.specs.Written.{StandsInFile}
 

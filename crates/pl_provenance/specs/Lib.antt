@@ -1,3 +1,4 @@
+pub mod Below
 pub mod Closure
 pub mod Known
 pub mod Reader

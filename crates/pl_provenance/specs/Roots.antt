@@ -11,7 +11,7 @@ use Rattle.pl_base.specs.declared.value.MarkedNode.{MarkedNode}
 use Rattle.pl_base.specs.declared.value.MarkedPair.{MarkedPair}
 use Rattle.pl_eval_laws.specs.Trees.{origins_in}
 use Rattle.pl_origins.specs.Through.{IsThrough}
-use Rattle.pl_extends.specs.Forms.{is_form}
+use Rattle.pl_expand.specs.Below.pl_extends.specs.Forms.{is_form}
 use Rattle.pl_expand.specs.Tree.{Set, expansion}
 
 -- the pairs of a tree, where it is a mapping

@@ -10,3 +10,4 @@ pub use laws::{
     texts_are_those_of_their_places, what_no_argument_gave_is_written_where_it_is_told,
     written_jobs_come_from_the_template_and_its_calls,
 };
+pub use pl_expand::{Files, MemFiles, Parsed};

@@ -1,3 +1,4 @@
+pub mod Below
 pub mod Expanding
 pub mod Following
 pub mod Levels

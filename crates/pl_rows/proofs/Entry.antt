@@ -9,9 +9,9 @@ use Rattle.std.specs.Ordering.{is_eq}
 use Rattle.std.specs.Prelude.{is_some, unwrap_or, IfSome}
 use Rattle.pl_base.specs.Files.{text_cmp}
 use Rattle.pl_base.specs.declared.row.Row.{Row}
-use Rattle.pl_facts.specs.declared.fact.Fact.{Fact}
-use Rattle.pl_facts.specs.Sizes.{counted}
-use Rattle.pl_journal.specs.Log.{Log, last_moment, last_run, version}
+use Rattle.pl_touched.specs.Below.pl_facts.specs.declared.fact.Fact.{Fact}
+use Rattle.pl_touched.specs.Below.pl_facts.specs.Sizes.{counted}
+use Rattle.pl_touched.specs.Below.pl_journal.specs.Log.{Log, last_moment, last_run, version}
 use Rattle.pl_keeper.specs.Keeping.{place, place_cmp}
 use Rattle.pl_keeper.specs.Rows.{row_of, IsKept}
 use Rattle.pl_keeper.specs.declared.records.Record.{Record}
@@ -23,9 +23,10 @@ use Rattle.pl_changes.specs.Differing.{row_in, stands_at, OverlookNothing}
 use Rattle.pl_changes.proofs.Leading.{first, none_some}
 use Rattle.pl_changes.proofs.Places.{find_behind, if_false, if_true, itself, or_none, same_place}
 use Rattle.pl_changes.proofs.Places.{stands, Place}
-use Rattle.pl_kept.specs.Kept.{kept_at, numbers_kept, row_at, Where, File, Pipeline}
-use Rattle.pl_kept.specs.Kept.{Resource}
-use Rattle.pl_kept.specs.Kept.{Principal, Agent, Run, Stage, Job, Decision}
+use Rattle.pl_places.specs.Below.pl_kept.specs.Kept.{kept_at, numbers_kept, row_at, Where, File}
+use Rattle.pl_places.specs.Below.pl_kept.specs.Kept.{Pipeline}
+use Rattle.pl_places.specs.Below.pl_kept.specs.Kept.{Resource}
+use Rattle.pl_places.specs.Below.pl_kept.specs.Kept.{Principal, Agent, Run, Stage, Job, Decision}
 use Rattle.pl_places.specs.Places.{place_at, Fits}
 use Rattle.pl_places.proofs.OnePlace.{fits_there, one_place, stands_there}
 use Rattle.pl_touched.specs.Touched.{is_among, rows_at, same_where, touched_by, AreNewTo}

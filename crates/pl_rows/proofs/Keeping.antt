@@ -6,9 +6,9 @@ use Rattle.std.specs.Option.{option_map, option_to_list}
 use Rattle.std.specs.Ordering.{is_eq}
 use Rattle.std.specs.Prelude.{if◌then◌else◌}
 use Rattle.pl_base.specs.declared.row.Row.{Row}
-use Rattle.pl_facts.specs.declared.fact.Fact.{Fact}
-use Rattle.pl_facts.specs.Sizes.{counted}
-use Rattle.pl_journal.specs.Log.{Log, last_moment, last_run, version}
+use Rattle.pl_touched.specs.Below.pl_facts.specs.declared.fact.Fact.{Fact}
+use Rattle.pl_touched.specs.Below.pl_facts.specs.Sizes.{counted}
+use Rattle.pl_touched.specs.Below.pl_journal.specs.Log.{Log, last_moment, last_run, version}
 use Rattle.pl_keeper.specs.Keeping.{all_changed, place, place_cmp}
 use Rattle.pl_keeper.specs.Rows.{row_of}
 use Rattle.pl_keeper.specs.declared.records.Record.{Record}
@@ -17,8 +17,9 @@ use Rattle.pl_changes.specs.Differing.{differing, row_in, stands_at, Apart, Tell
 use Rattle.pl_changes.proofs.Leading.{ascend_all, none_some, turned}
 use Rattle.pl_changes.proofs.Places.{if_false, if_true, itself, same_place, Place}
 use Rattle.pl_changes.proofs.There.{there}
-use Rattle.pl_kept.specs.Kept.{numbers_kept, row_at, Where, File, Pipeline, Resource, Principal}
-use Rattle.pl_kept.specs.Kept.{Agent, Run, Stage, Job, Decision}
+use Rattle.pl_places.specs.Below.pl_kept.specs.Kept.{numbers_kept, row_at, Where, File, Pipeline}
+use Rattle.pl_places.specs.Below.pl_kept.specs.Kept.{Resource, Principal}
+use Rattle.pl_places.specs.Below.pl_kept.specs.Kept.{Agent, Run, Stage, Job, Decision}
 use Rattle.pl_places.specs.Places.{place_at, Fits}
 use Rattle.pl_places.proofs.OnePlace.{fits_there, one_place, stands_there}
 use Rattle.pl_touched.specs.Touched.{is_among, rows_at, touched_by, AreNewTo}

@@ -2,7 +2,7 @@
 use Rattle.std.proofs.Common.{◌≡◌, ◌⊎◌, inl, inr, ℕ, List, [], Option, Some, None, refl, sym, ap}
 use Rattle.std.proofs.Common.{◌∙◌}
 use Rattle.pl_base.specs.declared.row.Row.{Row}
-use Rattle.pl_journal.specs.Log.{Log}
+use Rattle.pl_touched.specs.Below.pl_journal.specs.Log.{Log}
 use Rattle.pl_changes.specs.Differing.{row_in}
 use Rattle.pl_changes.proofs.Leading.{none_some, same_rows}
 use Rattle.pl_changes.proofs.Places.{Place}

@@ -2,11 +2,11 @@
 use Rattle.std.specs.Prelude.{◌≡◌, ℕ, ◌++◌, List, [], IfSome}
 use Rattle.std.specs.Option.{option_map, option_to_list}
 use Rattle.pl_base.specs.declared.row.Row.{Row}
-use Rattle.pl_facts.specs.declared.fact.Fact.{Fact}
-use Rattle.pl_journal.specs.Log.{Log}
+use Rattle.pl_touched.specs.Below.pl_facts.specs.declared.fact.Fact.{Fact}
+use Rattle.pl_touched.specs.Below.pl_journal.specs.Log.{Log}
 use Rattle.pl_keeper.specs.Rows.{row_of, IsKept}
 use Rattle.pl_changes.specs.Differing.{Apart, Joins}
-use Rattle.pl_kept.specs.Kept.{kept_at, numbers_kept, Where}
+use Rattle.pl_places.specs.Below.pl_kept.specs.Kept.{kept_at, numbers_kept, Where}
 use Rattle.pl_touched.specs.Touched.{rows_at, touched_by}
 
 -- all that is kept can be read again

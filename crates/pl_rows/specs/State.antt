@@ -2,10 +2,10 @@
 use Rattle.std.specs.Prelude.{◌≡◌, ◌⊎◌, ℕ, List, [], Some}
 use Rattle.std.specs.Option.{option_map}
 use Rattle.pl_base.specs.declared.row.Row.{Row}
-use Rattle.pl_journal.specs.Log.{Log}
+use Rattle.pl_touched.specs.Below.pl_journal.specs.Log.{Log}
 use Rattle.pl_keeper.specs.Rows.{row_of}
 use Rattle.pl_changes.specs.Differing.{row_in, Ascend}
-use Rattle.pl_kept.specs.Kept.{numbers_kept, row_at, Where}
+use Rattle.pl_places.specs.Below.pl_kept.specs.Kept.{numbers_kept, row_at, Where}
 use Rattle.pl_places.specs.Places.{place_at, Fits}
 
 -- the place in bytes is that of something that can be kept

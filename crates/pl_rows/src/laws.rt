@@ -1,7 +1,7 @@
 ghost use Rattle.std.specs.Prelude.{◌≡◌, ◌++◌, [], ℕ, List};
 ghost use Rattle.pl_base.specs.declared.row.Row.{Row};
-ghost use Rattle.pl_facts.specs.declared.fact.Fact.{Fact};
-ghost use Rattle.pl_journal.specs.Log.{Log};
+ghost use Rattle.pl_touched.specs.Below.pl_facts.specs.declared.fact.Fact.{Fact};
+ghost use Rattle.pl_touched.specs.Below.pl_journal.specs.Log.{Log};
 ghost use Rattle.pl_keeper.specs.Keeping.{all_changed};
 ghost use Rattle.pl_changes.specs.Differing.{differing, Apart, OverlookNothing};
 ghost use Rattle.pl_touched.specs.Touched.{touched_by, AreNewTo, FitAt};

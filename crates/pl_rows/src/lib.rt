@@ -4,3 +4,4 @@
 mod laws;
 
 pub use laws::rows_laws;
+pub use pl_places::numbers_row;

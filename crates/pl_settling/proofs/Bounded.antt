@@ -11,13 +11,13 @@ use Rattle.pl_facts.specs.declared.fact.Event.{Event}
 use Rattle.pl_facts.specs.declared.fact.Event.TheVariants as event
 use Rattle.pl_facts.specs.declared.fact.Fact.{Fact}
 use Rattle.pl_facts.specs.declared.fact.QueuedRun.{QueuedRun}
-use Rattle.pl_journal.specs.About.{is_about, key_of}
-use Rattle.pl_journal.specs.Kinds.{is_queueing}
-use Rattle.pl_journal.specs.Runs.{queueing, run_told}
-use Rattle.pl_journal.specs.Settings.{by}
+use Rattle.pl_due.specs.Below.pl_journal.specs.About.{is_about, key_of}
+use Rattle.pl_due.specs.Below.pl_journal.specs.Kinds.{is_queueing}
+use Rattle.pl_due.specs.Below.pl_journal.specs.Runs.{queueing, run_told}
+use Rattle.pl_due.specs.Below.pl_journal.specs.Settings.{by}
 use Rattle.pl_log.specs.Keys.{Job, Named, Run, Stage, same_key}
 use Rattle.pl_log.proofs.Naming.{exact_key, key_itself}
-use Rattle.pl_plan.specs.declared.plan.PlanStage.{PlanStage}
+use Rattle.pl_facts.specs.Below.pl_plan.specs.declared.plan.PlanStage.{PlanStage}
 use Rattle.pl_due.specs.Nodes.{IsStageOf}
 use Rattle.pl_due.proofs.Standing.{first_of_two}
 use Rattle.pl_settling.specs.Allowed.{allowed, allowed_by, allowed_of}

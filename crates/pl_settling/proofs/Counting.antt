@@ -6,9 +6,9 @@ use Rattle.std.proofs.lemmas.List.Sums.{sum_by-cons}
 use Rattle.pl_facts.specs.declared.fact.Event.{Event}
 use Rattle.pl_facts.specs.declared.fact.Event.TheVariants as event
 use Rattle.pl_facts.specs.declared.fact.Fact.{Fact}
-use Rattle.pl_journal.specs.About.{key_of, is_about}
-use Rattle.pl_journal.specs.Kinds.{is_job_end, is_stage_end, is_start}
-use Rattle.pl_journal.specs.Runs.{job_end, stage_end, stage_start}
+use Rattle.pl_due.specs.Below.pl_journal.specs.About.{key_of, is_about}
+use Rattle.pl_due.specs.Below.pl_journal.specs.Kinds.{is_job_end, is_stage_end, is_start}
+use Rattle.pl_due.specs.Below.pl_journal.specs.Runs.{job_end, stage_end, stage_start}
 use Rattle.pl_log.specs.Keys.{Job, Named, Stage, same_key}
 use Rattle.pl_log.proofs.Naming.{exact_key}
 use Rattle.pl_due.proofs.Standing.{waiting_open, waiting_unstarted}

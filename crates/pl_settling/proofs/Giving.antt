@@ -7,13 +7,13 @@ use Rattle.std.specs.Prelude.{if◌then◌else◌, slice_get}
 use Rattle.pl_facts.specs.declared.fact.Event.{Event}
 use Rattle.pl_facts.specs.declared.fact.Fact.{Fact}
 use Rattle.pl_facts.specs.declared.fact.QueuedRun.{QueuedRun}
-use Rattle.pl_journal.specs.Runs.{holding, job_end, job_ending, skipping, stage_end}
-use Rattle.pl_journal.specs.Runs.{taking}
+use Rattle.pl_due.specs.Below.pl_journal.specs.Runs.{holding, job_end, job_ending, skipping, stage_end}
+use Rattle.pl_due.specs.Below.pl_journal.specs.Runs.{taking}
 use Rattle.pl_locks.specs.Locks.{IsNext, Locks, Shares}
 use Rattle.pl_locks.specs.declared.contender.Contender.{Contender}
-use Rattle.pl_plan.specs.declared.plan.PlanJob.{PlanJob}
-use Rattle.pl_plan.specs.declared.plan.PlanStage.{PlanStage}
-use Rattle.pl_views.specs.Ready.{job_is_ready}
+use Rattle.pl_facts.specs.Below.pl_plan.specs.declared.plan.PlanJob.{PlanJob}
+use Rattle.pl_facts.specs.Below.pl_plan.specs.declared.plan.PlanStage.{PlanStage}
+use Rattle.pl_due.specs.Below.pl_views.specs.Ready.{job_is_ready}
 use Rattle.pl_due.specs.Checked.{exclusive_uses}
 use Rattle.pl_due.specs.Contention.{Holds, IsContention, IsEligible, IsOne}
 use Rattle.pl_due.specs.Due.{Among, IsDue, Next, Superseded}

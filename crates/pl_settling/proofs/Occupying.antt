@@ -8,13 +8,13 @@ use Rattle.pl_facts.specs.declared.fact.Event.{Event}
 use Rattle.pl_facts.specs.declared.fact.Event.TheVariants as event
 use Rattle.pl_facts.specs.declared.fact.Fact.{Fact}
 use Rattle.pl_facts.specs.declared.fact.QueuedRun.{QueuedRun}
-use Rattle.pl_journal.specs.About.{is_about}
-use Rattle.pl_journal.specs.Kinds.{is_queueing, is_stage_end, is_start}
-use Rattle.pl_journal.specs.Runs.{queueing, run_told, stage_end, stage_start}
-use Rattle.pl_journal.specs.Settings.{by, resource}
+use Rattle.pl_due.specs.Below.pl_journal.specs.About.{is_about}
+use Rattle.pl_due.specs.Below.pl_journal.specs.Kinds.{is_queueing, is_stage_end, is_start}
+use Rattle.pl_due.specs.Below.pl_journal.specs.Runs.{queueing, run_told, stage_end, stage_start}
+use Rattle.pl_due.specs.Below.pl_journal.specs.Settings.{by, resource}
 use Rattle.pl_log.specs.Keys.{Resource, Run, Stage, same_key}
 use Rattle.pl_log.proofs.Naming.{exact_key}
-use Rattle.pl_plan.specs.declared.plan.PlanStage.{PlanStage}
+use Rattle.pl_facts.specs.Below.pl_plan.specs.declared.plan.PlanStage.{PlanStage}
 use Rattle.pl_due.specs.Checked.{exclusive_uses, is_exclusive}
 use Rattle.pl_due.specs.Nodes.{IsStageOf, is_running}
 use Rattle.pl_due.proofs.OneStage.{one_planned}

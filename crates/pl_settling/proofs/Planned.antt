@@ -8,14 +8,14 @@ use Rattle.std.proofs.lemmas.Option.{slice_get_within}
 use Rattle.pl_facts.specs.declared.fact.Event.{Event}
 use Rattle.pl_facts.specs.declared.fact.Fact.{Fact}
 use Rattle.pl_facts.specs.declared.fact.QueuedRun.{QueuedRun}
-use Rattle.pl_journal.specs.About.{key_of}
-use Rattle.pl_journal.specs.Runs.{holding, job_ending, taking}
+use Rattle.pl_due.specs.Below.pl_journal.specs.About.{key_of}
+use Rattle.pl_due.specs.Below.pl_journal.specs.Runs.{holding, job_ending, taking}
 use Rattle.pl_log.specs.Keys.{Job, Stage}
 use Rattle.pl_locks.specs.Locks.{Locks}
 use Rattle.pl_locks.specs.declared.contender.Contender.{Contender}
-use Rattle.pl_plan.specs.declared.plan.PlanJob.{PlanJob}
-use Rattle.pl_plan.specs.declared.plan.PlanStage.{PlanStage}
-use Rattle.pl_views.specs.Ready.{job_is_ready}
+use Rattle.pl_facts.specs.Below.pl_plan.specs.declared.plan.PlanJob.{PlanJob}
+use Rattle.pl_facts.specs.Below.pl_plan.specs.declared.plan.PlanStage.{PlanStage}
+use Rattle.pl_due.specs.Below.pl_views.specs.Ready.{job_is_ready}
 use Rattle.pl_due.specs.Contention.{IsContention}
 use Rattle.pl_due.specs.Due.{Among, IsDue, Next, Superseded}
 use Rattle.pl_due.specs.Kinds.{Fails, IsDone, IsPassedOver, JobIsPassedOver, TimesOut}

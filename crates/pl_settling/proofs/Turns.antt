@@ -9,7 +9,7 @@ use Rattle.pl_due.specs.Fit.{AreFit, IsFit, last_moment}
 use Rattle.pl_facts.specs.declared.fact.Event.{Event}
 use Rattle.pl_facts.specs.declared.fact.Event.TheVariants as event
 use Rattle.pl_facts.specs.declared.fact.Fact.{Fact}
-use Rattle.pl_journal.specs.Log.{Log}
+use Rattle.pl_due.specs.Below.pl_journal.specs.Log.{Log}
 use Rattle.pl_settling.specs.Allowed.{allowed}
 use Rattle.pl_settling.specs.Gives.{Gives}
 use Rattle.pl_settling.specs.Settles.{Adds, Settles}

@@ -3,14 +3,14 @@ use Rattle.std.proofs.Common.{◌≡◌, ◌&&◌, ℕ, Bool, true, false, List,
 use Rattle.std.proofs.Common.{is_none, refl, ap, ◌∙◌, subst, inl, inr}
 use Rattle.std.specs.List.{Contains}
 use Rattle.pl_facts.specs.declared.fact.Fact.{Fact}
-use Rattle.pl_journal.specs.Runs.{stage_end, stage_start}
+use Rattle.pl_due.specs.Below.pl_journal.specs.Runs.{stage_end, stage_start}
 use Rattle.pl_judgement.specs.Said.{all_pass, first_fail, first_wait}
 use Rattle.pl_judgement.proofs.Asking.{passing}
 use Rattle.pl_locks.specs.Locks.{IsBehind, IsHeld, IsSuperseded, Locks, MayStart}
 use Rattle.pl_locks.specs.declared.contender.Contender.{Contender}
-use Rattle.pl_results.specs.declared.members.PlanNode.TheVariants.{Stage}
+use Rattle.pl_due.specs.Below.pl_results.specs.declared.members.PlanNode.TheVariants.{Stage}
 use Rattle.pl_rules.specs.declared.rule.Rule.{Rule}
-use Rattle.pl_views.specs.Ready.{is_ready}
+use Rattle.pl_due.specs.Below.pl_views.specs.Ready.{is_ready}
 use Rattle.pl_due.specs.Contention.{IsContention, IsEligible, IsOne}
 use Rattle.pl_due.specs.Contention.{contender_of}
 use Rattle.pl_due.specs.Due.{Among, IsDue, Next, Superseded}

@@ -3,8 +3,8 @@ use Rattle.std.specs.Prelude.{ℕ, ◌+◌, List, length}
 use Rattle.std.specs.List.{sum_by}
 use Rattle.std.specs.Option.{option_map_or}
 use Rattle.pl_facts.specs.declared.fact.Fact.{Fact}
-use Rattle.pl_plan.specs.declared.plan.PlanStage.{PlanStage}
-use Rattle.pl_journal.specs.Runs.{run_told}
+use Rattle.pl_facts.specs.Below.pl_plan.specs.declared.plan.PlanStage.{PlanStage}
+use Rattle.pl_due.specs.Below.pl_journal.specs.Runs.{run_told}
 
 abbrev pub allowed_of : PlanStage → ℕ
 allowed_of one = 2 + length one.jobs

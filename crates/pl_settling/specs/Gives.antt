@@ -3,7 +3,7 @@ use Rattle.std.specs.Prelude.{◌≡◌, ℕ, List, None}
 use Rattle.pl_facts.specs.declared.fact.Event.{Event}
 use Rattle.pl_facts.specs.declared.fact.Event.TheVariants as event
 use Rattle.pl_facts.specs.declared.fact.Fact.{Fact}
-use Rattle.pl_journal.specs.Runs.{job_end, stage_end}
+use Rattle.pl_due.specs.Below.pl_journal.specs.Runs.{job_end, stage_end}
 use Rattle.pl_settling.specs.Laws.{WasNext}
 
 -- a stage that starts was the next one; a stage or a job that ends hadn't; nothing else is due

@@ -7,13 +7,13 @@ use Rattle.pl_facts.specs.declared.fact.Event.{Event}
 use Rattle.pl_facts.specs.declared.fact.Event.TheVariants as event
 use Rattle.pl_facts.specs.declared.fact.Fact.{Fact}
 use Rattle.pl_facts.specs.declared.fact.QueuedRun.{QueuedRun}
-use Rattle.pl_journal.specs.About.{is_about}
-use Rattle.pl_journal.specs.Runs.{stage_end, stage_start}
+use Rattle.pl_due.specs.Below.pl_journal.specs.About.{is_about}
+use Rattle.pl_due.specs.Below.pl_journal.specs.Runs.{stage_end, stage_start}
 use Rattle.pl_locks.specs.Locks.{IsAt, IsBehind, IsHeld, IsNext, Locks}
 use Rattle.pl_locks.specs.declared.contender.Contender.{Contender}
 use Rattle.pl_log.specs.Keys.{Stage, Job}
-use Rattle.pl_plan.specs.declared.plan.PlanStage.{PlanStage}
-use Rattle.pl_views.specs.Ready.{is_ready}
+use Rattle.pl_facts.specs.Below.pl_plan.specs.declared.plan.PlanStage.{PlanStage}
+use Rattle.pl_due.specs.Below.pl_views.specs.Ready.{is_ready}
 use Rattle.pl_judgement.specs.Said.{first_wait}
 use Rattle.pl_due.specs.Checked.{AreVerdictsOf, exclusive_uses, is_permitted}
 use Rattle.pl_due.specs.Contention.{IsContention, IsEligible, contender_of}

@@ -1,4 +1,5 @@
 pub mod Allowed
+pub mod Below
 pub mod Gives
 pub mod Laws
 pub mod Settles

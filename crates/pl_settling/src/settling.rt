@@ -4,9 +4,8 @@ ghost use Rattle.pl_facts.specs.declared.fact.Fact.{Fact as Told};
 ghost use Rattle.pl_settling.specs.Settles.{Adds, Settles};
 
 use pl_base::{Memory, Moment};
-use pl_due::due;
+use pl_due::{IndexedJournal, due};
 use pl_facts::Fact;
-use pl_open_runs::IndexedJournal;
 use std::alloc::Global;
 
 /// Adds what is due at a moment to a journal, one fact after the other, until nothing is due: the

@@ -15,9 +15,9 @@ use Rattle.std.proofs.lemmas.Option.{slice_get-get_or}
 use Rattle.pl_base.proofs.FileKeys.{exact_files, files_total}
 use Rattle.pl_base.specs.Files.{file_cmp}
 use Rattle.pl_base.specs.declared.place.FileKey.{FileKey}
-use Rattle.pl_facts.specs.declared.fact.Event.{Event}
-use Rattle.pl_facts.specs.declared.fact.Event.TheVariants as event
-use Rattle.pl_facts.specs.declared.fact.Fact.{Fact}
+use Rattle.pl_journal.specs.Below.pl_facts.specs.declared.fact.Event.{Event}
+use Rattle.pl_journal.specs.Below.pl_facts.specs.declared.fact.Event.TheVariants as event
+use Rattle.pl_journal.specs.Below.pl_facts.specs.declared.fact.Fact.{Fact}
 use Rattle.pl_journal.specs.About.{is_about, key_of}
 use Rattle.pl_journal.specs.Settings.{by, file, text_told}
 use Rattle.pl_log.specs.Keys.{File, same_key}

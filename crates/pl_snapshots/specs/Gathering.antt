@@ -3,9 +3,9 @@ use Rattle.std.specs.Prelude.{List, [], ◌∷◌, Option, Some, None, is_some, 
 use Rattle.std.specs.FinMap as finite
 use Rattle.std.specs.Option.{option_map_or}
 use Rattle.pl_base.specs.declared.place.FileKey.{FileKey}
-use Rattle.pl_facts.specs.declared.fact.Event.{Event}
-use Rattle.pl_facts.specs.declared.fact.Event.TheVariants as event
-use Rattle.pl_facts.specs.declared.fact.Fact.{Fact}
+use Rattle.pl_journal.specs.Below.pl_facts.specs.declared.fact.Event.{Event}
+use Rattle.pl_journal.specs.Below.pl_facts.specs.declared.fact.Event.TheVariants as event
+use Rattle.pl_journal.specs.Below.pl_facts.specs.declared.fact.Fact.{Fact}
 use Rattle.pl_journal.specs.Settings.{file}
 use Rattle.pl_snapshots.specs.Snapshots.{Texts}
 

@@ -4,8 +4,8 @@ use Rattle.std.specs.Prelude.{◌≡◌, ℕ, List, [], Option, Some, None, code
 use Rattle.std.specs.FinMap as finite
 use Rattle.pl_base.specs.Files.{file_cmp}
 use Rattle.pl_base.specs.declared.place.FileKey.{FileKey}
-use Rattle.pl_facts.specs.Sizes.{counted}
-use Rattle.pl_facts.specs.declared.fact.Fact.{Fact}
+use Rattle.pl_journal.specs.Below.pl_facts.specs.Sizes.{counted}
+use Rattle.pl_journal.specs.Below.pl_facts.specs.declared.fact.Fact.{Fact}
 use Rattle.pl_journal.specs.Log.{Log, version}
 use Rattle.pl_journal.specs.Settings.{file, pipeline}
 use Rattle.pl_requests.specs.declared.request.Order.{Order}

@@ -5,8 +5,7 @@ ghost use Rattle.pl_snapshots.specs.Gathering as spec;
 ghost use Rattle.pl_snapshots.specs.Snapshots.{AreFiles};
 
 use pl_base::{Bytes, ExactCopy, FileKey, FileSet, Memory};
-use pl_facts::Event;
-use pl_journal::Journal;
+use pl_journal::{Event, Journal};
 use std::alloc::Global;
 
 /// Puts a file's text among others, where it isn't there yet and the file is.

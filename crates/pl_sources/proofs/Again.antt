@@ -10,9 +10,9 @@ use Rattle.pl_compile.specs.Compiling.{IsCompiledOf, sources_of}
 use Rattle.pl_compile.specs.Reading.{Read, Texts, read_all}
 use Rattle.pl_reading.specs.Steps.{◌>>=◌}
 use Rattle.pl_directives.specs.declared.fault.ExpandFault.{ExpandFault}
-use Rattle.pl_root.specs.Reading.{parsed}
-use Rattle.pl_expand.specs.Tree.{expansion, tree_of as rooted}
-use Rattle.pl_expand.specs.declared.root.RootTree.{RootTree}
+use Rattle.pl_used_files.specs.Below.pl_root.specs.Reading.{parsed}
+use Rattle.pl_compile.specs.Below.pl_expand.specs.Tree.{expansion, tree_of as rooted}
+use Rattle.pl_compile.specs.Below.pl_expand.specs.declared.root.RootTree.{RootTree}
 use Rattle.pl_plan.specs.declared.plan.Compiled.{Compiled}
 use Rattle.pl_plan.specs.declared.plan.Sources.{Sources}
 use Rattle.pl_used_files.specs.Alone.{AgreeOn}

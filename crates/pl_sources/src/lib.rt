@@ -4,3 +4,4 @@
 mod laws;
 
 pub use laws::sources_compile_again;
+pub use pl_compile::{CompileFault, compile};

@@ -8,9 +8,8 @@ ghost use Rattle.pl_spots.specs.Spots.{seen};
 use crate::runs::run_row;
 use crate::spots::Spot;
 use pl_base::{Memory, Row};
-use pl_journal::Journal;
 use pl_kept::{
-    agent_row, decision_row, file_row, job_row, pipeline_row, principal_row, resource_row,
+    Journal, agent_row, decision_row, file_row, job_row, pipeline_row, principal_row, resource_row,
     stage_row,
 };
 use std::alloc::Global;

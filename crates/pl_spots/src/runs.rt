@@ -10,7 +10,7 @@ use crate::used_files::UsedFiles;
 use crate::written::written;
 use pl_base::{Memory, Moment, Row};
 use pl_facts::{Event, Fact, QueuedRun};
-use pl_journal::Journal;
+use pl_kept::Journal;
 use std::alloc::Global;
 
 /// The row of a run, or None where it wasn't queued.

@@ -21,7 +21,7 @@ use Rattle.pl_eval_laws.proofs.Leads.{Opened, leads_in, leads_of}
 use Rattle.pl_eval_laws.proofs.Trees.{Any, Asked, Marked, NodeFrom, OpenedFrom, PairFrom}
 use Rattle.pl_eval_laws.proofs.Trees.{node_parts, nothing_led, only}
 use Rattle.pl_eval_laws.proofs.Trees.{pair_parts, value_parts}
-use Rattle.pl_extends.specs.Forms.{is_form}
+use Rattle.pl_provenance.specs.Below.pl_extends.specs.Forms.{is_form}
 use Rattle.pl_base.specs.Texts.{is}
 use Rattle.pl_plan.specs.Legs.{legs_of}
 use Rattle.pl_plan.specs.Plans.{IsPlanOf, plan_from, plan_job, plan_leg}

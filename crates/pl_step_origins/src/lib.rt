@@ -4,3 +4,4 @@
 mod laws;
 
 pub use laws::steps_stand_in_the_tree;
+pub use pl_provenance::{Files, MemFiles, Parsed, expand};

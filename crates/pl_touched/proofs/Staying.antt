@@ -11,19 +11,19 @@ use Rattle.std.specs.declared.cmp.Ordering.TheVariants.{Less, Equal, Greater}
 use Rattle.std.proofs.lemmas.Cmp.{nat_cmp_total, ranked, tied_itself}
 use Rattle.pl_base.specs.declared.place.FileKey.{FileKey}
 use Rattle.pl_base.specs.declared.resource.ResourceKey.{ResourceKey}
-use Rattle.pl_facts.specs.declared.fact.Event.{Event}
-use Rattle.pl_facts.specs.declared.fact.Event.TheVariants as event
-use Rattle.pl_facts.specs.declared.fact.Fact.{Fact}
-use Rattle.pl_facts.specs.declared.fact.QueuedRun.{QueuedRun}
-use Rattle.pl_plan.specs.declared.plan.PlanJob.{PlanJob}
-use Rattle.pl_plan.specs.declared.plan.PlanStage.{PlanStage}
-use Rattle.pl_journal.specs.About.{is_about, key_of}
-use Rattle.pl_journal.specs.Kinds.{is_canceling, is_decision_by, is_job_end, is_queueing}
-use Rattle.pl_journal.specs.Kinds.{is_stage_end, is_start, is_taking}
-use Rattle.pl_journal.specs.Runs.{queueing, run_told}
-use Rattle.pl_journal.specs.Settings.{agent_told, by, pipeline_told, principal_told, resource_told}
-use Rattle.pl_journal.specs.Settings.{text_told}
-use Rattle.pl_keeper.specs.declared.records.Record.TheVariants as kept
+use Rattle.pl_kept.specs.Below.pl_facts.specs.declared.fact.Event.{Event}
+use Rattle.pl_kept.specs.Below.pl_facts.specs.declared.fact.Event.TheVariants as event
+use Rattle.pl_kept.specs.Below.pl_facts.specs.declared.fact.Fact.{Fact}
+use Rattle.pl_kept.specs.Below.pl_facts.specs.declared.fact.QueuedRun.{QueuedRun}
+use Rattle.pl_kept.specs.Below.pl_plan.specs.declared.plan.PlanJob.{PlanJob}
+use Rattle.pl_kept.specs.Below.pl_plan.specs.declared.plan.PlanStage.{PlanStage}
+use Rattle.pl_kept.specs.Below.pl_journal.specs.About.{is_about, key_of}
+use Rattle.pl_kept.specs.Below.pl_journal.specs.Kinds.{is_canceling, is_decision_by, is_job_end, is_queueing}
+use Rattle.pl_kept.specs.Below.pl_journal.specs.Kinds.{is_stage_end, is_start, is_taking}
+use Rattle.pl_kept.specs.Below.pl_journal.specs.Runs.{queueing, run_told}
+use Rattle.pl_kept.specs.Below.pl_journal.specs.Settings.{agent_told, by, pipeline_told, principal_told, resource_told}
+use Rattle.pl_kept.specs.Below.pl_journal.specs.Settings.{text_told}
+use Rattle.pl_kept.specs.Below.pl_keeper.specs.declared.records.Record.TheVariants as kept
 use Rattle.pl_kept.specs.Kept.{decided_kept, kept_at, planned_job, planned_stage, queued_kept}
 use Rattle.pl_kept.specs.Kept.{Where, File, Pipeline, Resource, Principal, Agent, Run, Stage, Job}
 use Rattle.pl_kept.specs.Kept.{Decision}

@@ -5,13 +5,13 @@ use Rattle.std.specs.List.{filter_map, flat_map, list_any, AllByRecursion}
 use Rattle.std.specs.Ordering.{is_eq, nat_cmp}
 use Rattle.pl_base.specs.Files.{file_cmp, text_cmp}
 use Rattle.pl_base.specs.declared.row.Row.{Row}
-use Rattle.pl_facts.specs.declared.fact.Event.{Event}
-use Rattle.pl_facts.specs.declared.fact.Event.TheVariants as event
-use Rattle.pl_facts.specs.declared.fact.Fact.{Fact}
-use Rattle.pl_plan.specs.declared.plan.PlanJob.{PlanJob}
-use Rattle.pl_plan.specs.declared.plan.PlanStage.{PlanStage}
-use Rattle.pl_journal.specs.Runs.{queueing}
-use Rattle.pl_keeper.specs.Rows.{IsKept}
+use Rattle.pl_kept.specs.Below.pl_facts.specs.declared.fact.Event.{Event}
+use Rattle.pl_kept.specs.Below.pl_facts.specs.declared.fact.Event.TheVariants as event
+use Rattle.pl_kept.specs.Below.pl_facts.specs.declared.fact.Fact.{Fact}
+use Rattle.pl_kept.specs.Below.pl_plan.specs.declared.plan.PlanJob.{PlanJob}
+use Rattle.pl_kept.specs.Below.pl_plan.specs.declared.plan.PlanStage.{PlanStage}
+use Rattle.pl_kept.specs.Below.pl_journal.specs.Runs.{queueing}
+use Rattle.pl_kept.specs.Below.pl_keeper.specs.Rows.{IsKept}
 use Rattle.pl_log.specs.Keys.{job_cmp, resource_cmp, stage_cmp}
 use Rattle.pl_kept.specs.Kept.{kept_at, row_at, Where, File, Pipeline, Resource, Principal, Agent, Run}
 use Rattle.pl_kept.specs.Kept.{Stage, Job, Decision}

@@ -1,5 +1,5 @@
 ghost use Rattle.std.specs.Prelude.{◌≡◌, ◌++◌, false, List};
-ghost use Rattle.pl_facts.specs.declared.fact.Fact.{Fact};
+ghost use Rattle.pl_kept.specs.Below.pl_facts.specs.declared.fact.Fact.{Fact};
 ghost use Rattle.pl_kept.specs.Kept.{row_at, Where};
 ghost use Rattle.pl_touched.specs.Touched.{is_among, touched_by, AreNewTo};
 

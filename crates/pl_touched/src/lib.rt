@@ -4,3 +4,4 @@
 mod laws;
 
 pub use laws::touching_laws;
+pub use pl_kept::Journal;

@@ -9,7 +9,7 @@ use Rattle.pl_base.specs.declared.row.Row.{Row}
 use Rattle.pl_facts.specs.declared.fact.Fact.{Fact}
 use Rattle.pl_plan.specs.declared.plan.PlanJob.{PlanJob}
 use Rattle.pl_plan.specs.declared.plan.PlanStage.{PlanStage}
-use Rattle.pl_kept.specs.Kept.{row_at, Where, Stage, Job}
+use Rattle.pl_spots.specs.Below.pl_kept.specs.Kept.{row_at, Where, Stage, Job}
 use Rattle.pl_changes.specs.Differing.{row_in, Joins}
 use Rattle.pl_changes.proofs.Joining.{joins_both}
 use Rattle.pl_touched.specs.Touched.{job_places, rows_at, stage_places, touched}

@@ -3,14 +3,14 @@
 ghost use Rattle.std.specs.Prelude.{◌∷◌, OnOk};
 ghost use Rattle.pl_changes.specs.Differing.{Apart, Joins};
 ghost use Rattle.pl_touched.specs.Touched.{rows_at, stage_places, touched, FitAt};
-ghost use Rattle.pl_kept.specs.Kept.{Run};
+ghost use Rattle.pl_spots.specs.Below.pl_kept.specs.Kept.{Run};
 
 use crate::places::add_at;
 use crate::plans::add_stages;
 use pl_base::{Memory, Row};
 use pl_facts::{Event, QueuedRun};
-use pl_journal::Journal;
 use pl_spots::Spot;
+use pl_touched::Journal;
 use std::alloc::Global;
 
 /// Adds the rows at the places that a fact touches.

@@ -6,4 +6,5 @@ mod places;
 mod plans;
 mod touching;
 
+pub use pl_spots::{Spot, row_at};
 pub use touching::touched_rows;

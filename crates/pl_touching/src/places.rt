@@ -7,8 +7,8 @@ ghost use Rattle.pl_touched.specs.Touched.{rows_at, FitAt};
 
 use pl_base::{Memory, Row};
 use pl_changes::add_row;
-use pl_journal::Journal;
 use pl_spots::{Spot, row_at};
+use pl_touched::Journal;
 use std::alloc::Global;
 
 /// Adds the row at a place, if one stands there.

@@ -6,9 +6,9 @@ ghost use Rattle.pl_touched.specs.Touched.{job_places, rows_at, stage_places, Fi
 
 use crate::places::add_at;
 use pl_base::{Memory, Row};
-use pl_journal::Journal;
 use pl_plan::{PlanJob, PlanStage};
 use pl_spots::Spot;
+use pl_touched::Journal;
 use std::alloc::Global;
 
 /// Adds the rows of a run's stages and of their jobs.

@@ -5,7 +5,7 @@ ghost use Rattle.pl_touched.specs.Touched.{rows_at, touched_by, FitAt};
 use crate::events::add_touched;
 use pl_base::{Memory, Row};
 use pl_facts::Fact;
-use pl_journal::Journal;
+use pl_touched::Journal;
 use std::alloc::Global;
 
 /// The rows that stand at the places that facts touch, of what the journal tells: of each place

@@ -38,13 +38,13 @@ use Rattle.pl_recursion.specs.Expanding.{entry_of, expanded, pair_behind}
 use Rattle.pl_recursion.specs.Following.{Follow, scope_of}
 use Rattle.pl_recursion.specs.Levels.{items_from, frame_for, call_by, followed}
 use Rattle.pl_recursion.specs.declared.followed.SettledPairs.{SettledPairs}
-use Rattle.pl_extends.specs.Extending.{path_in, mapping_from, value_from, argument_behind}
-use Rattle.pl_extends.specs.Extending.{arguments_behind, extended_pairs, body_pair, body_pairs}
-use Rattle.pl_extends.specs.Extending.{extension_of, opened_filled, reached_filled}
-use Rattle.pl_extends.specs.Extending.{Asked, asking, shown, mapping_extended, pairs_asked}
-use Rattle.pl_extends.specs.Extending.{extended_from}
-use Rattle.pl_extends.specs.Extending.{value_extended, are_plain, pairs_extended, text_extended}
-use Rattle.pl_extends.specs.Extending.{extended_by, extended}
+use Rattle.pl_expand.specs.Below.pl_extends.specs.Extending.{path_in, mapping_from, value_from, argument_behind}
+use Rattle.pl_expand.specs.Below.pl_extends.specs.Extending.{arguments_behind, extended_pairs, body_pair, body_pairs}
+use Rattle.pl_expand.specs.Below.pl_extends.specs.Extending.{extension_of, opened_filled, reached_filled}
+use Rattle.pl_expand.specs.Below.pl_extends.specs.Extending.{Asked, asking, shown, mapping_extended, pairs_asked}
+use Rattle.pl_expand.specs.Below.pl_extends.specs.Extending.{extended_from}
+use Rattle.pl_expand.specs.Below.pl_extends.specs.Extending.{value_extended, are_plain, pairs_extended, text_extended}
+use Rattle.pl_expand.specs.Below.pl_extends.specs.Extending.{extended_by, extended}
 use Rattle.pl_used_files.proofs.Agreeing.{Agree, done, both_alone, same_then, both_then}
 use Rattle.pl_used_files.proofs.Expanding.{entry_agrees, expanded_agree, pair_agree}
 use Rattle.pl_used_files.proofs.Settling.{FollowAgree}

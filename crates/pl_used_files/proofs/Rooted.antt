@@ -53,28 +53,28 @@ use Rattle.pl_recursion.specs.Settling.{node_settling}
 use Rattle.pl_origins.proofs.Induction.{BodyParts, written_induction}
 use Rattle.pl_origins.proofs.Steps.{Used, Gives}
 use Rattle.pl_expand.specs.declared.filling.Early.{Early}
-use Rattle.pl_extends.specs.declared.rooting.RootFilling.{RootFilling}
+use Rattle.pl_expand.specs.Below.pl_extends.specs.declared.rooting.RootFilling.{RootFilling}
 use Rattle.pl_expand.specs.declared.root.RootTree.{RootTree}
-use Rattle.pl_root.specs.declared.root_key.RootKey.{RootKey}
-use Rattle.pl_root.specs.declared.root_key.RootKey.TheVariants as key
-use Rattle.pl_extends.specs.Extending.{extended, value_extended}
-use Rattle.pl_extends.specs.Rooting.{Rooting, filled_with, chained, counting, misplaced}
-use Rattle.pl_extends.specs.Rooting.{unless_misplaced, extended_behind, key_put, named_put}
-use Rattle.pl_extends.specs.Rooting.{item_put, given_by, given_put, all_given_put, value_put}
-use Rattle.pl_extends.specs.Rooting.{text_put, list_put, pairs_put, mapping_put, node_put}
-use Rattle.pl_extends.specs.Rooting.{turns_put, asked_put, pair_put, node_seen, body_seen}
-use Rattle.pl_extends.specs.Rooting.{pair_seen}
-use Rattle.pl_extends.proofs.Itself.{node_itself}
-use Rattle.pl_root.specs.Resources.{earliest}
+use Rattle.pl_expand.specs.Below.pl_root.specs.declared.root_key.RootKey.{RootKey}
+use Rattle.pl_expand.specs.Below.pl_root.specs.declared.root_key.RootKey.TheVariants as key
+use Rattle.pl_expand.specs.Below.pl_extends.specs.Extending.{extended, value_extended}
+use Rattle.pl_expand.specs.Below.pl_extends.specs.Rooting.{Rooting, filled_with, chained, counting, misplaced}
+use Rattle.pl_expand.specs.Below.pl_extends.specs.Rooting.{unless_misplaced, extended_behind, key_put, named_put}
+use Rattle.pl_expand.specs.Below.pl_extends.specs.Rooting.{item_put, given_by, given_put, all_given_put, value_put}
+use Rattle.pl_expand.specs.Below.pl_extends.specs.Rooting.{text_put, list_put, pairs_put, mapping_put, node_put}
+use Rattle.pl_expand.specs.Below.pl_extends.specs.Rooting.{turns_put, asked_put, pair_put, node_seen, body_seen}
+use Rattle.pl_expand.specs.Below.pl_extends.specs.Rooting.{pair_seen}
+use Rattle.pl_expand.specs.Below.pl_extends.proofs.Itself.{node_itself}
+use Rattle.pl_expand.specs.Below.pl_root.specs.Resources.{earliest}
 use Rattle.pl_expand.specs.Tree.{Set, unless, early_by}
-use Rattle.pl_root.specs.Keys.{root_complaints}
-use Rattle.pl_root.specs.Arguments.{parameters_by}
-use Rattle.pl_root.specs.Frames.{first_frame}
-use Rattle.pl_root.specs.Keys.{root_key}
+use Rattle.pl_expand.specs.Below.pl_root.specs.Keys.{root_complaints}
+use Rattle.pl_expand.specs.Below.pl_root.specs.Arguments.{parameters_by}
+use Rattle.pl_expand.specs.Below.pl_root.specs.Frames.{first_frame}
+use Rattle.pl_expand.specs.Below.pl_root.specs.Keys.{root_key}
 use Rattle.pl_expand.specs.Tree.{passed_over}
 use Rattle.pl_expand.specs.Tree.{variables_pair, root_pair, given_to, early_behind, root_pairs}
 use Rattle.pl_expand.specs.Tree.{root_from, root_mapping, filled_root, pairs_expanded, home_of}
-use Rattle.pl_root.specs.Frames.{second_frame}
+use Rattle.pl_expand.specs.Below.pl_root.specs.Frames.{second_frame}
 use Rattle.pl_expand.specs.Tree.{bare_home, used_files, whole, mapping_expanded, bare_expanded}
 use Rattle.pl_expand.specs.Tree.{other_expanded, body_expanded_by, body_expanded, root_node}
 use Rattle.pl_expand.specs.Tree.{tree_of}

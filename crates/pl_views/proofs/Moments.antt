@@ -7,7 +7,7 @@ use Rattle.std.proofs.Common.{All, AllPairs, if◌then◌else◌, refl, sym, ap,
 use Rattle.std.specs.List.{list_all, list_any}
 use Rattle.std.specs.Option.{option_or}
 use Rattle.std.proofs.lemmas.List.Elements.{All-head, All-tail}
-use Rattle.pl_facts.specs.declared.fact.Fact.{Fact}
+use Rattle.pl_journal.specs.Below.pl_facts.specs.declared.fact.Fact.{Fact}
 use Rattle.pl_log.specs.Latest.{latest}
 use Rattle.pl_views.specs.Ready.{NeverFall, later, latest_moment}
 

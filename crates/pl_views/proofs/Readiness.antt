@@ -1,6 +1,6 @@
 -- What is known of stages that are ready.
 use Rattle.std.proofs.Common.{◌≡◌, ℕ, ◌≤◌, Bool, ◌&&◌, List, All, IfSome, is_none, arith}
-use Rattle.pl_facts.specs.declared.fact.Fact.{Fact}
+use Rattle.pl_journal.specs.Below.pl_facts.specs.declared.fact.Fact.{Fact}
 use Rattle.pl_journal.specs.About.{is_about}
 use Rattle.pl_journal.specs.Kinds.{is_queueing, is_stage_end}
 use Rattle.pl_log.specs.Keys.{Run, Stage}

@@ -8,8 +8,8 @@ use Rattle.pl_base.specs.declared.value.Value.{Value, out-Value}
 use Rattle.pl_base.specs.declared.value.Value.TheOpen.{Value-F, Object}
 use Rattle.pl_checks.specs.declared.view.CheckView.{CheckView}
 use Rattle.pl_checks.specs.declared.view.StepMark.{StepMark}
-use Rattle.pl_facts.specs.declared.fact.Fact.{Fact}
-use Rattle.pl_facts.specs.declared.fact.QueuedRun.{QueuedRun}
+use Rattle.pl_journal.specs.Below.pl_facts.specs.declared.fact.Fact.{Fact}
+use Rattle.pl_journal.specs.Below.pl_facts.specs.declared.fact.QueuedRun.{QueuedRun}
 use Rattle.pl_journal.specs.Runs.{decisions}
 use Rattle.pl_plan.specs.Labels.{label}
 use Rattle.pl_plan.specs.declared.plan.PlanJob.{PlanJob}

@@ -1,3 +1,4 @@
+pub mod Below
 pub mod CheckViews
 pub mod Ready
 pub mod RunViews

@@ -1,7 +1,7 @@
 -- A run as its conditions see it.
 use Rattle.std.specs.Prelude.{ℕ, List, [], length, map, is_some, unwrap_or}
 use Rattle.std.specs.List.{range_with_len}
-use Rattle.pl_facts.specs.declared.fact.Fact.{Fact}
+use Rattle.pl_journal.specs.Below.pl_facts.specs.declared.fact.Fact.{Fact}
 use Rattle.pl_journal.specs.Runs.{canceling, job_ending, outcome_told, outputs_told, stage_end}
 use Rattle.pl_journal.specs.Settings.{by}
 use Rattle.pl_plan.specs.declared.plan.Plan.{Plan}

@@ -7,8 +7,7 @@ use crate::marks::step_marks;
 use crate::ready::ready_moment;
 use pl_base::{ExactCopy, Memory};
 use pl_checks::CheckView;
-use pl_facts::QueuedRun;
-use pl_journal::Journal;
+use pl_journal::{Journal, QueuedRun};
 use pl_plan::PlanStage;
 use std::alloc::Global;
 

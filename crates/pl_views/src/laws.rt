@@ -1,7 +1,7 @@
 //! What a user believes of stages that are ready.
 
 ghost use Rattle.std.specs.Prelude.{◌≡◌, ◌≤◌, ℕ, List, All, is_none};
-ghost use Rattle.pl_facts.specs.declared.fact.Fact.{Fact};
+ghost use Rattle.pl_journal.specs.Below.pl_facts.specs.declared.fact.Fact.{Fact};
 ghost use Rattle.pl_log.specs.Latest.{latest};
 ghost use Rattle.pl_plan.specs.declared.plan.PlanJob.{PlanJob};
 ghost use Rattle.pl_plan.specs.declared.plan.PlanStage.{PlanStage};

@@ -5,8 +5,7 @@ ghost use Rattle.std.specs.Option.{option_copied};
 ghost use Rattle.pl_views.specs.Ready as spec;
 
 use pl_base::Moment;
-use pl_facts::Fact;
-use pl_journal::Journal;
+use pl_journal::{Fact, Journal};
 use pl_plan::{PlanJob, PlanStage};
 
 /// Whether the stage at a place has ended.

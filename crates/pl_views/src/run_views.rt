@@ -8,8 +8,7 @@ ghost use Rattle.pl_journal.specs.Settings.{by};
 ghost use Rattle.pl_views.specs.RunViews as spec;
 
 use pl_base::{ExactCopy, List, Memory, Outcome, Shared, Text};
-use pl_facts::Fact;
-use pl_journal::{Journal, outcome_told, outputs_told};
+use pl_journal::{Fact, Journal, outcome_told, outputs_told};
 use pl_plan::Plan;
 use pl_results::{JobView, RunView, jobs_of};
 use std::alloc::Global;

@@ -6,9 +6,9 @@ use Rattle.pl_commands.specs.Statuses.{status_of}
 use Rattle.pl_commands.specs.Told.{told_by_ends}
 use Rattle.pl_commands.specs.declared.status.Status.{Status}
 use Rattle.pl_commands.specs.declared.status.Status.TheVariants as status
-use Rattle.pl_history.specs.Access.{IsSound}
-use Rattle.pl_history.specs.Claims.{IsOrderly}
-use Rattle.pl_history.specs.History.{opened}
+use Rattle.pl_alone.specs.Below.pl_history.specs.Access.{IsSound}
+use Rattle.pl_alone.specs.Below.pl_history.specs.Claims.{IsOrderly}
+use Rattle.pl_alone.specs.Below.pl_history.specs.History.{opened}
 use Rattle.pl_sessions.proofs.Endings.{ends_at_once}
 use Rattle.pl_sessions.proofs.Through.{session_through}
 use Rattle.pl_sessions.specs.Session.{Point, Session}

@@ -3,11 +3,11 @@ use Rattle.std.specs.List.{AllByRecursion}
 use Rattle.std.specs.Prelude.{IfOk}
 use Rattle.pl_eval_laws.specs.Marks.{marks_of}
 use Rattle.pl_eval_laws.specs.Trees.{origins_of}
-use Rattle.pl_provenance.specs.Closure.{ArePairsFromClosure}
-use Rattle.pl_provenance.specs.Known.{home_in, IsKnown}
-use Rattle.pl_provenance.specs.Roots.{jobs_of}
-use Rattle.pl_provenance.specs.Texts.{IsSaid}
-use Rattle.pl_provenance.specs.Written.{ArePairsWhereTold}
+use Rattle.pl_step_origins.specs.Below.pl_provenance.specs.Closure.{ArePairsFromClosure}
+use Rattle.pl_step_origins.specs.Below.pl_provenance.specs.Known.{home_in, IsKnown}
+use Rattle.pl_step_origins.specs.Below.pl_provenance.specs.Roots.{jobs_of}
+use Rattle.pl_step_origins.specs.Below.pl_provenance.specs.Texts.{IsSaid}
+use Rattle.pl_step_origins.specs.Below.pl_provenance.specs.Written.{ArePairsWhereTold}
 use Rattle.pl_compile.specs.Reading.{read_all}
 use Rattle.pl_compile.proofs.Handing.{handed}
 use Rattle.pl_compile.proofs.expanding.expanded.Goals as goal

@@ -1,8 +1,8 @@
 use Rattle.std.proofs.Common.{ap, get_or, subst, sym}
 use Rattle.std.specs.List.{Contains}
 use Rattle.pl_journal.specs.Log.{Log}
-use Rattle.pl_open_runs.specs.Index.{Ascends}
-use Rattle.pl_open_runs.proofs.OpenRuns.{open_runs_ascend}
+use Rattle.pl_due.specs.Below.pl_open_runs.specs.Index.{Ascends}
+use Rattle.pl_due.specs.Below.pl_open_runs.proofs.OpenRuns.{open_runs_ascend}
 use Rattle.pl_granting.specs.Asked.{of, seen}
 use Rattle.pl_granting.specs.Drawn.{Least}
 use Rattle.pl_granting.specs.Tests.{IsOpenTo, OfRun}

@@ -1,5 +1,5 @@
 use Rattle.std.proofs.Common.{Some, ap, drop, ◌∙◌}
-use Rattle.pl_cond.proofs.Roots.{if_ok}
+use Rattle.pl_due.specs.Below.pl_cond.proofs.Roots.{if_ok}
 use Rattle.pl_journal.specs.Log.{Log}
 use Rattle.pl_granting.specs.Asked.{of}
 use Rattle.pl_granting.specs.Broken.{asked_rules}

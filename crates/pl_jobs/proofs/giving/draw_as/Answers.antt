@@ -1,7 +1,7 @@
 use Rattle.std.proofs.Common.{◌≡◌, Some, sym, subst}
 use Rattle.std.specs.Result.{IfOk}
 use Rattle.std.proofs.lemmas.Result.{IfOk-weaker}
-use Rattle.pl_due.specs.Fit.{AreFit}
+use Rattle.pl_granting.specs.Below.pl_due.specs.Fit.{AreFit}
 use Rattle.pl_granting.specs.Asked.{of}
 use Rattle.pl_granting.specs.Named.{IsJobOf}
 use Rattle.pl_journal.specs.Log.{Log}

@@ -1,5 +1,5 @@
 use Rattle.std.proofs.Common.{◌<◌, ◌^◌, length, sym, ap, arith}
-use Rattle.pl_plan.specs.declared.plan.Compiled.{Compiled}
+use Rattle.pl_facts.specs.Below.pl_plan.specs.declared.plan.Compiled.{Compiled}
 use Rattle.pl_open_runs.proofs.Looking.{few_queued}
 use Rattle.pl_open_runs.proofs.openness.is_open.Goals as goal
 

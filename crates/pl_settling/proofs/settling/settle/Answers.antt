@@ -1,7 +1,7 @@
 use Rattle.std.proofs.Common.{subst, sym}
 use Rattle.pl_due.specs.Due.{IsDue}
 use Rattle.pl_due.specs.Fit.{AreFit}
-use Rattle.pl_journal.specs.Log.{Log}
+use Rattle.pl_due.specs.Below.pl_journal.specs.Log.{Log}
 use Rattle.pl_settling.proofs.Turns.{SoFar, begun, less_left, on_err, one_more, over, still_fit}
 use Rattle.pl_settling.proofs.settling.settle.Goals as goal
 

@@ -1,7 +1,7 @@
 use Rattle.std.proofs.Common.{List, ◌∷◌, OnOk, subst}
 use Rattle.pl_changes.specs.Differing.{Joins}
 use Rattle.pl_facts.specs.declared.fact.QueuedRun.{QueuedRun}
-use Rattle.pl_kept.specs.Kept.{Where, Run}
+use Rattle.pl_spots.specs.Below.pl_kept.specs.Kept.{Where, Run}
 use Rattle.pl_touched.specs.Touched.{rows_at, stage_places, FitAt}
 use Rattle.pl_touching.proofs.events.add_touched.Goals as goal
 

@@ -1,5 +1,5 @@
 use Rattle.std.proofs.Common.{◌+◌, [], ◌∷◌, ap, ◌∙◌, take}
-use Rattle.pl_kept.specs.Kept.{Job}
+use Rattle.pl_spots.specs.Below.pl_kept.specs.Kept.{Job}
 use Rattle.pl_touched.specs.Touched.{job_places}
 use Rattle.pl_touching.proofs.Following.{fit_all, jobs_next, joins_all}
 use Rattle.pl_touching.proofs.plans.add_jobs.Goals as goal

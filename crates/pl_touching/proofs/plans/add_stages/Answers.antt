@@ -1,5 +1,5 @@
 use Rattle.std.proofs.Common.{◌+◌, [], ◌∷◌, ap, refl, ◌∙◌, take}
-use Rattle.pl_kept.specs.Kept.{Stage}
+use Rattle.pl_spots.specs.Below.pl_kept.specs.Kept.{Stage}
 use Rattle.pl_touched.specs.Touched.{job_places, stage_places}
 use Rattle.pl_touching.proofs.Following.{fit_all, joins_all, stages_next}
 use Rattle.pl_touching.proofs.plans.add_stages.Goals as goal

@@ -1,7 +1,7 @@
 use Rattle.std.proofs.Common.{◌≡◌, ◌∙◌, ap, subst, sym}
 use Rattle.std.specs.FinMap as finite
 use Rattle.std.specs.Prelude.{IfOk}
-use Rattle.pl_root.specs.Reading.{parsed}
+use Rattle.pl_step_origins.specs.Below.pl_expand.specs.Below.pl_root.specs.Reading.{parsed}
 use Rattle.pl_compile.proofs.Reading.{Stored, absent, all_are, found}
 use Rattle.pl_compile.proofs.text_files.TextFilesFiles.node.Goals as goal
 

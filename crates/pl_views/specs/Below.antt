@@ -1,0 +1,1 @@
+-- The libraries below whose names are given on to those above.
