@@ -6,7 +6,6 @@ at 200 random moments), `two` (two programs on one store), `full` (a full disk; 
 (commits beside Python's sqlite3, and an opening of many rows). Prints a line for each thing that was tried, and ends with 0
 where all held. Works in a new folder below the current one.
 """
-import contextlib
 import os
 import random
 import shutil
@@ -18,12 +17,9 @@ import sys
 import tempfile
 import time
 
+from cases import FULL, LOCKED, made, openings, ours
+
 program = os.path.abspath(sys.argv[1])
-ours = "CREATE TABLE pallwethig_rows_1 (place BLOB NOT NULL PRIMARY KEY, body BLOB NOT NULL) STRICT"
-OTHER = "the database holds other tables than the service's"
-NONE = "file is not a database that obeys its schema"
-CANNOT = "unable to open database file"
-LOCKED = "database is locked"
 failed = 0
 
 
@@ -45,37 +41,12 @@ def rows_after(entries):
     return "".join(f"{table:02x} {key.hex()} {body.hex()}\n" for table, key, body in rows).encode()
 
 
-def made(path, *texts, mode="delete"):
-    """A database that Python's sqlite3 makes."""
-    db = sqlite3.connect(path)
-    db.execute(f"PRAGMA journal_mode={mode}")
-    for text in texts:
-        db.execute(text)
-    db.commit()
-    db.close()
-
-
-def written(path, data):
-    with open(path, "wb") as file:
-        file.write(data)
-
-
 def bytes_of(path):
     try:
         with open(path, "rb") as file:
             return file.read()
     except OSError as error:
         return error.errno
-
-
-@contextlib.contextmanager
-def held(path, text):
-    """Another process has the database open and ran a text. (This one would let go of its lock by reading the file.)"""
-    code = "import sqlite3, sys; db = sqlite3.connect(sys.argv[1], isolation_level=None); db.execute(sys.argv[2]).fetchall(); print(flush=True); input()"
-    other = subprocess.Popen([sys.executable, "-c", code, path, text], stdin=subprocess.PIPE, stdout=subprocess.PIPE)
-    other.stdout.readline()
-    yield
-    other.communicate(b"\n")
 
 
 def refused(name, path, why, **more):
@@ -92,47 +63,8 @@ def taken(name, path, count=0):
 
 
 def refusals():
-    taken("a missing file", "new.db")
-    taken("the same file again", "new.db")
-    written("empty.db", b"")
-    taken("an empty file", "empty.db")
-    made("ours.db", ours)
-    taken("our table, made by sqlite3", "ours.db")
-    made("log.db", ours, mode="wal")
-    taken("our table, made by sqlite3 in its log mode", "log.db")
+    openings(taken, refused, told)
     told("an entry in it", run("log.db", "each", "1\n").stdout == b"0\n" and run("log.db", "rows").stdout == rows_after(1))
-    written("text.db", b"this is a text and no database\n" * 400)
-    refused("a text", "text.db", NONE)
-    written("bytes.db", random.Random(1).randbytes(65536))
-    refused("random bytes", "bytes.db", NONE)
-    for mode in ("delete", "wal"):
-        made(f"other-{mode}.db", "CREATE TABLE other (a)", "INSERT INTO other VALUES (1)", mode=mode)
-        refused(f"another program's database ({mode})", f"other-{mode}.db", OTHER)
-        made(f"more-{mode}.db", ours, "CREATE TABLE other (a)", mode=mode)
-        refused(f"our table and another one ({mode})", f"more-{mode}.db", OTHER)
-        made(f"columns-{mode}.db", "CREATE TABLE pallwethig_rows_1 (place BLOB, body BLOB)", mode=mode)
-        refused(f"our name with other columns ({mode})", f"columns-{mode}.db", OTHER)
-        made(f"view-{mode}.db", ours, "CREATE VIEW v AS SELECT 1", mode=mode)
-        refused(f"our table and a view ({mode})", f"view-{mode}.db", OTHER)
-        made(f"index-{mode}.db", ours, "CREATE INDEX i ON pallwethig_rows_1 (body)", mode=mode)
-        refused(f"our table and an index ({mode})", f"index-{mode}.db", OTHER)
-        made(f"version-{mode}.db", ours.replace("rows_1", "rows_2"), mode=mode)
-        refused(f"a later version of the rows ({mode})", f"version-{mode}.db", OTHER)
-    with held("ours.db", "BEGIN EXCLUSIVE"):
-        refused("a file that another program has locked", "ours.db", LOCKED)
-    with held("log.db", "SELECT count(*) FROM pallwethig_rows_1"):
-        refused("a file that an idle sqlite3 has open in its log mode", "log.db", LOCKED)
-    os.mkdir("folder")
-    refused("a folder", "folder", CANNOT)
-    refused("a missing folder", "missing/rows.db", CANNOT)
-    refused("a name of memory", ":memory:", CANNOT)
-    refused("no name", "", CANNOT)
-    made("locked.db", ours)
-    os.chmod("locked.db", 0o444)
-    who = {"user": 65534, "group": 65534} if os.geteuid() == 0 else {}
-    refused("a file without the right to write", "locked.db", CANNOT, **who)
-    os.mkdir("closed", 0o555)
-    refused("a folder without the right to write", "closed/rows.db", CANNOT, **who)
     made("damaged.db", ours, "INSERT INTO pallwethig_rows_1 VALUES (x'', x'00')")
     end = run("damaged.db", "rows")
     told("a row without a table's byte", end.returncode == 4 and end.stderr == b"damaged.db: 1 faults\n", repr(end.stderr))
@@ -192,6 +124,8 @@ def full():
         end = run("small/rows.db", "each", "10000\n")
         entries = len(end.stdout.split())
         told("a full disk is a fault", end.returncode == 4 and entries > 0, f"({entries} entries before it)")
+        new = run("small/new.db", "count")
+        told("a new store on it is refused", (new.returncode, new.stdout, new.stderr) == (4, b"", f"small/new.db: {FULL}\n".encode()), repr(new.stderr))
         after = run("small/rows.db", "each", "1\n")
         told("a full disk is a fault again", after.returncode == 4 and after.stdout == b"", repr(after.stderr))
         for name in ("rows.db", "rows.db-wal"):

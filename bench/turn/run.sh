@@ -14,7 +14,7 @@ cp "$here/turns.rt.in" "$work/repository/crates/turns/src/main.rt"
 cp "$top/HANDLES" "$work/repository/"
 for loop in leave_all split_all join_all; do
     mkdir "$work/repository/crates/turns/proofs/$loop"
-    sed 's/pl_turn\.proofs\.tests\./turns.proofs./' "$top/crates/pl_turn/proofs/tests/$loop/Invariants.antt" \
+    sed 's/pl_service_tests\.proofs\.tests\.turns\./turns.proofs./' "$top/crates/pl_service_tests/proofs/tests/turns/$loop/Invariants.antt" \
         >"$work/repository/crates/turns/proofs/$loop/Invariants.antt"
 done
 (cd "$work/repository/crates/turns" && rt run </dev/null >"$work/log" 2>&1) || { cat "$work/log" >&2; exit 1; }

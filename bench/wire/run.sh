@@ -1,11 +1,13 @@
 #!/bin/sh
 # Counts by callgrind what reading one message of 262,144 bytes of content costs in `pipectl replay`: `pl_wire::asked`, which is
-# all behind the head; of it the copy of a put's content (by how the count grows with the content), and for bodies of JSON
-# what `serde_json`'s own reading of them takes in a small proved program (reads.rt.in; and letting its value go besides: a run with long parameters, one with short ones, capabilities, approvers by
-# their numbers, approvers in any order, patterns, names of pipelines, roles, templates, and many checks of each kind; names of
-# characters of two bytes, short and long, names of each length, and paths of short segments), and of a get what one more of them
-# takes in all, of a file of 131,072 and of 262,144 bytes. Prints the counts and their ratios. Needs valgrind and python3, and
-# proves the program first where it isn't proved. Not a part of the gate.
+# all behind the head; of it the copy of a put's content (by how the count grows with the content), and for bodies of JSON what
+# `serde_json`'s own reading of them takes in a small proved program (reads.rt.in), and letting its value go besides: a run with
+# long parameters, one with short ones, capabilities, approvers by their numbers, approvers in any order, patterns, names of
+# pipelines, roles, templates, and many checks of each kind; names of characters of two bytes, short and long, names of each
+# length, and paths of short segments; and of a get what one more of them takes in all, of a file of 131,072 and of 262,144
+# bytes. `asked` lets go of the tree that it reads, and makes and judges the request: its count is told beside `serde_json`'s
+# reading alone (bare), and beside that reading with the letting go of what was read (whole). Prints the counts and their ratios.
+# Needs valgrind and python3, and proves the program first where it isn't proved. Not a part of the gate.
 set -e
 top=$(cd "$(dirname "$0")/../.." && pwd)
 program=${1:-$top/crates/pipectl/out/pipectl}
@@ -127,5 +129,5 @@ for name, front, make in (
     content = filled(make)
     whole = instructions(message(front, content), asked, asked)[0]
     reading, letting_go = read_alone(content)
-    print(f"{name}: {whole} instructions, serde_json's reading {reading}, letting go {letting_go}, ratio {whole / reading:.2f}", flush=True)
+    print(f"{name}: {whole} instructions, serde_json's reading {reading}, letting go {letting_go}, bare {whole / reading:.2f}, whole {whole / (reading + letting_go):.2f}", flush=True)
 PYTHON

@@ -1,0 +1,233 @@
+#!/usr/bin/env python3
+"""Tries `pipectl` with `--store` over real files: program.py PIPECTL PART..
+
+Parts: `rows` (three texts are queued, and are there after the next opening), `two` (two programs on one store), `refusals` (what
+isn't taken over: status 4, nothing read, one line), `kills` (a replay killed at random moments: each run that was answered is
+there, at most one more, none in part), `full` (a full disk; needs root), `costs` (1,000 texts beside 1,000 commits of the same rows
+by Python's sqlite3 at full syncs). Prints a line for each thing that was tried, and ends with 0 where all held. Works in a new
+folder below the current one.
+"""
+import hashlib
+import json
+import os
+import random
+import shutil
+import signal
+import sqlite3
+import statistics
+import subprocess
+import sys
+import tempfile
+import time
+
+from cases import openings
+
+program = os.path.abspath(sys.argv[1])
+admin = hashlib.sha256(b"abc").hexdigest()
+TEXT = b"steps:\n- script: echo hi\n"
+failed = 0
+
+
+def told(name, holds, more=""):
+    global failed
+    failed += not holds
+    print(f"{name}: {'held' if holds else 'FAILED'}{' ' + more if more else ''}", flush=True)
+
+
+def message(method, target, body=b""):
+    head = f"{method} {target} HTTP/1.1\r\nAuthorization: Bearer abc\r\nContent-Length: {len(body)}\r\n\r\n"
+    return head.encode() + body
+
+
+class Replay:
+    """A running `replay` over a store."""
+
+    def __init__(self, path, **more):
+        words = [program, "replay", "--admin", admin, "--store", path]
+        self.proc = subprocess.Popen(words, stdin=subprocess.PIPE, stdout=subprocess.PIPE, stderr=subprocess.PIPE, **more)
+
+    def ask(self, method, target, body=b""):
+        """Sends a message, and answers the reply's status and content; none where the program ended first."""
+        try:
+            self.proc.stdin.write(message(method, target, body))
+            self.proc.stdin.flush()
+        except BrokenPipeError:
+            return None
+        return self.reply()
+
+    def reply(self):
+        head = b""
+        while not head.endswith(b"\r\n\r\n"):
+            byte = self.proc.stdout.read(1)
+            if not byte:
+                return None
+            head += byte
+        lines = head.decode().split("\r\n")
+        length = next((int(it.split(":")[1]) for it in lines if it.lower().startswith("content-length:")), 0)
+        content = self.proc.stdout.read(length)
+        return (int(lines[0].split()[1]), json.loads(content) if content else None) if len(content) == length else None
+
+    def close(self):
+        """Ends the input: the status, and what is left of the output and of the errors."""
+        out, err = self.proc.communicate()
+        return self.proc.returncode, out, err.decode()
+
+
+def queued(number):
+    return (201, {"run": number})
+
+
+def rows():
+    replay = Replay("rows.db")
+    answers = [replay.ask("POST", "/texts", TEXT) for _ in range(3)]
+    told("three texts are queued", answers == [queued(n) for n in (1, 2, 3)], repr(answers) if answers[-1:] != [queued(3)] else "")
+    end = replay.close()
+    told("the replay ends with 0", end == (0, b"", ""), repr(end))
+    told("the log was copied into the file", os.path.getsize("rows.db-wal") == 0)
+    replay = Replay("rows.db")
+    first = [replay.ask("GET", f"/runs/{n}") for n in (1, 2, 3, 4)]
+    told("they are there after the next opening", [it and it[0] for it in first] == [200, 200, 200, 404], repr([it and it[0] for it in first]))
+    told("numbers go on", replay.ask("POST", "/texts", TEXT) == queued(4))
+    told("a draw gives the first job", (replay.ask("PUT", "/principals/ann", json.dumps({"roles": ["Agent"], "tokenSha256": hashlib.sha256(b"ann").hexdigest()}).encode()) or [0])[0] == 200)
+    told("and it ends with 0", replay.close()[0] == 0)
+
+
+def two():
+    first = Replay("two.db")
+    told("a first program", first.ask("POST", "/texts", TEXT) == queued(1))
+    second = Replay("two.db")
+    end = second.close()
+    told("a second one on its store", end == (4, b"", 'pipectl: "two.db": another program has it open\n'), repr(end))
+    told("the first one goes on", first.ask("POST", "/texts", TEXT) == queued(2))
+    told("and ends with 0", first.close()[0] == 0)
+
+
+def refused(name, path, words, **more):
+    before = open(path, "rb").read() if os.path.isfile(path) else None
+    end = Replay(path, **more).close()
+    after = open(path, "rb").read() if os.path.isfile(path) else None
+    told(name, end == (4, b"", f'pipectl: "{path}": {words}\n') and before == after, "" if end[0] == 4 else repr(end))
+
+
+def taken(name, path):
+    end = Replay(path).close()
+    told(name, end == (0, b"", ""), "" if end[0] == 0 else repr(end))
+
+
+def refusals():
+    openings(taken, refused, told)
+    replay = Replay("torn.db")
+    replay.ask("POST", "/texts", TEXT)
+    replay.close()
+    db = sqlite3.connect("torn.db")
+    db.execute("DELETE FROM pallwethig_rows_1 WHERE place = x'00'")
+    db.commit()
+    db.close()
+    end = Replay("torn.db").close()
+    told("rows that don't stand together", end[0] == 5 and end[1] != b"" and end[1].count(b"\n") == 1, repr(end))
+
+
+def found(path):
+    """How many runs a store has, each of them whole; none where it isn't opened."""
+    replay = Replay(path)
+    many = 0
+    while True:
+        answer = replay.ask("GET", f"/runs/{many + 1}")
+        if answer is None:
+            return None
+        if answer[0] != 200:
+            break
+        if [it["name"] for it in answer[1]["stages"]] != ["__default"]:
+            return None
+        many += 1
+    return many if replay.close()[0] == 0 else None
+
+
+def kills(times=200):
+    some = random.Random(49)
+    runs, holds, more, silent = 0, True, 0, 0
+    for turn in range(times):
+        path = f"killed-{turn // 20}.db"
+        runs = runs if turn % 20 else 0
+        replay = Replay(path)
+        sent = some.randrange(1, 40)
+        replay.proc.stdin.write(message("POST", "/texts", TEXT) * sent)
+        replay.proc.stdin.flush()
+        if some.random() < 0.8:
+            replay.proc.stdout.peek(1)
+        time.sleep(some.random() * some.choice((0.002, 0.02, 0.1)))
+        replay.proc.send_signal(signal.SIGKILL)
+        acknowledged = runs
+        while (answer := replay.reply()) is not None:
+            holds &= answer == queued(acknowledged + 1)
+            acknowledged += 1
+        silent += acknowledged == runs
+        replay.proc.communicate()
+        runs = found(path)
+        holds &= runs in (acknowledged, acknowledged + 1)
+        more += runs == acknowledged + 1
+        runs = runs or 0
+    told(f"{times} killed replays", holds, f"({silent} killed before an answer, {more} left a run that wasn't told)")
+
+
+def full():
+    os.mkdir("small")
+    if subprocess.run(["mount", "-t", "tmpfs", "-o", "size=400k", "none", "small"]).returncode != 0:
+        return told("a full disk", False, "no file system could be mounted")
+    try:
+        replay = Replay("small/rows.db")
+        answers = []
+        while len(answers) < 10000 and (not answers or answers[-1][0] == 201):
+            answers.append(replay.ask("POST", "/texts", TEXT))
+        told("a full disk is answered 503", answers[-1] == (503, {"rule": "keeper.fault"}) and len(answers) > 1, f"({len(answers) - 1} runs before it)")
+        told("and so is the next call", replay.ask("POST", "/texts", TEXT) == (503, {"rule": "keeper.fault"}))
+        told("the replay goes on to the end of its input", replay.close()[0] == 0)
+        for name in ("rows.db", "rows.db-wal"):
+            shutil.copy(f"small/{name}", f"copied-{name}")
+        os.rename("copied-rows.db-wal", "copied.db-wal")
+        os.rename("copied-rows.db", "copied.db")
+        told("its runs are those that were told", found("copied.db") == len(answers) - 1)
+    finally:
+        subprocess.run(["umount", "small"])
+
+
+def costs(many=1000, turns=7):
+    here, there = [], []
+    for turn in range(turns):
+        start = time.perf_counter()
+        words = [program, "replay", "--admin", admin, "--store", f"cost-{turn}.db"]
+        end = subprocess.run(words, input=message("POST", "/texts", TEXT) * many, capture_output=True)
+        here.append(time.perf_counter() - start)
+        if end.returncode != 0 or end.stdout.count(b"201 Created") != many:
+            return told("a replay of texts", False, repr(end)[:300])
+        db = sqlite3.connect(f"cost-{turn}.db")
+        kept = {place: body for place, body in db.execute("SELECT place, body FROM pallwethig_rows_1")}
+        db.close()
+        runs = sorted(it for it in kept if it[0] == 6)
+        others = [[it for it in kept if it[0] > 6 and it[1:9] == run[1:9]] for run in runs]
+        db = sqlite3.connect(f"bare-{turn}.db", isolation_level=None)
+        db.execute("PRAGMA journal_mode=WAL")
+        db.execute("PRAGMA synchronous=FULL")
+        db.execute("CREATE TABLE pallwethig_rows_1 (place BLOB NOT NULL PRIMARY KEY, body BLOB NOT NULL) STRICT")
+        start = time.perf_counter()
+        for run, more in zip(runs, others):
+            db.execute("BEGIN IMMEDIATE")
+            for place in (run, *more, b"\0"):
+                db.execute("INSERT OR REPLACE INTO pallwethig_rows_1 VALUES (?1, ?2)", (place, kept[place]))
+            db.execute("COMMIT")
+        there.append(time.perf_counter() - start)
+        db.close()
+    ratio = statistics.median(a / b for a, b in zip(here, there))
+    told("1,000 texts beside bare commits of their rows", ratio <= 1.2, "(by turns %.2f; seconds, median (least): here %.2f (%.2f), sqlite3 %.2f (%.2f))" % (
+        ratio, statistics.median(here), min(here), statistics.median(there), min(there)))
+
+
+work = tempfile.mkdtemp(prefix="store-", dir=".")
+os.chdir(work)
+try:
+    for part in sys.argv[2:]:
+        {"rows": rows, "two": two, "refusals": refusals, "kills": kills, "full": full, "costs": costs}[part]()
+finally:
+    os.chdir("..")
+    shutil.rmtree(work)
+sys.exit(failed != 0)
