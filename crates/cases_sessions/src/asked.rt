@@ -1,7 +1,8 @@
+use crate::again::answered_again;
 use crate::message::{Moments, Session, push_message};
-use crate::outside::{Outside, outside_of};
+use crate::outside::outside_of;
 use crate::told::push_replies;
-use pl_base::Memory;
+use pl_base::{List, Memory};
 use pl_cases::{Answers, Questions};
 use pl_commands::run;
 use std::alloc::Global;
@@ -33,10 +34,14 @@ const WORDS: [&str; 3] = [
     "ba7816bf8f01cfea414140de5dae2223b00361a396177a9cb410ff61f20015ad",
 ];
 
-fn words(alloc: Global) -> Result<Vec<String>, Memory> {
+/// The words of the command, and these.
+pub fn words(alloc: Global, more: &[&str]) -> Result<Vec<String>, Memory> {
     let mut words = Vec::new(alloc);
     for word in WORDS {
         words.push(String::from_str(alloc, word)?)?;
+    }
+    for word in more {
+        words.push(String::from_str(alloc, *word)?)?;
     }
     Ok(words)
 }
@@ -45,6 +50,7 @@ fn words(alloc: Global) -> Result<Vec<String>, Memory> {
 fn session_of(alloc: Global, case: &str) -> Result<Session, Memory> {
     let mut session = Session {
         input: Vec::new(alloc),
+        ends: Vec::new(alloc),
         moments: Moments::new(alloc),
     };
     let messages = case.strip_prefix("> ").unwrap_or(case);
@@ -54,30 +60,27 @@ fn session_of(alloc: Global, case: &str) -> Result<Session, Memory> {
     Ok(session)
 }
 
-/// Writes what the messages of a case are answered, and the status at their end.
+/// Writes what the messages of a case are answered, and the status at their end; and whether that
+/// is otherwise where the service is closed and opened again behind each message.
 fn answer_case(alloc: Global, out: &mut Answers, case: &str) {
-    match session_of(alloc, case) {
-        Ok(session) => answer_session(alloc, out, session),
-        Err(_) => out.fail(),
+    if answer_session(alloc, out, case).is_err() {
+        out.fail()
     }
 }
 
-fn answer_session(alloc: Global, out: &mut Answers, session: Session) {
-    match outside_of(alloc, session) {
-        Ok(mut outside) => answer_in(alloc, out, &mut outside),
-        Err(_) => out.fail(),
+fn answer_session(alloc: Global, out: &mut Answers, case: &str) -> Result<(), Memory> {
+    let session = session_of(alloc, case)?;
+    let moments = session.moments.again(alloc)?;
+    let mut outside = outside_of(alloc, session.input.as_slice(), moments, List::new(alloc))?;
+    let words = words(alloc, &[])?;
+    let code = run(alloc, words.as_slice(), &mut outside).code();
+    let written = outside.ends.sink.bytes();
+    push_replies(alloc, out, written);
+    out.push("status ");
+    out.number(alloc, u64::from(code));
+    out.push("\n");
+    if !answered_again(alloc, &session, code, written)? {
+        out.push("otherwise when it is opened again behind each message\n");
     }
-}
-
-fn answer_in(alloc: Global, out: &mut Answers, outside: &mut Outside) {
-    match words(alloc) {
-        Ok(words) => {
-            let status = run(alloc, words.as_slice(), outside);
-            push_replies(alloc, out, outside.ends.sink.bytes());
-            out.push("status ");
-            out.number(alloc, u64::from(status.code()));
-            out.push("\n")
-        }
-        Err(_) => out.fail(),
-    }
+    Ok(())
 }

@@ -2,8 +2,10 @@
 //! cases tell. The form of the cases stands at their head.
 #![tactic(auto)]
 
+mod again;
 mod asked;
 mod message;
+mod nobody;
 mod outside;
 mod told;
 

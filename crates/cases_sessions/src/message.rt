@@ -20,6 +20,23 @@ impl Moments {
         }
     }
 
+    /// The moments of one call alone: the one that is told at it.
+    pub fn at(&self, alloc: Global, call: usize) -> Result<Moments, Memory> {
+        let last = self.coming.get(call).copied().unwrap_or(0);
+        let mut coming = List::new(alloc);
+        coming.push(last)?;
+        Ok(Moments { coming, last })
+    }
+
+    /// The same moments once more.
+    pub fn again(&self, alloc: Global) -> Result<Moments, Memory> {
+        let coming = List::from_slice(alloc, self.coming.as_slice())?;
+        Ok(Moments {
+            coming,
+            last: self.last,
+        })
+    }
+
     /// One call more, at the moment that these digits spell, or where there are none at that of the
     /// call before.
     fn push(&mut self, digits: &str) -> Result<(), Memory> {
@@ -28,10 +45,11 @@ impl Moments {
     }
 }
 
-/// The bytes of messages, and the moment of each.
+/// The bytes of messages, where each of them ends, and the moment of each.
 #[derive(Drop)]
 pub struct Session {
     pub input: Vec<u8>,
+    pub ends: Vec<usize>,
     pub moments: Moments,
 }
 
@@ -43,6 +61,7 @@ pub fn push_message(alloc: Global, session: &mut Session, message: &str) -> Resu
     session.moments.push(moment)?;
     push_head(alloc, &mut session.input, request, body.len())?;
     session.input.extend_from_slice(body.as_bytes())?;
+    session.ends.push(session.input.len())?;
     Ok(())
 }
 

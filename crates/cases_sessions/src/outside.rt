@@ -1,10 +1,15 @@
 //! An outside in memory, whose clock tells the moments of a case.
 
-ghost use Rattle.std.specs.Prelude.{None, refl};
+ghost use Rattle.std.specs.Prelude.{◌≡◌, [], None, refl};
 
-use crate::message::{Moments, Session};
-use pl_base::{Bytes, Clock, LAST_MOMENT, List, MemSink, MemSource, Memory, Moment, Paired};
-use pl_commands::Outfit;
+use crate::message::Moments;
+use crate::nobody::ClosedDoor;
+use pl_base::{
+    Bytes, Clock, LAST_MOMENT, List, MemSink, MemSource, Memory, Moment, Paired, Row, Text,
+};
+use pl_keeper::{Keeper, KeeperFault, MemKeeper};
+use pl_listener::ListenFault;
+use pl_outfit::Outfit;
 use std::alloc::Global;
 
 /// A clock that tells moments in turn, and then 0. What it will tell isn't told.
@@ -31,11 +36,25 @@ fn moment_at(moments: &Option<Moments>, at: usize) -> Moment {
     }
 }
 
-/// A source and a sink in memory, and the moments of the clock that is asked for first.
+/// A source and a sink in memory, the moments of the clock that is asked for first, the rows at any
+/// path, for one store, and the store that was handed back. Nobody comes to its door.
 #[derive(Drop)]
 pub struct Outside {
     pub ends: Paired<MemSource, MemSink>,
     moments: Option<Moments>,
+    rows: Option<List<Row>>,
+    pub back: Option<MemKeeper>,
+    keeper_faults: u64,
+    // For how many handles of its door there is room.
+    room: u8,
+}
+
+/// A store in memory without a row.
+fn empty(alloc: Global) -> MemKeeper
+    ensures rows { result.rows.items ≡ [] }
+    ensures quiet { result.faults ≡ 0 }
+{
+    MemKeeper::new(List::new(alloc), List::new(alloc))
 }
 
 impl Outfit for Outside {
@@ -45,7 +64,17 @@ impl Outfit for Outside {
 
     type Time = Turns;
 
-    ghost view = { λ outfit. record { ends = outfit.ends; coming = None; people = None } };
+    type Store = MemKeeper;
+
+    type Door = ClosedDoor;
+
+    ghost view = { λ outfit. record {
+      ends = outfit.ends;
+      coming = None;
+      people = None;
+      stores = record { asked = None; rows = None; back = None; faults = outfit.keeper_faults };
+      doors = record { asked = None; back = None; room = outfit.room; faults = 0 };
+    } };
 
     ghost with_ends = { λ outfit ends. record outfit { ends = ends } };
 
@@ -62,18 +91,61 @@ impl Outfit for Outside {
         }
     }
 
+    fn keeper(&mut self, alloc: Global, path: Option<&Text>) -> Result<MemKeeper, KeeperFault> {
+        match path {
+            None => Ok(empty(alloc)),
+            Some(_) => match self.rows.take() {
+                Some(rows) => Ok(MemKeeper::new(rows, List::new(alloc))),
+                None => Err(KeeperFault::Memory),
+            },
+        }
+    }
+
+    fn keeper_back(&mut self, store: MemKeeper) {
+        if store.faults() > 0 {
+            self.keeper_faults = self.keeper_faults.saturating_add(1);
+        }
+        self.back = Some(store);
+    }
+
+    fn door(&mut self, _alloc: Global, _address: &Text) -> Result<ClosedDoor, ListenFault> {
+        self.room = 4;
+        Ok(ClosedDoor::new())
+    }
+
+    fn door_back(&mut self, _door: ClosedDoor) {
+        self.room -= 1;
+    }
+
     fn tell(&mut self, _line: &str) {}
+
+    fn keeper_faults(&self) -> u64 {
+        self.keeper_faults
+    }
+
+    fn door_faults(&self) -> u64 {
+        0
+    }
 }
 
-/// An outside that has these messages to give whole, and room for 1,000,000 bytes.
-pub fn outside_of(alloc: Global, session: Session) -> Result<Outside, Memory> {
-    let Session { input, moments } = session;
+/// An outside that has these bytes to give whole, at these moments, and room for 1,000,000 bytes,
+/// with these rows at any path.
+pub fn outside_of(
+    alloc: Global,
+    input: &[u8],
+    moments: Moments,
+    rows: List<Row>,
+) -> Result<Outside, Memory> {
     let never = List::new(alloc);
-    let source = MemSource::new(Bytes::from_vec(input), 1_000_000, never);
+    let source = MemSource::new(Bytes::from_slice(alloc, input)?, 1_000_000, never);
     let sink = sink(alloc)?;
     Ok(Outside {
         ends: Paired { source, sink },
         moments: Some(moments),
+        rows: Some(rows),
+        back: None,
+        keeper_faults: 0,
+        room: 0,
     })
 }
 

@@ -1,4 +1,4 @@
-use crate::commands::{answer_compile, answer_replay};
+use crate::commands::{answer_command, answer_compile, answer_replay};
 use crate::heads::{answer_head, answer_limit};
 use crate::lines::write_line;
 use crate::names::{answer_key, answer_name};
@@ -61,6 +61,7 @@ fn answer_bytes(alloc: Global, out: &mut Text, question: &str, bytes: &[u8]) -> 
 fn answer_text(alloc: Global, out: &mut Text, question: &str, text: &str) -> Result<(), Memory> {
     match question {
         "arguments of compile" => answer_compile(alloc, out, text),
+        "commands" => answer_command(alloc, out, text),
         "is it replay" => answer_replay(alloc, out, text),
         "paths in texts" => answer_cut(alloc, out, text),
         "paths from files" => answer_from_file(alloc, out, text),

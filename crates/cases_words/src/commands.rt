@@ -45,3 +45,24 @@ pub fn answer_replay(alloc: Global, out: &mut Text, line: &str) -> Result<(), Me
     let command = parse(alloc, &words)?;
     write_whether(out, matches!(&command, Some(Command::Replay { .. })))
 }
+
+fn write_store(out: &mut Text, store: &Option<Text>) -> Result<(), Memory> {
+    if let Some(path) = store {
+        out.push_str(" store:")?;
+        out.push_str(path.as_str())?;
+    }
+    out.push_str("\n")
+}
+
+/// Writes the command that the words of a line are, with its store, or `none`.
+pub fn answer_command(alloc: Global, out: &mut Text, line: &str) -> Result<(), Memory> {
+    let words = words_of(alloc, line)?;
+    match parse(alloc, &words)? {
+        Some(Command::Replay { admin: _, store }) => {
+            out.push_str("replay")?;
+            write_store(out, &store)
+        }
+        Some(Command::Compile { arguments: _ }) => write_line(out, "compile", ""),
+        None => write_line(out, "none", ""),
+    }
+}

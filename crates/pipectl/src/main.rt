@@ -1,7 +1,9 @@
 //! The program `pipectl`: a template compiler and run service for Azure Pipelines' YAML.
 #![tactic(auto)]
 
-use pl_commands::{Process, Status, run};
+use pl_commands::run;
+use pl_outfit::Status;
+use pl_process::Process;
 use std::process::ExitCode;
 use std::{env, io};
 

@@ -1,79 +1,93 @@
-ghost use Rattle.std.specs.Prelude.{◌≡◌, ◌≤◌, [], true, IfOk, OnErr};
-ghost use Rattle.pl_alone.specs.Desk.{Act, Serves, call_at, parts};
-ghost use Rattle.pl_core.specs.State.{log as log_of_core};
-ghost use Rattle.pl_core.specs.Below.pl_due.specs.Fit.{last_moment as last_of_all};
-ghost use Rattle.pl_core.specs.Below.pl_history.specs.Made.{IsMadeFor};
-ghost use Rattle.pl_core.specs.Below.pl_history.specs.History.{opened};
-ghost use Rattle.pl_journal.specs.Log.{last_moment};
-ghost use Rattle.pl_requests.specs.WellFormed.{is_request, is_well_formed};
+ghost use Rattle.std.specs.Prelude.{◌≡◌, ◌≤◌, true, IfErr, IfOk};
+ghost use Rattle.pl_alone.specs.Desk.{Act, parts};
+ghost use Rattle.pl_service.specs.Below.pl_due.specs.Fit.{last_moment as last_of_all};
+ghost use Rattle.pl_service.specs.Below.pl_history.specs.Guarded.{IsGuarded};
+ghost use Rattle.pl_service.specs.Below.pl_history.specs.Legal.{Legal};
+ghost use Rattle.pl_keeper.specs.Keeping.{WhereTold};
+ghost use Rattle.pl_requests.specs.WellFormed.{is_request};
+ghost use Rattle.pl_service.specs.Begun.{IsBegun, IsUnopened};
+ghost use Rattle.pl_service.specs.Past.{past_of};
+ghost use Rattle.pl_service.specs.Rows.{AreSame};
 ghost use Rattle.pl_wire.specs.declared.message.Message.TheVariants as asks;
 
-use pl_base::{Digest, Memory, Moment, Refusal, Shared};
-use pl_compilation::compiled;
-use pl_core::{Call, Core, Reply, Request};
-use pl_plan::Compiled;
+use pl_base::{Digest, Memory, Moment};
+use pl_keeper::{Keeper, KeeperFault};
+use pl_requests::Request;
+use pl_service::{Call, Entry, Service, Unopened};
 use pl_sessions::{Answer, Desk};
 use pl_wire::{Message, refused_reply};
 use std::alloc::Global;
 
-/// A desk for one link, without a lock. Its entries name the seat 0.
+/// A desk for one link, without a lock: a service that nobody else asks. Its entries name the
+/// seat 0.
 #[derive(Drop)]
-pub struct Alone {
-    pub core: Core,
+pub struct Alone<K: Keeper + Drop> {
+    pub service: Service<K>,
 }
 
-impl Alone {
-    /// A desk of a service that was just opened, with the digest of its admin's token. Memory where
-    /// memory is wanting.
-    pub fn open(alloc: Global, admin: Digest) -> Result<Alone, Memory>
-        ensures { IfOk result (λ desk. parts desk ≡ record { opening = opened admin; seen = [] }) }
+impl<K: Keeper + Drop> Alone<K> {
+    /// A desk of a service that goes on from what the keeper has kept, with the digest of its
+    /// admin's token. Where it isn't opened, the keeper comes back, and its rows are as they were:
+    /// Torn, with the first row at which they don't stand together; KeeperFault, where the keeper
+    /// failed now; Memory where memory is wanting.
+    pub fn open(alloc: Global, keeper: K, admin: Digest) -> Result<Alone<K>, Unopened<K>>
+        ensures begun { IfOk result (λ desk.
+            IsBegun admin (K.held desk.service.keeper) (past_of desk.service)) }
+        ensures rows { IfOk result (λ desk.
+            WhereTold (K.held keeper) (K.held desk.service.keeper) AreSame) }
+        ensures quiet { IfOk result (λ desk.
+            K.faults desk.service.keeper ≡ K.faults keeper) }
+        ensures unopened { IfErr result (IsUnopened K.Keeper admin keeper) }
     {
-        Ok(Alone {
-            core: Core::new(alloc, admin)?,
-        })
+        match Service::open(alloc, keeper, admin) {
+            Ok(service) => Ok(Alone { service }),
+            Err(unopened) => Err(unopened),
+        }
+    }
+
+    /// The keeper, with the rows as the last act left them.
+    pub fn into_keeper(self) -> K
+        ensures { result ≡ self.service.keeper }
+    {
+        let Alone { service } = self;
+        let Service { core: _, keeper } = service;
+        keeper
+    }
+
+    /// The entries since the service was opened, in order: a legal history.
+    pub fn entries(&self) -> &[Entry]
+        ensures entries { result.now ≡ self.now.service.core.entries }
+        ensures legal { Legal self.now.service.core.opening self.now.service.core.entries }
+        ensures guarded { IsGuarded self.now.service.core.opening self.now.service.core.entries }
+    {
+        self.service.core.entries()
     }
 
     // Answers a request of a caller at a moment, or where that is later at the last entry's.
     fn ask(&mut self, alloc: Global, moment: Moment, caller: Digest, request: Request) -> Answer
         requires moment { moment ≤ last_of_all }
         requires well_formed { is_request request ≡ true }
-        ensures { Act (parts self.old) moment (asks.Ask caller request) result (parts self.new) }
+        ensures { Act (parts K.Keeper self.old) moment (asks.Ask caller request) result
+            (parts K.Keeper self.new) }
     {
         let call = Call {
-            moment: moment.max(self.core.moment()),
+            moment,
             caller,
             request,
         };
-        match self.reply(alloc, &call) {
+        match self.service.answer(alloc, 0, call, None) {
             Ok(reply) => Answer::Reply(reply),
-            Err(Memory) => Answer::Memory,
+            Err(KeeperFault::Failed) => Answer::KeeperFault,
+            Err(KeeperFault::Memory) => Answer::Memory,
         }
-    }
-
-    // The step's reply to a call, which is an entry then where it adds facts. Memory leaves the
-    // entries as they were.
-    fn reply(&mut self, alloc: Global, call: &Call) -> Result<Reply, Memory>
-        requires well_formed { is_well_formed call.now ≡ true }
-        requires moment { last_moment (log_of_core self.old.core) ≤ call.now.moment }
-        ensures serves { IfOk result (λ reply.
-            Serves (parts self.old) call.now reply (parts self.new)) }
-        ensures same { OnErr result (parts self.new ≡ parts self.old) }
-    {
-        self.core.back();
-        let made = made_for(alloc, &self.core, call)?;
-        let prepared = self.core.prepare(alloc, 0, call, made)?;
-        let reply = self.core.install(prepared);
-        // They are a legal history.
-        let _entries = self.core.entries();
-        Ok(reply)
     }
 }
 
-impl Desk for Alone {
+impl<K: Keeper + Drop> Desk for Alone<K> {
     ghost acts = { λ old moment message answer new.
-        Act (parts old) moment message answer (parts new) };
+        Act (parts K.Keeper old) moment message answer (parts K.Keeper new) };
 
-    // Where memory is wanting, nothing changes.
+    // Where the keeper failed or memory is wanting, nothing changes.
     fn act(&mut self, alloc: Global, moment: Moment, message: Message) -> Answer {
         match message {
             Message::Ask { caller, request } => self.ask(alloc, moment, caller, request),
@@ -82,20 +96,5 @@ impl Desk for Alone {
                 Err(Memory) => Answer::Memory,
             },
         }
-    }
-}
-
-// What a call's pipeline is compiled to, where the call queues a run.
-fn made_for(
-    alloc: Global,
-    core: &Core,
-    call: &Call,
-) -> Result<Option<Result<Shared<Compiled>, Refusal>>, Memory>
-    requires { core.now.pending ≡ [] }
-    ensures { IfOk result (IsMadeFor (log_of_core core.now) call.now) }
-{
-    match core.wanted(alloc, call)? {
-        Some(snapshot) => Ok(Some(compiled(alloc, &snapshot)?)),
-        None => Ok(None),
     }
 }

@@ -2,6 +2,8 @@
 #![tactic(auto)]
 
 mod alone;
+mod laws;
 
 pub use alone::Alone;
-pub use pl_core::{access_laws, claim_laws};
+pub use laws::desks_last;
+pub use pl_service::{access_laws, claim_laws, kept_laws};

@@ -1,2 +1,4 @@
+mod Commanded
+mod Counting
+mod Rising
 mod Whole
-pub mod Wanting

@@ -1,114 +1,130 @@
--- How a session over whole messages ends.
-use Rattle.std.proofs.Common.{◌≡◌, ℕ, ◌<◌, List, [], ◌∷◌, ◌++◌, length, refl, sym, ◌∙◌, ap, subst}
-use Rattle.std.proofs.Common.{arith, false, length-append, Option, Some, None}
-use Rattle.std.specs.Prelude.{IfSome}
-use Rattle.std.proofs.Math.Seq.{take-nil}
-use Rattle.pl_alone.specs.Desk.{Act, Parts}
-use Rattle.pl_base.specs.Streams.{with_front}
-use Rattle.pl_wire.specs.declared.message.Message.{Message}
-use Rattle.pl_wire.specs.Message.{IsMessage, IsPartial, IsBad, OneReading}
-use Rattle.pl_heads.specs.declared.fault.HttpFault.{HttpFault}
-use Rattle.pl_wire.proofs.Readings.{partial_none, bad_none, stay}
-use Rattle.pl_wire.proofs.Nothing.{nothing_none, nothing_not_bad}
-use Rattle.pl_base.specs.declared.digest.Digest.{Digest}
+-- Which statuses come of which commands.
+use Rattle.std.proofs.Common.{◌≡◌, ◌∙◌, ℕ, Bool, true, false, List, Option, Some, None, sym, subst}
+use Rattle.std.proofs.Common.{inl, inr, refl}
+use Rattle.pl_base.specs.declared.expanded.Argument.{Argument}
+use Rattle.pl_commands.specs.Run.{ReadsToItsEnd, Runs, compile_status, inflow_of}
+use Rattle.pl_commands.specs.Run.{outflow_of}
+use Rattle.pl_offline.specs.Running.{Runs as RunsOffline}
+use Rattle.pl_offline.specs.declared.ending.Ending.{Ending}
+use Rattle.pl_offline.specs.declared.ending.Ending.TheVariants as ending
+use Rattle.pl_outfit.specs.Outside.{Outside}
+use Rattle.pl_outfit.specs.declared.status.Status.{Status}
+use Rattle.pl_outfit.specs.declared.status.Status.TheVariants as status
+use Rattle.pl_replaying.specs.Replaying.{status_of}
+use Rattle.pl_replaying.specs.Below.pl_service.specs.declared.fault.OpenFault.{OpenFault}
+use Rattle.pl_replaying.specs.Below.pl_service.specs.declared.fault.OpenFault.TheVariants as fault
+use Rattle.pl_sessions.specs.Session.{EndsTold}
+use Rattle.pl_sessions.specs.Told.{IsAtEnd, Told}
 use Rattle.pl_sessions.specs.declared.served.Served.{Served}
 use Rattle.pl_sessions.specs.declared.served.Served.TheVariants as served
-use Rattle.pl_commands.specs.declared.status.Status.{Status}
-use Rattle.pl_sessions.specs.Acts.{messages_of}
-use Rattle.pl_sessions.specs.Messages.{Spelled, NoneFirst}
-use Rattle.pl_commands.specs.Run.{Outside, Replays, FinishesUnlessBroken}
-use Rattle.pl_streams.specs.Whole.{taken_limit}
-use Rattle.pl_sessions.specs.Session.{Point, Session}
-use Rattle.pl_commands.specs.Statuses.{status_of}
-use Rattle.pl_sessions.specs.Told.{Told}
-use Rattle.pl_sessions.proofs.Sessions.{append-nil, Spelled-more}
-use Rattle.pl_sessions.proofs.Streams.{one_stream}
+use Rattle.pl_replaying.specs.Below.pl_unopened.specs.Unopened.{Tells, WritesLine, no_store_status}
+use Rattle.pl_replaying.specs.Below.pl_unopened.specs.Unopened.{torn_line}
+use Rattle.pl_words.specs.declared.command.Command.{Command}
+use Rattle.pl_words.specs.declared.command.Command.TheVariants.{Compile, Replay}
 
--- ---- lists
+-- ---- statuses of one part, which are neither that of words that are no command nor, but where a
+-- ---- source was read to its end or a link stopped, that of a run that finished
 
--- what a source told is what was read and what is left
-told_is : (read : List ℕ) (left : Option (List ℕ)) (bytes : List ℕ)
-    → Some bytes ≡ with_front read left
-    → (rest : List ℕ) × (left ≡ Some rest) × (bytes ≡ read ++ rest)
-told_is read None bytes is = absurd (cc is)
-told_is read (Some rest) bytes is = (rest, refl, cc is)
+no_store_usage : (failed : Bool) → no_store_status failed ≡ status.Usage → ⊥
+no_store_usage true is = absurd (cc is)
+no_store_usage false is = absurd (cc is)
 
-no_front : (a b : List ℕ) → [] ≡ a ++ b → a ≡ []
-no_front [] b is = refl
-no_front (x ∷ a) b is = absurd (cc is)
+no_store_finished : (failed : Bool) → no_store_status failed ≡ status.Finished → ⊥
+no_store_finished true is = absurd (cc is)
+no_store_finished false is = absurd (cc is)
 
-not_shorter : (read rest : List ℕ) (n : ℕ) → length (read ++ rest) < n → length read ≡ n → ⊥
-not_shorter read rest n short is = omega (arith, short, is, length-append read rest)
+told_usage : (why : OpenFault) (old : Outside) (ends : Status) (new : Outside)
+    → Tells why old ends new → ends ≡ status.Usage → ⊥
+told_usage (fault.Torn table key bytes) old ends new tells is =
+    subst (λ s. WritesLine (torn_line table key) old s new) is tells.writes
+told_usage fault.KeeperFault old ends new tells is = absurd (cc (sym tells.0 ∙ is))
+told_usage fault.Memory old ends new tells is = absurd (cc (sym tells.0 ∙ is))
 
--- ---- the endings that don't come
+told_finished : (why : OpenFault) (old : Outside) (ends : Status) (new : Outside)
+    → Tells why old ends new → ends ≡ status.Finished → ⊥
+told_finished (fault.Torn table key bytes) old ends new tells is =
+    subst (λ s. WritesLine (torn_line table key) old s new) is tells.writes
+told_finished fault.KeeperFault old ends new tells is = absurd (cc (sym tells.0 ∙ is))
+told_finished fault.Memory old ends new tells is = absurd (cc (sym tells.0 ∙ is))
 
--- where the source told its end, all was read
-all_read : (read bytes : List ℕ) (left : Option (List ℕ)) → Some bytes ≡ with_front read left
-    → IfSome left (λ rest. rest ≡ []) → read ≡ bytes
-all_read read bytes None is end = absurd (cc is)
-all_read read bytes (Some rest) is end = let all : bytes ≡ read ++ rest = cc is in sym (all ∙ (ap (λ
-    r. read ++ r) end ∙ append-nil read))
+served_usage : (so : Served) → status_of so ≡ status.Usage → ⊥
+served_usage served.Ended is = absurd (cc is)
+served_usage (served.Cut len) is = absurd (cc is)
+served_usage (served.Bad fault) is = absurd (cc is)
+served_usage served.Spent is = absurd (cc is)
+served_usage served.Stopped is = absurd (cc is)
+served_usage served.ReadFault is = absurd (cc is)
+served_usage served.WriteFault is = absurd (cc is)
+served_usage served.Memory is = absurd (cc is)
 
-none_first : NoneFirst []
-none_first len message is = nothing_none message (subst (λ b. IsMessage b message) (take-nil len)
-    is)
+served_finished : (so : Served) (link : Told) → (so ≡ served.Stopped → ⊥) → EndsTold so link
+    → status_of so ≡ status.Finished → IsAtEnd link
+served_finished served.Ended link goes_on told is = told
+served_finished (served.Cut len) link goes_on told is = absurd (cc is)
+served_finished (served.Bad fault) link goes_on told is = absurd (cc is)
+served_finished served.Spent link goes_on told is = absurd (cc is)
+served_finished served.Stopped link goes_on told is = absurd (goes_on refl)
+served_finished served.ReadFault link goes_on told is = absurd (cc is)
+served_finished served.WriteFault link goes_on told is = absurd (cc is)
+served_finished served.Memory link goes_on told is = absurd (cc is)
 
-no_rest : OneReading → (bytes rest : List ℕ) (messages others : List Message)
-    → Spelled bytes messages [] → Spelled bytes others rest → NoneFirst rest → [] ≡ rest
-no_rest one bytes rest messages others whole spelled none =
-    (one_stream one bytes [] rest messages others whole spelled none_first none).1
+compiled_usage : (so : Ending) → compile_status so ≡ status.Usage → ⊥
+compiled_usage ending.Compiled is = absurd (cc is)
+compiled_usage ending.Refused is = absurd (cc is)
+compiled_usage ending.NotBundle is = absurd (cc is)
+compiled_usage ending.ReadFault is = absurd (cc is)
+compiled_usage ending.Spent is = absurd (cc is)
+compiled_usage ending.WriteFault is = absurd (cc is)
+compiled_usage (ending.Memory passed) is = absurd (cc is)
 
-not_cut : OneReading → (bytes read rest : List ℕ) (messages others : List Message)
-    → Spelled bytes messages [] → read ≡ bytes → Spelled read others rest → IsPartial rest
-    → 0 < length rest → ⊥
-not_cut one bytes read rest messages others whole all spelled partial some =
-    let none : [] ≡ rest = no_rest one bytes rest messages others whole (subst (λ b. Spelled b
-    others rest) all spelled) (partial_none rest partial) in
-    omega (arith, some, ap length none)
+compiled_finished : (arguments : List Argument) (so : Ending) (old new : Outside)
+    → RunsOffline arguments so (inflow_of old.link) (inflow_of new.link) (outflow_of old.link)
+    (outflow_of new.link) → compile_status so ≡ status.Finished → IsAtEnd new.link
+compiled_finished arguments ending.Compiled old new runs is =
+    (runs.1.whole.ended, runs.1.whole.nothing)
+compiled_finished arguments ending.Refused old new runs is = absurd (cc is)
+compiled_finished arguments ending.NotBundle old new runs is = absurd (cc is)
+compiled_finished arguments ending.ReadFault old new runs is = absurd (cc is)
+compiled_finished arguments ending.Spent old new runs is = absurd (cc is)
+compiled_finished arguments ending.WriteFault old new runs is = absurd (cc is)
+compiled_finished arguments (ending.Memory passed) old new runs is = absurd (cc is)
 
-not_bad :
-    OneReading →
-    (bytes read rest more : List ℕ) (messages others : List Message) (fault : HttpFault)
-    → Spelled bytes messages [] → bytes ≡ read ++ more → Spelled read others rest
-    → IsBad rest fault → ⊥
-not_bad one bytes read rest more messages others fault whole all spelled bad =
-    let none : [] ≡ rest ++ more =
-    no_rest one bytes (rest ++ more) messages others whole
-    (subst (λ b. Spelled b others (rest ++ more)) (sym all) (Spelled-more read more others rest
-    spelled))
-    (bad_none (rest ++ more) fault (stay.faults rest more fault bad))
-    in
-    nothing_not_bad fault (subst (λ b. IsBad b fault) (no_front rest more none) bad)
+-- ---- a run
 
-whole_session : OneReading
-    → (old new : Point Parts) (bytes : List ℕ) (messages : List Message) (ending : Served)
-    → old.link.left ≡ Some bytes → Spelled bytes messages [] → length bytes < taken_limit
-    → Session Act false old new ending
-    → FinishesUnlessBroken (status_of ending)
-whole_session one old new bytes messages served.Ended left whole short s = tt
-whole_session one old new bytes messages (served.Cut len) left whole short s =
-    let all : s.read ≡ bytes = all_read s.read bytes new.link.left (sym left ∙ s.reads) s.told.1 in
-    not_cut one bytes s.read s.rest messages (messages_of s.turns) whole all s.spelled s.ends.0
-    s.ends.1
-whole_session one old new bytes messages (served.Bad fault) left whole short s =
-    let told_all = told_is s.read new.link.left bytes (sym left ∙ s.reads) in
-    not_bad one bytes s.read s.rest told_all.0 messages (messages_of s.turns) fault whole told_all.2
-    s.spelled s.ends.0
-whole_session one old new bytes messages served.Spent left whole short s =
-    let told_all = told_is s.read new.link.left bytes (sym left ∙ s.reads) in
-    not_shorter s.read told_all.0 taken_limit (subst (λ b. length b < taken_limit) told_all.2 short)
-    s.ends.1
-whole_session one old new bytes messages served.Stopped left whole short s = tt
-whole_session one old new bytes messages served.ReadFault left whole short s = tt
-whole_session one old new bytes messages served.WriteFault left whole short s = tt
-whole_session one old new bytes messages served.Memory left whole short s = tt
+module _ (old : Outside) (ends : Status) (new : Outside) where
+  is_command : (command : Command) → Runs (Some command) old ends new
+      → ends ≡ status.Usage → ⊥
+  is_command (Replay admin path) (inl lacks) is = absurd (cc (sym lacks.0 ∙ is))
+  is_command (Replay admin path) (inr (inl none)) is =
+      no_store_usage none.failed (sym none.ending_is ∙ is)
+  is_command (Replay admin path) (inr (inr (inl u))) is =
+      told_usage u.why _ ends u.refuses.between u.refuses.tells is
+  is_command (Replay admin path) (inr (inr (inr r))) is =
+      served_usage r.replays.served (sym r.replays.ending_is ∙ is)
+  is_command (Compile arguments) (inl lacks) is = absurd (cc (sym lacks.0 ∙ is))
+  is_command (Compile arguments) (inr c) is = compiled_usage c.ended (sym c.ending_is ∙ is)
 
-pub whole_input : OneReading
-    → (admin : Digest) (old : Outside) (new : Told) (ending : Status) (bytes : List ℕ) (messages :
-    List Message)
-    → old.link.left ≡ Some bytes → Spelled bytes messages [] → length bytes < taken_limit → Replays
-    admin old new ending
-    → FinishesUnlessBroken ending
-whole_input one admin old new ending bytes messages left whole short r =
-    subst (λ status. FinishesUnlessBroken status) (sym r.ending_is)
-    (whole_session one _ _ bytes messages r.served left whole short r.session)
+  pub not_usage : (command : Option Command) → Runs command old ends new
+      → ends ≡ status.Usage → command ≡ None
+  not_usage None runs is = refl
+  not_usage (Some command) runs is = absurd (is_command command runs is)
+
+  pub usage_of : (command : Option Command) → Runs command old ends new
+      → command ≡ None → ends ≡ status.Usage
+  usage_of None runs is = runs.ending_is
+  usage_of (Some command) runs is = absurd (cc is)
+
+  pub to_its_end : (command : Option Command) → Runs command old ends new
+      → ReadsToItsEnd ends new.link
+  to_its_end None runs = λ is. absurd (cc (sym runs.ending_is ∙ is))
+  to_its_end (Some (Replay admin path)) (inl lacks) = λ is. absurd (cc (sym lacks.0 ∙ is))
+  to_its_end (Some (Replay admin path)) (inr (inl none)) =
+      λ is. absurd (no_store_finished none.failed (sym none.ending_is ∙ is))
+  to_its_end (Some (Replay admin path)) (inr (inr (inl u))) =
+      λ is. absurd (told_finished u.why _ ends u.refuses.between u.refuses.tells is)
+  to_its_end (Some (Replay admin path)) (inr (inr (inr r))) =
+      λ is. served_finished r.replays.served new.link r.replays.goes_on r.replays.session.told
+      (sym r.replays.ending_is ∙ is)
+  to_its_end (Some (Compile arguments)) (inl lacks) = λ is. absurd (cc (sym lacks.0 ∙ is))
+  to_its_end (Some (Compile arguments)) (inr c) =
+      λ is. compiled_finished arguments c.ended old new c.runs (sym c.ending_is ∙ is)

@@ -1,5 +1,3 @@
-pub mod Outfit
+pub mod Counted
 pub mod People
 pub mod Run
-pub mod Statuses
-pub mod Told

@@ -3,7 +3,7 @@ use Rattle.std.proofs.Common.{◌≡◌, ℕ, ◌+◌, false, List, [], ◌∷�
 use Rattle.std.proofs.Common.{subst, ◌∙◌}
 use Rattle.std.proofs.Math.Seq.{take-nil}
 use Rattle.std.specs.Prelude.{IfSome}
-use Rattle.pl_alone.specs.Desk.{Act, Parts}
+use Rattle.pl_alone.specs.Desk.{Act, Parts, past}
 use Rattle.pl_base.specs.Streams.{with_end, with_front}
 use Rattle.pl_sessions.proofs.Sessions.{append-nil}
 use Rattle.pl_sessions.proofs.Streams.{one_stream}
@@ -59,11 +59,14 @@ asked coming (turn ∷ turns) (next ∷ others) later other same (within, at, te
 -- ---- the session
 
 pub one_session : OneReading → CompilesToOne → OneStep → (old new other : Point Parts)
-    (bytes : List ℕ) (coming : ℕ → ℕ) → old.link.left ≡ Some bytes → old.coming ≡ Some coming →
-    (left : Session Act false old new Ended) → (right : Session Act false old other Ended) →
+    (also : Parts) (bytes : List ℕ) (coming : ℕ → ℕ) → old.link.left ≡ Some bytes →
+    old.coming ≡ Some coming → past also ≡ past old.desk →
+    (left : Session Act false old new Ended) →
+    (right : Session Act false (record old { desk = also }) other Ended) →
     AreReplied left.turns → AreReplied right.turns →
-    (new.link.held ≡ other.link.held) × (new.desk ≡ other.desk)
-one_session reads compiles steps old new other bytes coming there tells left right l r =
+    (new.link.held ≡ other.link.held) × (past new.desk ≡ past other.desk)
+one_session reads compiles steps old new other also bytes coming there tells same_past left right
+    l r =
     let read : left.read ≡ bytes =
     all_read left.read bytes new.link.left (sym there ∙ left.reads) left.told.1 in
     let again : right.read ≡ bytes =
@@ -79,9 +82,9 @@ one_session reads compiles steps old new other bytes coming there tells left rig
     (subst (λ (coming : Option (ℕ → ℕ)). Tells coming left.turns new.coming) tells left.tells)
     (subst (λ (coming : Option (ℕ → ℕ)). Tells coming right.turns other.coming) tells right.tells)
     in
-    let same : (left.turns ≡ right.turns) × (new.desk ≡ other.desk) =
-    one_turns compiles steps old.desk left.turns right.turns new.desk other.desk left.acts
-    right.acts alike l r in
+    let same : (left.turns ≡ right.turns) × (past new.desk ≡ past other.desk) =
+    one_turns compiles steps old.desk also left.turns right.turns new.desk other.desk same_past
+    left.acts right.acts alike l r in
     let wrote : left.wrote ≡ right.wrote = left.ends.2
     ∙ (ap (λ (turns : List Turn). joined (replies turns)) same.0 ∙ sym right.ends.2) in
     (left.writes ∙ (ap (λ bytes. with_end old.link.held bytes) wrote ∙ sym right.writes), same.1)

@@ -1,1 +1,3 @@
-pub mod Rests
+mod Fronts
+mod Rests
+mod Storing

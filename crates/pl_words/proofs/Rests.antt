@@ -1,37 +1,43 @@
 -- The arguments that words spell, an argument more.
-use Rattle.std.proofs.Common.{◌≡◌, ℕ, ◌≤◌, ◌-◌, ◌||◌, Bool, true, false, List, [], ◌∷◌, ◌++◌}
-use Rattle.std.proofs.Common.{length, map, take, drop, Option, Some, None, String, Global}
-use Rattle.std.proofs.Common.{string_bytes, slice_index_or, codes, refl, sym, ap, ◌∙◌, subst, arith}
-use Rattle.std.proofs.Common.{append_assoc, append-nil}
+use Rattle.std.proofs.Common.{◌≡◌, ℕ, ◌||◌, Bool, true, false, List, [], ◌∷◌, ◌++◌, Option, Some, None}
+use Rattle.std.proofs.Common.{refl, sym, ap, ◌∙◌, subst, append_assoc, append-nil, arith, length}
+use Rattle.std.proofs.Common.{String, Global}
 use Rattle.std.specs.Prelude.{◌==◌, nat_eq, if◌then◌else◌}
 use Rattle.std.specs.Option.{IfSome, is_some, option_and_then}
 use Rattle.std.specs.Cmp.Lexicographic.{pointwise}
 use Rattle.std.proofs.lemmas.Bool.{false≢true}
-use Rattle.std.proofs.lemmas.List.{take_rest}
 use Rattle.pl_base.specs.declared.expanded.Argument.{Argument}
-use Rattle.pl_words.specs.Words.{apart, arguments_of, before, is_named, is_word}
+use Rattle.pl_words.specs.Options.{Given, and_more}
+use Rattle.pl_words.specs.Words.{argument_given, arguments_given, arguments_of, before, is_named}
+use Rattle.pl_words.proofs.Fronts.{bytes_of}
 
-abbrev pub bytes_of : List (String Global) → List (List ℕ)
-bytes_of words = map (λ word. string_bytes word) words
+-- the first option gives an argument
+pub led :
+    (one : Given) (argument : Argument) (rest behind : Option (List Given)) →
+    rest ≡ and_more one behind → argument_given one ≡ Some argument →
+    option_and_then arguments_given rest
+    ≡ option_and_then (before argument) (option_and_then arguments_given behind)
+led one argument rest None is gives = ap (option_and_then arguments_given) is
+led one argument rest (Some others) is gives =
+    ap (option_and_then arguments_given) is
+    ∙ ap (option_and_then (λ argument. option_and_then (before argument)
+    (arguments_given others))) gives
 
--- a name and a value in words of their own
-pub two_first :
-    (words : List (String Global)) (name value : String Global) (argument : Argument) →
-    2 ≤ length words → name ≡ slice_index_or words 0 name → value ≡ slice_index_or words 1 value →
-    is_word (string_bytes name) (codes "--param") ≡ true →
-    apart (string_bytes value) ≡ Some argument →
-    arguments_of (bytes_of words)
-    ≡ option_and_then (before argument)
-    (arguments_of (bytes_of (take (length words - 2) (drop 2 words))))
-two_first [] name value argument two is_name is_value word spelled = absurd (omega (arith, two))
-two_first (x ∷ []) name value argument two is_name is_value word spelled =
-    absurd (omega (arith, two))
-two_first (x ∷ y ∷ words) name value argument two is_name is_value word spelled =
-    let is_first : is_word (string_bytes x) (codes "--param") ≡ true =
-    subst (λ n. is_word (string_bytes n) (codes "--param") ≡ true) is_name word in
-    let is_second : apart (string_bytes y) ≡ Some argument =
-    subst (λ v. apart (string_bytes v) ≡ Some argument) is_value spelled in
-    rw (take_rest (x ∷ y ∷ words) 2, is_first, is_second)
+-- it gives none
+pub strayed :
+    (one : Given) (rest behind : Option (List Given)) → rest ≡ and_more one behind →
+    argument_given one ≡ None → option_and_then arguments_given rest ≡ None
+strayed one rest None is gives = ap (option_and_then arguments_given) is
+strayed one rest (Some others) is gives =
+    ap (option_and_then arguments_given) is
+    ∙ ap (option_and_then (λ argument. option_and_then (before argument)
+    (arguments_given others))) gives
+
+pub nothing :
+    (words : List (String Global)) → (length words == 0) ≡ true →
+    arguments_of (bytes_of words) ≡ Some []
+nothing [] none = refl
+nothing (word ∷ words) none = absurd (grind (arith, none))
 
 -- an argument's front is itself and others
 pub parted :
@@ -51,29 +57,23 @@ parted argument (Some others) arguments is =
       | false ↦ λ fresh is. (others, refl, fresh, cc)
     ] refl is
 
-pub nothing :
-    (words : List (String Global)) → (length words == 0) ≡ true →
-    arguments_of (bytes_of words) ≡ Some []
-nothing [] none = refl
-nothing (word ∷ words) none = absurd (grind (arith, none))
-
-abbrev pub Spelled : Type 0
-Spelled = Option (List Argument)
+abbrev pub Found : Type 0
+Found = Option (List Argument)
 
 -- ---- a name among the arguments
 
 -- Some arguments have a name as those of a rest do.
-abbrev pub Keeps : List ℕ → Spelled → Spelled → Type 0
+abbrev pub Keeps : List ℕ → Found → Found → Type 0
 Keeps name all rest =
     (arguments : List Argument) → all ≡ Some arguments →
     (others : List Argument)
     × (rest ≡ Some others) × (is_named name arguments ≡ is_named name others)
 
-abbrev pub Judges : List ℕ → Spelled → Bool → Type 0
+abbrev pub Judges : List ℕ → Found → Bool → Type 0
 Judges name all answer = IfSome all (λ arguments. answer ≡ is_named name arguments)
 
 pub at_none :
-    (name : List ℕ) (all rest : Spelled) (answer : Bool) → Keeps name all rest → rest ≡ None →
+    (name : List ℕ) (all rest : Found) (answer : Bool) → Keeps name all rest → rest ≡ None →
     Judges name all answer
 at_none name None rest answer keeps is = tt
 at_none name (Some arguments) rest answer keeps is =
@@ -87,7 +87,7 @@ none_named name others is = go others (cc)
     go others is = subst (λ others. false ≡ is_named name others) is refl
 
 pub at_end :
-    (name : List ℕ) (all rest : Spelled) → Keeps name all rest → rest ≡ Some [] →
+    (name : List ℕ) (all rest : Found) → Keeps name all rest → rest ≡ Some [] →
     Judges name all false
 at_end name None rest keeps is = tt
 at_end name (Some arguments) rest keeps is =
@@ -95,7 +95,7 @@ at_end name (Some arguments) rest keeps is =
     none_named name kept.0 (sym is ∙ kept.1) ∙ sym kept.2
 
 pub at_named :
-    (name : List ℕ) (argument : Argument) (all rest behind : Spelled) → Keeps name all rest →
+    (name : List ℕ) (argument : Argument) (all rest behind : Found) → Keeps name all rest →
     rest ≡ option_and_then (before argument) behind →
     pointwise nat_eq argument.name name ≡ true → Judges name all true
 at_named name argument None rest behind keeps is same = tt
@@ -106,7 +106,7 @@ at_named name argument (Some arguments) rest behind keeps is same =
     ∙ (ap (is_named name) parts.3 ∙ ap (λ first. first || is_named name parts.0) same))
 
 pub past :
-    (name : List ℕ) (argument : Argument) (all rest behind : Spelled) → Keeps name all rest →
+    (name : List ℕ) (argument : Argument) (all rest behind : Found) → Keeps name all rest →
     rest ≡ option_and_then (before argument) behind →
     pointwise nat_eq argument.name name ≡ false → Keeps name all behind
 past name argument all rest behind keeps is other arguments all_is =
@@ -120,7 +120,7 @@ past name argument all rest behind keeps is other arguments all_is =
 -- ---- whether words are arguments
 
 pub again :
-    (argument : Argument) (rest behind : Spelled) →
+    (argument : Argument) (rest behind : Found) →
     rest ≡ option_and_then (before argument) behind → Judges argument.name behind true →
     false ≡ is_some rest
 again argument rest None is named = sym (ap is_some is)
@@ -129,7 +129,7 @@ again argument rest (Some others) is named =
     ∙ ap (λ named. is_some (if named then None else Some (argument ∷ others))) (sym named))
 
 pub once :
-    (argument : Argument) (rest behind : Spelled) →
+    (argument : Argument) (rest behind : Found) →
     rest ≡ option_and_then (before argument) behind → Judges argument.name behind false →
     is_some rest ≡ is_some behind
 once argument rest None is named = ap is_some is
@@ -140,16 +140,16 @@ once argument rest (Some others) is named =
 -- ---- arguments that are gathered
 
 -- The words' arguments are those that were gathered, and those of a rest.
-abbrev pub Gathers : Spelled → List Argument → Spelled → Type 0
+abbrev pub Gathers : Found → List Argument → Found → Type 0
 Gathers all gathered rest =
     (others : List Argument) × (rest ≡ Some others) × (all ≡ Some (gathered ++ others))
 
-pub none_yet : (all : Spelled) → is_some all ≡ true → Gathers all [] all
+pub none_yet : (all : Found) → is_some all ≡ true → Gathers all [] all
 none_yet None some = absurd (false≢true some)
 none_yet (Some arguments) some = (arguments, refl, refl)
 
 pub one_more :
-    (argument : Argument) (all : Spelled) (gathered : List Argument) (rest behind : Spelled) →
+    (argument : Argument) (all : Found) (gathered : List Argument) (rest behind : Found) →
     Gathers all gathered rest → rest ≡ option_and_then (before argument) behind →
     Gathers all (gathered ++ argument ∷ []) behind
 one_more argument all gathered rest behind gathers is =
@@ -162,7 +162,7 @@ one_more argument all gathered rest behind gathers is =
     )
 
 pub all_of :
-    (all : Spelled) (gathered : List Argument) (rest : Spelled) → Gathers all gathered rest →
+    (all : Found) (gathered : List Argument) (rest : Found) → Gathers all gathered rest →
     rest ≡ Some [] → all ≡ Some gathered
 all_of all gathered rest gathers is =
     let others : gathers.0 ≡ [] = sym (some_is (sym is ∙ gathers.1)) in
@@ -173,6 +173,6 @@ all_of all gathered rest gathers is =
     some_is is = cc
 
 pub never_none :
-    (all : Spelled) (gathered : List Argument) (rest : Spelled) → Gathers all gathered rest →
+    (all : Found) (gathered : List Argument) (rest : Found) → Gathers all gathered rest →
     rest ≡ None → ⊥
 never_none all gathered rest gathers is = false≢true (ap is_some (sym is ∙ gathers.1))

@@ -1,11 +1,12 @@
-use pl_base::{Argument, Digest, List};
+use pl_base::{Argument, Digest, List, Text};
 
 /// What the words of the command line ask for.
 #[derive(Debug, Drop)]
 pub enum Command {
-    /// `replay --admin HEX`: answer the messages of the standard input, as a service whose admin's
-    /// token has this SHA-256 digest.
-    Replay { admin: Digest },
+    /// `replay --admin HEX`, and `--store PATH` or not: answer the messages of the standard input,
+    /// as a service whose admin's token has this SHA-256 digest, and whose rows are kept in the
+    /// store at this path, or in memory.
+    Replay { admin: Digest, store: Option<Text> },
     /// `compile`, each argument being a `--param NAME=TEXT`: compile the bundle of the standard
     /// input, as a run with these arguments.
     Compile { arguments: List<Argument> },

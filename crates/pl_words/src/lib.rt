@@ -3,6 +3,7 @@
 
 mod command;
 mod digest;
+mod options;
 mod parameters;
 mod words;
 

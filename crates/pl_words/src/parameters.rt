@@ -2,9 +2,10 @@
 
 ghost use Rattle.std.specs.Prelude.{◌≡◌, ◌<◌, length, map, string_bytes, IfOk};
 ghost use Rattle.std.specs.Option.{IfSome, IsSome, is_some, option_map};
-ghost use Rattle.pl_words.specs.Parameters.{argument_in, first_in};
-ghost use Rattle.pl_words.specs.Words.{apart, argument_of, arguments_of, is_named, joined};
+ghost use Rattle.pl_words.specs.Parameters.{argument_in, first_in, given};
+ghost use Rattle.pl_words.specs.Words.{argument_given, argument_of, arguments_of, is_named};
 
+use crate::options::{Spelled, first};
 use pl_base::{Argument, List, Memory, Text};
 use std::alloc::Global;
 
@@ -17,7 +18,7 @@ struct Parameter<'a> {
 
 /// An argument, and the words behind it.
 #[derive(Clone, Copy)]
-struct Front<'a> {
+struct Lead<'a> {
     parameter: Parameter<'a>,
     behind: &'a [String],
 }
@@ -32,45 +33,28 @@ fn argument_of(value: &str) -> Option<Parameter<'_>>
     }
 }
 
-/// The value of `--param` in a word of its own.
-fn apart(value: &str) -> Option<Parameter<'_>>
-    ensures { apart value.entry.now ≡ option_map argument_in result }
+/// The argument that an option gives.
+fn argument_given(option: Spelled<'_>) -> Option<Parameter<'_>>
+    ensures { argument_given (given option.entry) ≡ option_map argument_in result }
 {
-    if value.starts_with('-') {
-        None
+    if option.name == "--param" {
+        argument_of(option.value)
     } else {
-        argument_of(value)
-    }
-}
-
-/// `--param` and its value in one word.
-fn joined(word: &str) -> Option<Parameter<'_>>
-    ensures { joined word.entry.now ≡ option_map argument_in result }
-{
-    match word.strip_prefix("--param=") {
-        Some(value) => argument_of(value),
-        None => None,
+        None
     }
 }
 
 /// The argument that words begin with.
-fn first(words: &[String]) -> Option<Front<'_>>
+fn first_argument(words: &[String]) -> Option<Lead<'_>>
     requires { 0 < length words.now }
-    ensures front { arguments_of (map (λ word. string_bytes word) words.entry.now) ≡
+    ensures lead { arguments_of (map (λ word. string_bytes word) words.entry.now) ≡
         first_in result }
-    ensures fewer { IfSome result (λ front. length front.behind.now < length words.now) }
+    ensures fewer { IfSome result (λ lead. length lead.behind.now < length words.now) }
 {
-    match words {
-        [name, value, behind @ ..] if name.as_str() == "--param" => {
-            let parameter = apart(value.as_str())?;
-            Some(Front { parameter, behind })
-        }
-        [word, behind @ ..] => {
-            let parameter = joined(word.as_str())?;
-            Some(Front { parameter, behind })
-        }
-        [] => None,
-    }
+    let front = first(words)?;
+    let parameter = argument_given(front.option)?;
+    let behind = front.behind;
+    Some(Lead { parameter, behind })
 }
 
 /// Whether an argument of this name is among those that the words spell.
@@ -80,13 +64,13 @@ fn is_named(name: &str, words: &[String]) -> bool
 {
     let mut rest = words;
     while !rest.is_empty() {
-        let Some(front) = first(rest) else {
+        let Some(lead) = first_argument(rest) else {
             return false;
         };
-        if front.parameter.name == name {
+        if lead.parameter.name == name {
             return true;
         }
-        rest = front.behind;
+        rest = lead.behind;
     }
     false
 }
@@ -97,13 +81,13 @@ pub(crate) fn are_parameters(words: &[String]) -> bool
 {
     let mut rest = words;
     while !rest.is_empty() {
-        let Some(front) = first(rest) else {
+        let Some(lead) = first_argument(rest) else {
             return false;
         };
-        if is_named(front.parameter.name, front.behind) {
+        if is_named(lead.parameter.name, lead.behind) {
             return false;
         }
-        rest = front.behind;
+        rest = lead.behind;
     }
     true
 }
@@ -126,11 +110,11 @@ pub(crate) fn arguments(alloc: Global, words: &[String]) -> Result<List<Argument
     let mut arguments = List::new(alloc);
     let mut rest = words;
     while !rest.is_empty() {
-        let Some(front) = first(rest) else {
+        let Some(lead) = first_argument(rest) else {
             break;
         };
-        arguments.push(copied(alloc, front.parameter)?)?;
-        rest = front.behind;
+        arguments.push(copied(alloc, lead.parameter)?)?;
+        rest = lead.behind;
     }
     Ok(arguments)
 }

@@ -1,43 +1,79 @@
 //! The command that the words are.
 
-ghost use Rattle.std.specs.Prelude.{◌≡◌, map, string_bytes, IfOk, OnErr};
-ghost use Rattle.std.specs.Option.{IsSome, option_map};
-ghost use Rattle.pl_words.specs.Words.{IsCompile, admin_of, arguments_of, command_of};
-ghost use Rattle.pl_words.specs.declared.command.Command.TheVariants.{Compile, Replay};
+ghost use Rattle.std.specs.Prelude.{◌≡◌, Some, map, string_bytes, IfOk, OnErr};
+ghost use Rattle.std.specs.Option.{IfSome, IsSome, option_and_then, option_map};
+ghost use Rattle.pl_words.specs.Options.{options_of};
+ghost use Rattle.pl_words.specs.Words.{TakesMemory, admin_of, arguments_of, command_of, replay_of};
+ghost use Rattle.pl_words.specs.Words.{store_of};
+ghost use Rattle.pl_words.specs.declared.command.Command.TheVariants.{Compile};
 
 use crate::command::Command;
-use crate::digest::admin;
+use crate::digest::digest;
+use crate::options::{are_once, value_of};
 use crate::parameters::{are_parameters, arguments};
-use pl_base::Memory;
+use pl_base::{Digest, Memory, Text};
 use std::alloc::Global;
 
 /// The command that the words are, if they are one.
 ///
-/// `replay` and the option `--admin`; or `compile` and, as often as wanted, the option `--param`,
-/// each time with another name. An option's value is the next word, which doesn't begin with `-`,
-/// or stands behind `=`. The value of `--param` is cut at its first `=`, and what stands before it
-/// is the name, which isn't empty. Memory where memory is wanting for the arguments of `compile`.
+/// `replay` and the option `--admin`, which may have the option `--store` besides; or `compile`
+/// and, as often as wanted, the option `--param`, each time with another name. Options stand in any
+/// order, each once but `--param`. An option's value is the next word, which doesn't begin with
+/// `-`, or stands behind `=`. The value of `--param` is cut at its first `=`, and what stands
+/// before it is the name, which isn't empty. Memory where memory is wanting for the arguments of
+/// `compile`, or the path of a store.
 pub fn parse(alloc: Global, words: &[String]) -> Result<Option<Command>, Memory>
     ensures command { IfOk result
         (λ command. command ≡ command_of (map (λ word. string_bytes word) words.now)) }
-    ensures compile { OnErr result
-        (IsCompile (command_of (map (λ word. string_bytes word) words.now))) }
+    ensures memory { OnErr result
+        (TakesMemory (command_of (map (λ word. string_bytes word) words.now))) }
 {
     match words {
-        [name, options @ ..] if name.as_str() == "replay" => Ok(replay(options)),
+        [name, options @ ..] if name.as_str() == "replay" => replay(alloc, options),
         [name, options @ ..] if name.as_str() == "compile" => compile(alloc, options),
         _ => Ok(None),
     }
 }
 
 /// The command `replay` with these options.
-fn replay(options: &[String]) -> Option<Command>
-    ensures { result ≡ option_map (λ admin. Replay admin)
-        (admin_of (map (λ word. string_bytes word) options.now)) }
+fn replay(alloc: Global, words: &[String]) -> Result<Option<Command>, Memory>
+    ensures command { IfOk result (λ command. command ≡
+        option_and_then replay_of (options_of (map (λ word. string_bytes word) words.now))) }
+    ensures memory { OnErr result (TakesMemory
+        (option_and_then replay_of (options_of (map (λ word. string_bytes word) words.now)))) }
 {
-    match admin(options) {
-        Some(admin) => Some(Command::Replay { admin }),
-        None => None,
+    if !are_once(&["--admin", "--store"], words) {
+        return Ok(None);
+    }
+    match admin(words) {
+        Some(admin) => {
+            let store = store(alloc, words)?;
+            Ok(Some(Command::Replay { admin, store }))
+        }
+        None => Ok(None),
+    }
+}
+
+/// The digest that the option `--admin` gives.
+fn admin(words: &[String]) -> Option<Digest>
+    ensures { IfSome (options_of (map (λ word. string_bytes word) words.now))
+        (λ options. result ≡ admin_of options) }
+{
+    digest(value_of("--admin", words)?.as_bytes())
+}
+
+/// The path that the option `--store` gives, if it is given.
+fn store(alloc: Global, words: &[String]) -> Result<Option<Text>, Memory>
+    ensures path { IfOk result (λ store.
+        IfSome (options_of (map (λ word. string_bytes word) words.now))
+        (λ options. store ≡ store_of options)) }
+    ensures given { OnErr result
+        (IfSome (options_of (map (λ word. string_bytes word) words.now))
+        (λ options. IsSome (store_of options))) }
+{
+    match value_of("--store", words) {
+        Some(path) => Ok(Some(Text::from_str(alloc, path)?)),
+        None => Ok(None),
     }
 }
 

@@ -1,7 +1,7 @@
 use Rattle.std.proofs.Common.{◌≡◌, length}
 use Rattle.std.specs.Option.{is_some}
 use Rattle.pl_words.specs.Words.{arguments_of}
-use Rattle.pl_words.proofs.Rests.{bytes_of}
+use Rattle.pl_words.proofs.Fronts.{bytes_of}
 use Rattle.pl_words.proofs.parameters.are_parameters.Given as goal
 
 abbrev pub invariant-loop-rest : goal.invariant-loop-rest

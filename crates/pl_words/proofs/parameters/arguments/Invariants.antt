@@ -1,6 +1,7 @@
 use Rattle.std.proofs.Common.{length}
+use Rattle.pl_words.proofs.Fronts.{bytes_of}
 use Rattle.pl_words.specs.Words.{arguments_of}
-use Rattle.pl_words.proofs.Rests.{Gathers, bytes_of}
+use Rattle.pl_words.proofs.Rests.{Gathers}
 use Rattle.pl_words.proofs.parameters.arguments.Given as goal
 
 abbrev pub invariant-loop-rest : goal.invariant-loop-rest

@@ -1,6 +1,7 @@
 use Rattle.std.proofs.Common.{length}
+use Rattle.pl_words.proofs.Fronts.{bytes_of}
 use Rattle.pl_words.specs.Words.{arguments_of}
-use Rattle.pl_words.proofs.Rests.{Keeps, bytes_of}
+use Rattle.pl_words.proofs.Rests.{Keeps}
 use Rattle.pl_words.proofs.parameters.is_named.Given as goal
 
 abbrev pub invariant-loop-name : goal.invariant-loop-name

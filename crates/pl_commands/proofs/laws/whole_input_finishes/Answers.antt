@@ -1,5 +1,0 @@
-use Rattle.pl_commands.proofs.Whole.{whole_input}
-use Rattle.pl_commands.proofs.laws.whole_input_finishes.Goals as goal
-
-pub returns : goal.returns
-returns c = whole_input c.one_reading.ensures

@@ -1,0 +1,3 @@
+mod Anew
+mod Sessions
+mod Whole
