@@ -1,0 +1,3 @@
+pub mod Growing
+pub mod Sending
+pub mod Standing

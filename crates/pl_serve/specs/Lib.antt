@@ -1,0 +1,4 @@
+pub mod Below
+pub mod History
+pub mod Posts
+pub mod Seats

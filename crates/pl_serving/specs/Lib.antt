@@ -1,0 +1,4 @@
+pub mod Below
+pub mod Doors
+pub mod Serving
+pub mod Statuses
