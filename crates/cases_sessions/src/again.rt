@@ -7,9 +7,12 @@ use pl_base::{List, Memory, Row};
 use pl_commands::run;
 use pl_keeper::Keeper;
 use std::alloc::Global;
+use std::sync::Wait;
+use std::thread::Threads;
 
 /// Answers one message over rows: the status, and the rows that the store has then.
-fn answer_one(
+fn answer_one<R: Threads + Wait + Sync>(
+    rt: &R,
     alloc: Global,
     message: &[u8],
     moments: Moments,
@@ -18,7 +21,7 @@ fn answer_one(
 ) -> Result<(u8, List<Row>), Memory> {
     let mut outside = outside_of(alloc, message, moments, rows)?;
     let words = words(alloc, &["--store", "rows"])?;
-    let code = run(alloc, words.as_slice(), &mut outside).code();
+    let code = run(rt, alloc, words.as_slice(), &mut outside).code();
     written.extend_from_slice(outside.ends.sink.bytes())?;
     match outside.back.take() {
         Some(mut store) => match store.rows(alloc) {
@@ -31,7 +34,8 @@ fn answer_one(
 
 /// Whether the messages of a session are answered with these bytes and end with this status, where
 /// the service is closed and opened again behind each of them.
-pub fn answered_again(
+pub fn answered_again<R: Threads + Wait + Sync>(
+    rt: &R,
     alloc: Global,
     session: &Session,
     code: u8,
@@ -45,7 +49,7 @@ pub fn answered_again(
         let end = (*end).min(session.input.len());
         let message = session.input.as_slice().get(begin..end).unwrap_or(&[]);
         let moments = session.moments.at(alloc, at)?;
-        let (told, behind) = answer_one(alloc, message, moments, rows, &mut written)?;
+        let (told, behind) = answer_one(rt, alloc, message, moments, rows, &mut written)?;
         last = told;
         rows = behind;
         begin = end;

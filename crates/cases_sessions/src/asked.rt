@@ -6,12 +6,16 @@ use pl_base::{List, Memory};
 use pl_cases::{Answers, Questions};
 use pl_commands::run;
 use std::alloc::Global;
+use std::sync::Wait;
+use std::thread::Threads;
 
 /// Questions on sessions.
 #[derive(Drop)]
-pub struct Sessions;
+pub struct Sessions<'r, R> {
+    pub threads: &'r R,
+}
 
-impl Questions for Sessions {
+impl<R: Threads + Wait + Sync> Questions for Sessions<'_, R> {
     fn answer(
         &mut self,
         alloc: Global,
@@ -21,7 +25,7 @@ impl Questions for Sessions {
         case: &str,
     ) {
         match question {
-            "replies" => answer_case(alloc, out, case),
+            "replies" => answer_case(self.threads, alloc, out, case),
             _ => out.line("%%% not read: ", question),
         }
     }
@@ -62,24 +66,29 @@ fn session_of(alloc: Global, case: &str) -> Result<Session, Memory> {
 
 /// Writes what the messages of a case are answered, and the status at their end; and whether that
 /// is otherwise where the service is closed and opened again behind each message.
-fn answer_case(alloc: Global, out: &mut Answers, case: &str) {
-    if answer_session(alloc, out, case).is_err() {
+fn answer_case<R: Threads + Wait + Sync>(rt: &R, alloc: Global, out: &mut Answers, case: &str) {
+    if answer_session(rt, alloc, out, case).is_err() {
         out.fail()
     }
 }
 
-fn answer_session(alloc: Global, out: &mut Answers, case: &str) -> Result<(), Memory> {
+fn answer_session<R: Threads + Wait + Sync>(
+    rt: &R,
+    alloc: Global,
+    out: &mut Answers,
+    case: &str,
+) -> Result<(), Memory> {
     let session = session_of(alloc, case)?;
     let moments = session.moments.again(alloc)?;
     let mut outside = outside_of(alloc, session.input.as_slice(), moments, List::new(alloc))?;
     let words = words(alloc, &[])?;
-    let code = run(alloc, words.as_slice(), &mut outside).code();
+    let code = run(rt, alloc, words.as_slice(), &mut outside).code();
     let written = outside.ends.sink.bytes();
     push_replies(alloc, out, written);
     out.push("status ");
     out.number(alloc, u64::from(code));
     out.push("\n");
-    if !answered_again(alloc, &session, code, written)? {
+    if !answered_again(rt, alloc, &session, code, written)? {
         out.push("otherwise when it is opened again behind each message\n");
     }
     Ok(())

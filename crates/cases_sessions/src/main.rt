@@ -16,7 +16,7 @@ use std::io;
 fn main(rt: HostRuntime) -> io::Result<()> {
     let cases = io::read_to_string(rt.alloc(), rt.reader())?;
     let mut out = Answers::new(rt.alloc());
-    let mut sessions = Sessions;
+    let mut sessions = Sessions { threads: &rt };
     answer_all(rt.alloc(), &mut out, &mut sessions, cases.as_str());
     match out.text() {
         Ok(text) => print!(rt; "{text}"),

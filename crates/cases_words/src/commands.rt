@@ -54,12 +54,23 @@ fn write_store(out: &mut Text, store: &Option<Text>) -> Result<(), Memory> {
     out.push_str("\n")
 }
 
-/// Writes the command that the words of a line are, with its store, or `none`.
+/// Writes the command that the words of a line are, with its address and its store, or `none`.
 pub fn answer_command(alloc: Global, out: &mut Text, line: &str) -> Result<(), Memory> {
     let words = words_of(alloc, line)?;
     match parse(alloc, &words)? {
         Some(Command::Replay { admin: _, store }) => {
             out.push_str("replay")?;
+            write_store(out, &store)
+        }
+        Some(
+            Command::Serve {
+                admin: _,
+                address,
+                store,
+            },
+        ) => {
+            out.push_str("serve at:")?;
+            out.push_str(address.as_str())?;
             write_store(out, &store)
         }
         Some(Command::Compile { arguments: _ }) => write_line(out, "compile", ""),

@@ -22,5 +22,5 @@ fn main(rt: HostRuntime) -> ExitCode {
         Err(_) => return Status::Memory.exit_code(),
     }
     let mut process = Process::new(rt, rt.stdin(), rt.stdout(), rt.stderr());
-    run(rt.alloc(), &words, &mut process).exit_code()
+    run(&rt, rt.alloc(), &words, &mut process).exit_code()
 }

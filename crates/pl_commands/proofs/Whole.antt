@@ -4,6 +4,9 @@ use Rattle.std.proofs.Common.{inl, inr, refl}
 use Rattle.pl_base.specs.declared.expanded.Argument.{Argument}
 use Rattle.pl_commands.specs.Run.{ReadsToItsEnd, Runs, compile_status, inflow_of}
 use Rattle.pl_commands.specs.Run.{outflow_of}
+use Rattle.pl_listener.specs.Handles.{Handle}
+use Rattle.pl_listener.specs.declared.fault.ListenFault.{ListenFault}
+use Rattle.pl_listener.specs.declared.fault.ListenFault.TheVariants as listen
 use Rattle.pl_offline.specs.Running.{Runs as RunsOffline}
 use Rattle.pl_offline.specs.declared.ending.Ending.{Ending}
 use Rattle.pl_offline.specs.declared.ending.Ending.TheVariants as ending
@@ -13,14 +16,17 @@ use Rattle.pl_outfit.specs.declared.status.Status.TheVariants as status
 use Rattle.pl_replaying.specs.Replaying.{status_of}
 use Rattle.pl_replaying.specs.Below.pl_service.specs.declared.fault.OpenFault.{OpenFault}
 use Rattle.pl_replaying.specs.Below.pl_service.specs.declared.fault.OpenFault.TheVariants as fault
+use Rattle.pl_serving.specs.Serving.{ServesHall}
+use Rattle.pl_serving.specs.Statuses.{end_status, fault_status}
 use Rattle.pl_sessions.specs.Session.{EndsTold}
 use Rattle.pl_sessions.specs.Told.{IsAtEnd, Told}
 use Rattle.pl_sessions.specs.declared.served.Served.{Served}
 use Rattle.pl_sessions.specs.declared.served.Served.TheVariants as served
-use Rattle.pl_replaying.specs.Below.pl_unopened.specs.Unopened.{Tells, WritesLine, no_store_status}
-use Rattle.pl_replaying.specs.Below.pl_unopened.specs.Unopened.{torn_line}
+use Rattle.pl_replaying.specs.Below.pl_unopened.specs.Unopened.{Tells, WritesLine, no_store_status, torn_line, with_store}
 use Rattle.pl_words.specs.declared.command.Command.{Command}
-use Rattle.pl_words.specs.declared.command.Command.TheVariants.{Compile, Replay}
+use Rattle.pl_words.specs.declared.command.Command.TheVariants.{Compile, Replay, Serve}
+use Rattle.pl_worker.specs.declared.why.End.{End}
+use Rattle.pl_worker.specs.declared.why.End.TheVariants as the_end
 
 -- ---- statuses of one part, which are neither that of words that are no command nor, but where a
 -- ---- source was read to its end or a link stopped, that of a run that finished
@@ -68,6 +74,15 @@ served_finished served.ReadFault link goes_on told is = absurd (cc is)
 served_finished served.WriteFault link goes_on told is = absurd (cc is)
 served_finished served.Memory link goes_on told is = absurd (cc is)
 
+fault_usage : (why : ListenFault) → fault_status why ≡ status.Usage → ⊥
+fault_usage listen.Failed is = absurd (cc is)
+fault_usage listen.Memory is = absurd (cc is)
+
+end_usage : (end : End) → end_status end ≡ status.Usage → ⊥
+end_usage the_end.Stopped is = absurd (cc is)
+end_usage the_end.Failed is = absurd (cc is)
+end_usage the_end.Memory is = absurd (cc is)
+
 compiled_usage : (so : Ending) → compile_status so ≡ status.Usage → ⊥
 compiled_usage ending.Compiled is = absurd (cc is)
 compiled_usage ending.Refused is = absurd (cc is)
@@ -91,8 +106,9 @@ compiled_finished arguments (ending.Memory passed) old new runs is = absurd (cc 
 
 -- ---- a run
 
-module _ (old : Outside) (ends : Status) (new : Outside) where
-  is_command : (command : Command) → Runs (Some command) old ends new
+module _ {L C : Type 0} (coming : C → Option (ℕ → ℕ)) (tells : L → Handle) (old : Outside)
+    (ends : Status) (new : Outside) where
+  is_command : (command : Command) → Runs coming tells (Some command) old ends new
       → ends ≡ status.Usage → ⊥
   is_command (Replay admin path) (inl lacks) is = absurd (cc (sym lacks.0 ∙ is))
   is_command (Replay admin path) (inr (inl none)) is =
@@ -101,22 +117,33 @@ module _ (old : Outside) (ends : Status) (new : Outside) where
       told_usage u.why _ ends u.refuses.between u.refuses.tells is
   is_command (Replay admin path) (inr (inr (inr r))) is =
       served_usage r.replays.served (sym r.replays.ending_is ∙ is)
+  is_command (Serve admin address path) (inl lacks) is = absurd (cc (sym lacks.0 ∙ is))
+  is_command (Serve admin address path) (inr (inl none)) is =
+      no_store_usage none.failed (sym none.ending_is ∙ is)
+  is_command (Serve admin address path) (inr (inr (inl u))) is =
+      told_usage u.why _ ends u.refuses.between u.refuses.tells is
+  is_command (Serve admin address path) (inr (inr (inr s))) is = go s.serves
+    where
+      go : ServesHall coming tells s.opening address (with_store path old) ends new → ⊥
+      go (inl nobody) = fault_usage nobody.why (sym nobody.ending_is ∙ is)
+      go (inr links) = end_usage links.serves.end (sym links.serves.ending_is ∙ is)
   is_command (Compile arguments) (inl lacks) is = absurd (cc (sym lacks.0 ∙ is))
   is_command (Compile arguments) (inr c) is = compiled_usage c.ended (sym c.ending_is ∙ is)
 
-  pub not_usage : (command : Option Command) → Runs command old ends new
+  pub not_usage : (command : Option Command) → Runs coming tells command old ends new
       → ends ≡ status.Usage → command ≡ None
   not_usage None runs is = refl
   not_usage (Some command) runs is = absurd (is_command command runs is)
 
-  pub usage_of : (command : Option Command) → Runs command old ends new
+  pub usage_of : (command : Option Command) → Runs coming tells command old ends new
       → command ≡ None → ends ≡ status.Usage
   usage_of None runs is = runs.ending_is
   usage_of (Some command) runs is = absurd (cc is)
 
-  pub to_its_end : (command : Option Command) → Runs command old ends new
-      → ReadsToItsEnd ends new.link
+  pub to_its_end : (command : Option Command) → Runs coming tells command old ends new
+      → ReadsToItsEnd command ends new.link
   to_its_end None runs = λ is. absurd (cc (sym runs.ending_is ∙ is))
+  to_its_end (Some (Serve admin address path)) runs = tt
   to_its_end (Some (Replay admin path)) (inl lacks) = λ is. absurd (cc (sym lacks.0 ∙ is))
   to_its_end (Some (Replay admin path)) (inr (inl none)) =
       λ is. absurd (no_store_finished none.failed (sym none.ending_is ∙ is))

@@ -1,8 +1,13 @@
 -- Which counts of faults a run raised.
-use Rattle.std.specs.Prelude.{◌≡◌, ◌⊎◌, ℕ}
+use Rattle.std.specs.Prelude.{◌≡◌, ◌⊎◌, ℕ, zero, suc}
 use Rattle.pl_base.specs.Counts.{one_more}
 use Rattle.pl_outfit.specs.declared.status.Status.{Status}
 use Rattle.pl_outfit.specs.declared.status.Status.TheVariants as status
+
+-- a count after so many more
+abbrev pub more : ℕ → ℕ → ℕ
+more zero count = count
+more (suc times) count = one_more (more times count)
 
 -- a status names a fault of the source or the sink exactly where that count rose
 abbrev pub ReadsCounted : Status → ℕ → ℕ → Type 0
@@ -19,3 +24,8 @@ WritesCounted other old new = new ≡ old
 abbrev pub StoresCounted : Status → ℕ → ℕ → Type 0
 StoresCounted status.KeeperFault old new = new ≡ one_more old
 StoresCounted other old new = (new ≡ old) ⊎ (new ≡ one_more old)
+
+-- a status names a fault of a door only where that count rose
+abbrev pub DoorsCounted : Status → ℕ → ℕ → Type 0
+DoorsCounted status.ListenerFault old new = (times : ℕ) × (new ≡ one_more (more times old))
+DoorsCounted other old new = (times : ℕ) × (new ≡ more times old)

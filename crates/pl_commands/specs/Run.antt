@@ -3,6 +3,7 @@ use Rattle.std.specs.Prelude.{◌≡◌, ◌⊎◌, ℕ, List, Option, Some, Non
 use Rattle.pl_base.specs.Counts.{one_more}
 use Rattle.pl_base.specs.declared.expanded.Argument.{Argument}
 use Rattle.pl_commands.specs.People.{told_of}
+use Rattle.pl_listener.specs.Handles.{Handle}
 use Rattle.pl_offline.specs.Running.{Runs as RunsOffline}
 use Rattle.pl_offline.specs.declared.ending.Ending.{Ending}
 use Rattle.pl_offline.specs.declared.ending.Ending.TheVariants as ending
@@ -10,10 +11,11 @@ use Rattle.pl_outfit.specs.Outside.{Outside}
 use Rattle.pl_outfit.specs.declared.status.Status.{Status}
 use Rattle.pl_outfit.specs.declared.status.Status.TheVariants as status
 use Rattle.pl_replaying.specs.Replaying.{Replays}
+use Rattle.pl_serving.specs.Serving.{Serves}
 use Rattle.pl_sessions.specs.Told.{Told, Writes, Begun, IsAtEnd}
 use Rattle.pl_streams.specs.Whole.{Inflow, Outflow}
 use Rattle.pl_words.specs.declared.command.Command.{Command}
-use Rattle.pl_words.specs.declared.command.Command.TheVariants.{Compile, Replay}
+use Rattle.pl_words.specs.declared.command.Command.TheVariants.{Compile, Replay, Serve}
 
 -- ---- words that are no command
 
@@ -65,13 +67,17 @@ pub record Compiles (arguments : List Argument) (old : Outside) (ends : Status) 
 abbrev pub LacksMemory : Outside → Status → Outside → Type 0
 LacksMemory old ends new = (ends ≡ status.Memory) × (new ≡ old)
 
-abbrev pub Runs : Option Command → Outside → Status → Outside → Type 0
-Runs (Some (Replay admin path)) old ends new =
-    LacksMemory old ends new ⊎ Replays admin path old ends new
-Runs (Some (Compile arguments)) old ends new =
-    LacksMemory old ends new ⊎ Compiles arguments old ends new
-Runs None old ends new = ShowsUsage old ends new
+module _ {L C : Type 0} (coming : C → Option (ℕ → ℕ)) (tells : L → Handle) where
+  abbrev pub Runs : Option Command → Outside → Status → Outside → Type 0
+  Runs (Some (Replay admin path)) old ends new =
+      LacksMemory old ends new ⊎ Replays admin path old ends new
+  Runs (Some (Serve admin address path)) old ends new =
+      LacksMemory old ends new ⊎ Serves coming tells admin address path old ends new
+  Runs (Some (Compile arguments)) old ends new =
+      LacksMemory old ends new ⊎ Compiles arguments old ends new
+  Runs None old ends new = ShowsUsage old ends new
 
--- with 0 the source was read to its end
-abbrev pub ReadsToItsEnd : Status → Told → Type 0
-ReadsToItsEnd ends link = ends ≡ status.Finished → IsAtEnd link
+-- with 0 a source that is read was read to its end
+abbrev pub ReadsToItsEnd : Option Command → Status → Told → Type 0
+ReadsToItsEnd (Some (Serve admin address path)) ends link = Unit {0}
+ReadsToItsEnd other ends link = ends ≡ status.Finished → IsAtEnd link

@@ -10,7 +10,7 @@ use Rattle.pl_digests.specs.Digests.{digest_in, is_of_nothing}
 use Rattle.pl_words.specs.Options.{Given, are_once, has_equals, is_equals, is_word, options_of}
 use Rattle.pl_words.specs.Options.{value_of}
 use Rattle.pl_words.specs.declared.command.Command.{Command}
-use Rattle.pl_words.specs.declared.command.Command.TheVariants.{Compile, Replay}
+use Rattle.pl_words.specs.declared.command.Command.TheVariants.{Compile, Replay, Serve}
 
 -- ---- `replay --admin HEX`, and `--store PATH` or not
 
@@ -33,6 +33,17 @@ abbrev pub replay_of : List Given → Option Command
 replay_of options =
     if are_once (codes "--admin" ∷ codes "--store" ∷ []) options then
     option_map (λ admin. Replay admin (store_of options)) (admin_of options) else None
+
+-- ---- `serve --admin HEX --listen ADDRESS`, and `--store PATH` or not
+
+abbrev pub serve_at : Option Digest → Option (List ℕ) → Option (List ℕ) → Option Command
+serve_at admin address store =
+    option_and_then (λ admin. option_map (λ address. Serve admin address store) address) admin
+
+abbrev pub serve_of : List Given → Option Command
+serve_of options =
+    if are_once (codes "--admin" ∷ codes "--listen" ∷ codes "--store" ∷ []) options then
+    serve_at (admin_of options) (value_of (codes "--listen") options) (store_of options) else None
 
 -- ---- `compile`, and `--param NAME=TEXT` any number of times, each with another name
 
@@ -70,11 +81,14 @@ command_of [] = None
 command_of (name ∷ words) =
     if is_word name (codes "replay") then option_and_then replay_of (options_of words)
     else (if is_word name (codes "compile") then
-    option_map (λ arguments. Compile arguments) (arguments_of words) else None)
+    option_map (λ arguments. Compile arguments) (arguments_of words)
+    else (if is_word name (codes "serve") then option_and_then serve_of (options_of words) else None))
 
--- the words are those of `compile`, or of `replay` with a store: these have texts, which take memory
+-- the words are those of `compile` or of `serve`, or of `replay` with a store: these have texts,
+-- which take memory
 abbrev pub TakesMemory : Option Command → Type 0
 TakesMemory (Some (Compile arguments)) = ⊤
+TakesMemory (Some (Serve admin address store)) = ⊤
 TakesMemory (Some (Replay admin (Some path))) = ⊤
 TakesMemory (Some (Replay admin None)) = ⊥
 TakesMemory None = ⊥

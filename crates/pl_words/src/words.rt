@@ -4,8 +4,8 @@ ghost use Rattle.std.specs.Prelude.{◌≡◌, Some, map, string_bytes, IfOk, On
 ghost use Rattle.std.specs.Option.{IfSome, IsSome, option_and_then, option_map};
 ghost use Rattle.pl_words.specs.Options.{options_of};
 ghost use Rattle.pl_words.specs.Words.{TakesMemory, admin_of, arguments_of, command_of, replay_of};
-ghost use Rattle.pl_words.specs.Words.{store_of};
-ghost use Rattle.pl_words.specs.declared.command.Command.TheVariants.{Compile};
+ghost use Rattle.pl_words.specs.Words.{serve_of, store_of};
+ghost use Rattle.pl_words.specs.declared.command.Command.TheVariants.{Compile, Serve};
 
 use crate::command::Command;
 use crate::digest::digest;
@@ -16,12 +16,13 @@ use std::alloc::Global;
 
 /// The command that the words are, if they are one.
 ///
-/// `replay` and the option `--admin`, which may have the option `--store` besides; or `compile`
-/// and, as often as wanted, the option `--param`, each time with another name. Options stand in any
-/// order, each once but `--param`. An option's value is the next word, which doesn't begin with
-/// `-`, or stands behind `=`. The value of `--param` is cut at its first `=`, and what stands
-/// before it is the name, which isn't empty. Memory where memory is wanting for the arguments of
-/// `compile`, or the path of a store.
+/// `replay` and the option `--admin`; `serve` and the options `--admin` and `--listen`; each of the
+/// two may have the option `--store` besides; or `compile` and, as often as wanted, the option
+/// `--param`, each time with another name. Options stand in any order, each once but `--param`. An
+/// option's value is the next word, which doesn't begin with `-`, or stands behind `=`. The value
+/// of `--param` is cut at its first `=`, and what stands before it is the name, which isn't empty.
+/// Memory where memory is wanting for the arguments of `compile`, the address of `serve`, or the
+/// path of a store.
 pub fn parse(alloc: Global, words: &[String]) -> Result<Option<Command>, Memory>
     ensures command { IfOk result
         (λ command. command ≡ command_of (map (λ word. string_bytes word) words.now)) }
@@ -31,6 +32,7 @@ pub fn parse(alloc: Global, words: &[String]) -> Result<Option<Command>, Memory>
     match words {
         [name, options @ ..] if name.as_str() == "replay" => replay(alloc, options),
         [name, options @ ..] if name.as_str() == "compile" => compile(alloc, options),
+        [name, options @ ..] if name.as_str() == "serve" => serve(alloc, options),
         _ => Ok(None),
     }
 }
@@ -89,4 +91,40 @@ fn compile(alloc: Global, options: &[String]) -> Result<Option<Command>, Memory>
     }
     let arguments = arguments(alloc, options)?;
     Ok(Some(Command::Compile { arguments }))
+}
+
+/// The command `serve` with these options.
+fn serve(alloc: Global, options: &[String]) -> Result<Option<Command>, Memory>
+    ensures command { IfOk result (λ command. command ≡
+        option_and_then serve_of (options_of (map (λ word. string_bytes word) options.now))) }
+    ensures some { OnErr result (IsSome
+        (option_and_then serve_of (options_of (map (λ word. string_bytes word) options.now)))) }
+{
+    if !are_once(&["--admin", "--listen", "--store"], options) {
+        return Ok(None);
+    }
+    match (admin(options), value_of("--listen", options)) {
+        (Some(admin), Some(address)) => serve_at(alloc, admin, address, options),
+        _ => Ok(None),
+    }
+}
+
+/// The command `serve` with these values, and the store that the options give.
+fn serve_at(
+    alloc: Global,
+    admin: Digest,
+    address: &str,
+    options: &[String],
+) -> Result<Option<Command>, Memory>
+    ensures { IfOk result (λ command.
+        IfSome (options_of (map (λ word. string_bytes word) options.now))
+        (λ options. command ≡ Some (Serve admin address.now (store_of options)))) }
+{
+    let address = Text::from_str(alloc, address)?;
+    let store = store(alloc, options)?;
+    Ok(Some(Command::Serve {
+        admin,
+        address,
+        store,
+    }))
 }

@@ -8,10 +8,12 @@ use Rattle.pl_commands.proofs.commands.run.Goals as goal
 pub returns-clause-usage : goal.returns-clause-usage
 returns-clause-usage g c = (
   not_usage
+      g.O.Time.Clock.coming g.O.Door.Listener.tells
       (outside g.O.In.Source g.O.Out.Sink (g.O.Outfit.view c.args.outfit.now)) c.ran.result
       (outside g.O.In.Source g.O.Out.Sink (g.O.Outfit.view c.ran.new.outfit))
       (command_of (map (λ word. string_bytes word) c.args.words.now)) c.ran.ensures,
   usage_of
+      g.O.Time.Clock.coming g.O.Door.Listener.tells
       (outside g.O.In.Source g.O.Out.Sink (g.O.Outfit.view c.args.outfit.now)) c.ran.result
       (outside g.O.In.Source g.O.Out.Sink (g.O.Outfit.view c.ran.new.outfit))
       (command_of (map (λ word. string_bytes word) c.args.words.now)) c.ran.ensures,
@@ -20,6 +22,7 @@ returns-clause-usage g c = (
 pub returns-clause-read_to_its_end : goal.returns-clause-read_to_its_end
 returns-clause-read_to_its_end g c =
     to_its_end
+    g.O.Time.Clock.coming g.O.Door.Listener.tells
     (outside g.O.In.Source g.O.Out.Sink (g.O.Outfit.view c.args.outfit.now)) c.ran.result
     (outside g.O.In.Source g.O.Out.Sink (g.O.Outfit.view c.ran.new.outfit))
     (command_of (map (λ word. string_bytes word) c.args.words.now)) c.ran.ensures
@@ -27,6 +30,7 @@ returns-clause-read_to_its_end g c =
 pub returns-clause-reads_counted : goal.returns-clause-reads_counted
 returns-clause-reads_counted g c =
     (all_counted
+    g.O.Time.Clock.coming g.O.Door.Listener.tells
     (outside g.O.In.Source g.O.Out.Sink (g.O.Outfit.view c.args.outfit.now)) c.ran.result
     (outside g.O.In.Source g.O.Out.Sink (g.O.Outfit.view c.ran.new.outfit))
     (command_of (map (λ word. string_bytes word) c.args.words.now)) c.ran.ensures).reads
@@ -34,6 +38,7 @@ returns-clause-reads_counted g c =
 pub returns-clause-writes_counted : goal.returns-clause-writes_counted
 returns-clause-writes_counted g c =
     (all_counted
+    g.O.Time.Clock.coming g.O.Door.Listener.tells
     (outside g.O.In.Source g.O.Out.Sink (g.O.Outfit.view c.args.outfit.now)) c.ran.result
     (outside g.O.In.Source g.O.Out.Sink (g.O.Outfit.view c.ran.new.outfit))
     (command_of (map (λ word. string_bytes word) c.args.words.now)) c.ran.ensures).writes
@@ -41,13 +46,15 @@ returns-clause-writes_counted g c =
 pub returns-clause-stores_counted : goal.returns-clause-stores_counted
 returns-clause-stores_counted g c =
     (all_counted
+    g.O.Time.Clock.coming g.O.Door.Listener.tells
     (outside g.O.In.Source g.O.Out.Sink (g.O.Outfit.view c.args.outfit.now)) c.ran.result
     (outside g.O.In.Source g.O.Out.Sink (g.O.Outfit.view c.ran.new.outfit))
     (command_of (map (λ word. string_bytes word) c.args.words.now)) c.ran.ensures).stores
 
-pub returns-clause-no_doors : goal.returns-clause-no_doors
-returns-clause-no_doors g c =
+pub returns-clause-doors_counted : goal.returns-clause-doors_counted
+returns-clause-doors_counted g c =
     (all_counted
+    g.O.Time.Clock.coming g.O.Door.Listener.tells
     (outside g.O.In.Source g.O.Out.Sink (g.O.Outfit.view c.args.outfit.now)) c.ran.result
     (outside g.O.In.Source g.O.Out.Sink (g.O.Outfit.view c.ran.new.outfit))
     (command_of (map (λ word. string_bytes word) c.args.words.now)) c.ran.ensures).doors

@@ -1,0 +1,4 @@
+mod at_once;
+mod calls;
+mod four;
+mod sockets;
