@@ -3,7 +3,9 @@
 #![tactic(auto)]
 
 mod process;
+mod store;
 mod streams;
 
 pub use process::Process;
+pub use store::ProcessStore;
 pub use streams::{Reading, SystemClock, Writing};

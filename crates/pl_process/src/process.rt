@@ -1,5 +1,6 @@
 ghost use Rattle.std.specs.Prelude.{◌≡◌, None, false, refl};
 
+use crate::store::ProcessStore;
 use crate::streams::{Reading, SystemClock, Writing};
 use pl_base::{Paired, Text};
 use pl_door::TcpDoor;
@@ -60,7 +61,7 @@ impl<R: io::Read, W: io::Write, E: io::Write> Outfit for Process<R, W, E> {
 
     type Time = SystemClock<HostRuntime>;
 
-    type Store = ProgramStore;
+    type Store = ProcessStore;
 
     type Door = TcpDoor<HostRuntime>;
 
@@ -91,12 +92,13 @@ impl<R: io::Read, W: io::Write, E: io::Write> Outfit for Process<R, W, E> {
         }
     }
 
-    fn keeper(&mut self, alloc: Global, path: Option<&Text>) -> Result<ProgramStore, KeeperFault> {
+    fn keeper(&mut self, alloc: Global, path: Option<&Text>) -> Result<ProcessStore, KeeperFault> {
         let Some(path) = path else {
-            return Ok(ProgramStore::in_memory(alloc));
+            let store = ProgramStore::in_memory(alloc);
+            return Ok(ProcessStore { store });
         };
         match ProgramStore::open(&self.runtime, path.as_str()) {
-            Ok(store) => Ok(store),
+            Ok(store) => Ok(ProcessStore { store }),
             Err(refusal) => {
                 let path = path.as_str();
                 let _ = writeln!(self.people, "pipectl: {path:?}: {refusal}");
@@ -109,7 +111,7 @@ impl<R: io::Read, W: io::Write, E: io::Write> Outfit for Process<R, W, E> {
         }
     }
 
-    fn keeper_back(&mut self, store: ProgramStore) {
+    fn keeper_back(&mut self, store: ProcessStore) {
         if store.faults() > 0 {
             self.keeper_faults = self.keeper_faults.saturating_add(1);
         }
