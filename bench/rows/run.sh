@@ -3,20 +3,39 @@
 # prints them for each byte of the row; and, by memcheck, the blocks and the bytes of memory that each takes.
 # Those of a program that only reads the row's bytes are taken off, and those of its words, which are what it
 # takes of no bytes (no row). Needs valgrind and python3. Not a part of the gate.
+#
+#     bench/rows/run.sh
+#     bench/rows/run.sh opens [PROGRAM [RUNS..]]
+#
+# With `opens` it counts what opening a service of the rows of so many ended runs of the example takes (100, 1,000 and 10,000), beside
+# decoding these rows and one compile, what the rows of its state take beside writing the records, and the most memory (opens.py).
+# PROGRAM is opens.rt.in as it was built before.
 set -e
 here=$(cd "$(dirname "$0")" && pwd)
 top=$(cd "$here/../.." && pwd)
 work=$(mktemp -d)
 trap 'rm -rf "$work"' EXIT
-mkdir -p "$work/crates/rows/src"
-for crate in $("$top/tools/below" pl_keeper); do
-    cp -r "$top/crates/$crate" "$work/crates/"
-    grep "^$crate[: ]" "$top/crates.txt" >>"$work/crates.txt"
-done
-echo "rows: pl_base pl_keeper" >>"$work/crates.txt"
-cp "$here/rows.rt.in" "$work/crates/rows/src/main.rt"
-cp "$top/HANDLES" "$work/"
-(cd "$work/crates/rows" && rt run </dev/null >"$work/log" 2>&1) || { cat "$work/log" >&2; exit 1; }
+# builds a program: its name, its source and its libraries
+build() {
+    mkdir -p "$work/crates/$1/src"
+    for crate in $("$top/tools/below" $3); do
+        cp -r "$top/crates/$crate" "$work/crates/"
+        grep "^$crate[: ]" "$top/crates.txt" >>"$work/crates.txt"
+    done
+    echo "$1: $3" >>"$work/crates.txt"
+    cp "$here/$2" "$work/crates/$1/src/main.rt"
+    cp "$top/HANDLES" "$work/"
+    (cd "$work/crates/$1" && rt run </dev/null >"$work/log" 2>&1) || [ -x "$work/crates/$1/out/$1" ] || { cat "$work/log" >&2; exit 1; }
+}
+if [ "$1" = opens ]; then
+    shift
+    program=$1
+    [ $# -eq 0 ] || shift
+    [ -n "$program" ] || { build opens opens.rt.in 'pl_base pl_compile pl_keeper pl_opening'; program=$work/crates/opens/out/opens; }
+    python3 "$here/opens.py" "$program" "$top" "$@"
+    exit
+fi
+build rows rows.rt.in 'pl_base pl_keeper'
 python3 - "$work/crates/rows/out/rows" "$work" <<'PYTHON'
 import re, struct, subprocess, sys
 program, work = sys.argv[1:]

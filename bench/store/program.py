@@ -83,7 +83,10 @@ def rows():
     told("three texts are queued", answers == [queued(n) for n in (1, 2, 3)], repr(answers) if answers[-1:] != [queued(3)] else "")
     end = replay.close()
     told("the replay ends with 0", end == (0, b"", ""), repr(end))
-    told("the log was copied into the file", os.path.getsize("rows.db-wal") == 0)
+    shutil.copy("rows.db", "alone.db")
+    db = sqlite3.connect("alone.db")
+    told("the log was copied into the file", db.execute("SELECT count(*) FROM pallwethig_rows_1 WHERE substr(place, 1, 1) = x'06'").fetchone() == (3,))
+    db.close()
     replay = Replay("rows.db")
     first = [replay.ask("GET", f"/runs/{n}") for n in (1, 2, 3, 4)]
     told("they are there after the next opening", [it and it[0] for it in first] == [200, 200, 200, 404], repr([it and it[0] for it in first]))
@@ -204,7 +207,10 @@ def costs(many=1000, turns=7):
         kept = {place: body for place, body in db.execute("SELECT place, body FROM pallwethig_rows_1")}
         db.close()
         runs = sorted(it for it in kept if it[0] == 6)
-        others = [[it for it in kept if it[0] > 6 and it[1:9] == run[1:9]] for run in runs]
+        others = [[] for _ in runs]
+        for place in kept:
+            if place[0] > 6:
+                others[int.from_bytes(place[1:9], "big") - 1].append(place)
         db = sqlite3.connect(f"bare-{turn}.db", isolation_level=None)
         db.execute("PRAGMA journal_mode=WAL")
         db.execute("PRAGMA synchronous=FULL")
