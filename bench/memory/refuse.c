@@ -8,6 +8,7 @@
 #include <stdio.h>
 #include <stdlib.h>
 #include <string.h>
+#include <sys/syscall.h>
 #include <unistd.h>
 
 static atomic_long made;
@@ -44,9 +45,16 @@ __attribute__((destructor)) static void end(void) {
     if (file >= 0) {
         int size = snprintf(text, sizeof text, "%ld\n", atomic_load(&made));
         if (write(file, text, size) != size)
-            _exit(99);
+            syscall(SYS_exit_group, 99);
         close(file);
     }
+}
+
+/* A build that isn't proved ends so, past the destructor. */
+void _exit(int status) {
+    end();
+    syscall(SYS_exit_group, status);
+    __builtin_unreachable();
 }
 
 static int is_refused(void) {

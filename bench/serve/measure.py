@@ -23,8 +23,8 @@ load, program, *parts = sys.argv[1:]
 top = os.path.dirname(os.path.dirname(os.path.dirname(os.path.abspath(__file__))))
 CLIENTS = [int(it) for it in os.environ.get("CLIENTS", "1 4 16 64").split()]
 SECONDS = float(os.environ.get("LASTS", "3"))
+HOW = os.environ.get("HOW", "kept each").split()
 QUEUES = int(os.environ.get("QUEUES", "400"))
-TICK = os.sysconf("SC_CLK_TCK")
 # What a server is started by: nothing, or valgrind.
 started_by = []
 
@@ -53,10 +53,8 @@ class Server:
         return reply.status, content
 
     def processor(self):
-        """The seconds of processor time so far: of the program, and of the system for it."""
-        with open(f"/proc/{self.process.pid}/stat", encoding="utf-8") as stat:
-            fields = stat.read().rsplit(")", 1)[1].split()
-        return int(fields[11]) / TICK, int(fields[12]) / TICK
+        """The seconds of processor time so far, of the program and of the system for it: its processes' clock, which others can read."""
+        return time.clock_gettime((~self.process.pid << 3) | 2)
 
     def memory(self):
         """Resident memory now, in MB."""
@@ -153,24 +151,24 @@ def row(name, server, clients, how, asked, most):
     before = server.processor()
     got = asked_for(server, clients, most, how, asked, SECONDS if most > QUEUES else 120)
     after = server.processor()
-    own, system = (1e6 * (b - a) / max(1, got["done"]) for a, b in zip(before, after))
+    taken = 1e6 * (after - before) / max(1, got["done"])
     rate = got["done"] / got["seconds"]
-    print(f"| {name} | {asked} | {clients} | {how} | {rate:,.0f} | {own:,.0f} + {system:,.0f} | {got['p50'] / 1e3:.2f} | {got['p99'] / 1e3:.2f} | {got['max'] / 1e3:.0f} | "
+    print(f"| {name} | {asked} | {clients} | {how} | {rate:,.0f} | {taken:,.0f} | {got['p50'] / 1e3:.2f} | {got['p99'] / 1e3:.2f} | {got['max'] / 1e3:.0f} | "
           f"{got['again']} | {server.memory():.0f} |", flush=True)
-    return got["done"] / got["seconds"], own + system
+    return rate
 
 
 def machine():
     model = re.search(r"model name\s*: (.*)", open("/proc/cpuinfo", encoding="utf-8").read())
     print(f"{os.cpu_count()} processors ({model[1] if model else '?'}), load {os.getloadavg()[0]:.1f}, Linux {os.uname().release}, "
           f"Python {sys.version.split()[0]} with SQLite {sqlite3.sqlite_version}; {SECONDS:g} seconds a row, {QUEUES} queued in all a row")
-    print("| of | asked | clients | connections | a second | processor µs a request: own + system | p50 ms | p99 ms | greatest ms | opened again | MB behind |")
+    print("| of | asked | clients | connections | a second | processor µs a request | p50 ms | p99 ms | greatest ms | opened again | MB behind |")
     print("|---|---|---|---|---|---|---|---|---|---|---|", flush=True)
 
 
 def measured(name, opened):
     """Draws and reads beside one run, and queues, each time by a new server."""
-    for how in ("kept", "each"):
+    for how in HOW:
         for clients in CLIENTS:
             server = opened()
             server.one_run()
@@ -208,7 +206,7 @@ def commits(turns=5):
     here, there = [], []
     for turn in range(turns):
         server = Ours(f"turn-{turn}.db")
-        here.append(row("store", server, 1, "kept", "queue", QUEUES)[0])
+        here.append(row("store", server, 1, "kept", "queue", QUEUES))
         server.stop()
         db = sqlite3.connect(f"turn-{turn}.db")
         kept = {place: body for place, body in db.execute("SELECT place, body FROM pallwethig_rows_1")}

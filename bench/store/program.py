@@ -3,14 +3,16 @@
 
 Parts: `rows` (three texts are queued, and are there after the next opening), `two` (two programs on one store), `refusals` (what
 isn't taken over: status 4, nothing read, one line), `kills` (a replay killed at random moments: each run that was answered is
-there, at most one more, none in part), `full` (a full disk; needs root), `costs` (1,000 texts beside 1,000 commits of the same rows
-by Python's sqlite3 at full syncs). Prints a line for each thing that was tried, and ends with 0 where all held. Works in a new
+there, at most one more, none in part), `full` (a full disk; needs root), `memory` (each call for memory of an opening and of two texts
+is refused alone, by bench/memory/refuse.c: what was acknowledged is there at the next opening, and nothing else but what a status
+of 6 leaves open), `costs` (1,000 texts beside 1,000 commits of the same rows by Python's sqlite3 at full syncs). Prints a line for each thing that was tried, and ends with 0 where all held. Works in a new
 folder below the current one.
 """
 import hashlib
 import json
 import os
 import random
+import re
 import shutil
 import signal
 import sqlite3
@@ -194,6 +196,35 @@ def full():
         subprocess.run(["umount", "small"])
 
 
+def memory(step=int(os.environ.get("STEP", "1"))):
+    """At first none is refused, which counts them. Of each refusal: the replies are 201 or 507 (or the status is 6), and the runs that the next opening finds are those of the 201s."""
+    here = os.path.dirname(os.path.abspath(__file__))
+    subprocess.run(["cc", "-O1", "-shared", "-fPIC", "-o", "refuse.so", f"{here}/../memory/refuse.c", "-ldl"], check=True)
+    words, data = [program, "replay", "--admin", admin, "--store", "wanting.db"], message("POST", "/texts", TEXT) * 2
+    seen, wrong, at, calls = {}, [], 0, 1
+    while at <= calls:
+        for name in ("wanting.db", "wanting.db-wal"):
+            if os.path.exists(name):
+                os.remove(name)
+        env = dict(os.environ, LD_PRELOAD=f"{os.getcwd()}/refuse.so", REFUSE=str(at), REFUSED="calls")
+        end = subprocess.run(words, input=data, capture_output=True, env=env)
+        if at == 0:
+            with open("calls", encoding="ascii") as file:
+                calls = int(file.read())
+        at += step
+        statuses = tuple(int(it) for it in re.findall(rb"HTTP/1\.1 (\d+) ", end.stdout))
+        told_runs = statuses.count(201)
+        runs = found("wanting.db")
+        kind = (end.returncode, statuses, None if runs is None else runs - told_runs)
+        seen[kind] = seen.get(kind, 0) + 1
+        good = set(statuses) <= {201, 507} and end.returncode in (0, 4, 6) and (len(statuses) == 2 or end.returncode)
+        if not good or runs != told_runs and not (end.returncode == 6 and runs == told_runs + 1):
+            wrong.append((at - step, end.returncode, statuses, runs, end.stderr))
+    told(f"{calls} calls for memory, each {step}th refused alone", not wrong, repr(wrong[:5]) if wrong else "")
+    for (status, statuses, more), many in sorted(seen.items(), key=repr):
+        print(f"  status {status}, replies {statuses}, {more} runs more than told: {many} times")
+
+
 def costs(many=1000, turns=7):
     here, there = [], []
     for turn in range(turns):
@@ -232,7 +263,7 @@ work = tempfile.mkdtemp(prefix="store-", dir=".")
 os.chdir(work)
 try:
     for part in sys.argv[2:]:
-        {"rows": rows, "two": two, "refusals": refusals, "kills": kills, "full": full, "costs": costs}[part]()
+        {"rows": rows, "two": two, "refusals": refusals, "kills": kills, "full": full, "memory": memory, "costs": costs}[part]()
 finally:
     os.chdir("..")
     shutil.rmtree(work)

@@ -62,7 +62,7 @@ for what in ${*:-disks blips real costs}; do
         (cd "$work" && python3 -B "$here/real.py" "$work/crates/keeps/out/keeps" costs) || all=1
         ;;
     program)
-        (cd "$work" && python3 -B "$here/program.py" "${PIPECTL:-$top/crates/pipectl/out/pipectl}" rows two refusals kills full costs) || all=1
+        (cd "$work" && python3 -B "$here/program.py" "${PIPECTL:-$top/crates/pipectl/out/pipectl}" rows two refusals kills full memory costs) || all=1
         ;;
     *)
         sed -n '2,9s/^# //p' "$0" >&2
