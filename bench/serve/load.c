@@ -148,8 +148,8 @@ int main(int count, char **words) {
     }
     while (under_way) {
         struct epoll_event events[256];
-        int many = epoll_wait(epoll_fd, events, 256, 30000);
-        if (many == 0) { fprintf(stderr, "no reply for 30 seconds\n"); return 1; }
+        int many = epoll_wait(epoll_fd, events, 256, 600000);
+        if (many == 0) { fprintf(stderr, "no reply for ten minutes\n"); return 1; }
         for (int i = 0; i < many; i++) {
             struct client *c = events[i].data.ptr;
             if (c->fd < 0) continue;

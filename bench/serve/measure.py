@@ -27,6 +27,7 @@ HOW = os.environ.get("HOW", "kept each").split()
 QUEUES = int(os.environ.get("QUEUES", "400"))
 # What a server is started by: nothing, or valgrind.
 started_by = []
+running = []
 
 
 def digest(text):
@@ -68,6 +69,7 @@ class Ours(Server):
     def __init__(self, store=None):
         words = [*started_by, program, "serve", "--admin", digest("abc"), "--listen", "127.0.0.1:0"]
         self.process = subprocess.Popen(words + (["--store", store] if store else []), stderr=subprocess.PIPE, stdout=subprocess.DEVNULL)
+        running.append(self.process)
         line = ""
         while not line.startswith("listening on "):
             line = self.process.stderr.readline().decode()
@@ -111,6 +113,7 @@ class Master(Server):
         upgrade, start, environment = masters.laid(folder, self.port)
         subprocess.run(upgrade, cwd=folder, env=environment, check=True, capture_output=True)
         self.process = subprocess.Popen([*started_by, *start], cwd=folder, env=environment, stdout=subprocess.DEVNULL, stderr=subprocess.DEVNULL)
+        running.append(self.process)
         for _ in range(6000):
             try:
                 if self.ask("GET", "/api/v2/builders/1", None)[0] == 200:
@@ -143,7 +146,7 @@ def asked_for(server, clients, most, how, asked, seconds):
         words = [load, str(server.port), str(clients), str(most), str(seconds), how, file.name, status]
         done = subprocess.run(words, capture_output=True, text=True)
     if done.returncode:
-        print(f"WRONG: {asked} {clients}: {done.stdout}{done.stderr}")
+        print(f"WRONG: {asked} {clients}: {done.stdout}{done.stderr}", flush=True)
     return json.loads(done.stdout)
 
 
@@ -292,6 +295,9 @@ def main():
             {"ours": ours, "buildbot": buildbot, "commits": commits, "idle": idle, "instructions": instructions}[part]()
         print(f"load at the end {os.getloadavg()[0]:.1f}")
     finally:
+        for process in running:
+            process.kill()
+            process.wait()
         os.chdir("..")
         shutil.rmtree(work)
 
