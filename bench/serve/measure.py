@@ -204,7 +204,7 @@ def buildbot():
     measured("buildbot", opened)
 
 
-def commits(turns=5):
+def commits(turns=int(os.environ.get("TURNS", "5"))):
     """Queues over one connection with a store beside the bare commits of the same rows by Python's sqlite3, by turns."""
     here, there = [], []
     for turn in range(turns):
@@ -262,10 +262,12 @@ def idle(many=1000):
     server.stop()
 
 
-def instructions(times=20):
+def instructions(times=int(os.environ.get("TIMES", "20"))):
     """The instructions of requests behind others, over one connection: by callgrind, all threads and nothing else counted."""
     opened = {"memory": Ours, "store": lambda: Ours(f"counted-{time.monotonic()}.db"), "buildbot": lambda: Master(tempfile.mkdtemp(dir=os.getcwd()))}
     for name, server_of in opened.items():
+        if name not in os.environ.get("OF", "memory store buildbot").split():
+            continue
         for asked in ("draw", "read", "queue"):
             started_by[:] = ["valgrind", "--tool=callgrind", "--instr-atstart=no", f"--callgrind-out-file={os.getcwd()}/counted"]
             if name == "buildbot":

@@ -5,7 +5,7 @@
 #
 # PROGRAM is crates/pipectl/out/pipectl where none is named. The parts: `ours` (in memory and with a store), `buildbot`, `commits`,
 # `idle` and `instructions`; all of them where none is named. Files stand below the current folder: be on the disk that is to be measured.
-# CLIENTS, HOW, LASTS and QUEUES change what rows there are. Needs gcc and python3, Debian's buildbot for `buildbot` and `instructions`,
+# CLIENTS, HOW, LASTS, QUEUES, TURNS, TIMES and OF change how much of it. Needs gcc and python3, Debian's buildbot for `buildbot` and `instructions`,
 # valgrind for the latter. Not a part of the gate.
 set -e
 here=$(cd "$(dirname "$0")" && pwd)
