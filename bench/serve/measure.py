@@ -283,7 +283,7 @@ def instructions(times=int(os.environ.get("TIMES", "20"))):
                     asked_for(server, 1, times, "kept", asked, 3600)
             server.stop()
             with open("counted", encoding="utf-8") as file:
-                total = sum(int(it) for it in re.findall(r"^(?:summary|totals): (\d+)$", file.read(), re.M)[:1])
+                total = int(re.search(r"^totals: (\d+)$", file.read(), re.M)[1])
             print(f"instructions: {name}, {asked}: {total // times:,} a request, of {times} behind {times}", flush=True)
     started_by.clear()
 
