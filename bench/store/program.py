@@ -1,7 +1,7 @@
 #!/usr/bin/env python3
 """Tries `pipectl` with `--store` over real files: program.py PIPECTL PART..
 
-Parts: `rows` (three texts are queued, and are there after the next opening), `two` (two programs on one store), `refusals` (what
+Parts: `rows` (three texts are queued, and are there after the next opening), `two` (two programs on one store, and a copy of an open one), `refusals` (what
 isn't taken over: status 4, nothing read, one line), `kills` (a replay killed at random moments: each run that was answered is
 there, at most one more, none in part), `full` (a full disk; needs root), `memory` (each call for memory of an opening and of two texts
 is refused alone, by bench/memory/refuse.c: what was acknowledged is there at the next opening, and nothing else but what a status
@@ -104,7 +104,10 @@ def two():
     end = second.close()
     told("a second one on its store", end == (4, b"", 'pipectl: "two.db": another program has it open\n'), repr(end))
     told("the first one goes on", first.ask("POST", "/texts", TEXT) == queued(2))
+    for name in ("two.db", "two.db-wal"):
+        shutil.copy(name, name.replace("two", "copy"))
     told("and ends with 0", first.close()[0] == 0)
+    told("a copy of its file and its log, taken between two calls, has both runs", found("copy.db") == 2)
 
 
 def refused(name, path, words, **more):
