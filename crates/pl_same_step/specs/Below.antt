@@ -1,0 +1,2 @@
+-- The libraries below whose names are given on to those above.
+pub use Rattle.pl_same_lookups as pl_same_lookups
