@@ -132,7 +132,7 @@ rise_more (fact ∷ facts) one rise before =
 
 -- ---- who took a job
 
-taker_about : (told : Event) (agent : List ℕ) → taker_told told ≡ Some agent →
+pub taker_about : (told : Event) (agent : List ℕ) → taker_told told ≡ Some agent →
     names (second_of told) (Taker agent) ≡ true
 taker_about (event.JobTaken run stage job name) agent e =
     let same : name ≡ agent = ap (λ (o : Option (List ℕ)). unwrap_or o name) e in
@@ -141,18 +141,18 @@ taker_about (event.JobTaken run stage job name) agent e =
 taker_about _ agent e = absurd (none_some None agent refl e)
 
 -- a fact that is also about an agent is a job's taking by it
-record Takes (told : Event) (agent : List ℕ) : Type 0 where
-  run : ℕ
-  stage : ℕ
-  job : ℕ
-  of : (same_key (key_of told) (key.Job run stage job) && is_taking told) ≡ true
-  who : taker_told told ≡ Some agent
+pub record Takes (told : Event) (agent : List ℕ) : Type 0 where
+  pub run : ℕ
+  pub stage : ℕ
+  pub job : ℕ
+  pub of : (same_key (key_of told) (key.Job run stage job) && is_taking told) ≡ true
+  pub who : taker_told told ≡ Some agent
 
 abbrev name_in : SecondNamed → List ℕ
 name_in (Taker name) = name
 name_in _ = []
 
-about_takes : (told : Event) (agent : List ℕ) → names (second_of told) (Taker agent) ≡ true →
+pub about_takes : (told : Event) (agent : List ℕ) → names (second_of told) (Taker agent) ≡ true →
     Takes told agent
 about_takes (event.JobTaken run stage job name) agent is =
     let e : Some (Taker name) ≡ Some (Taker agent) = exact_name (Some (Taker name)) (Taker agent) is
@@ -169,7 +169,7 @@ about_takes (event.RunQueued told) agent is = absurd (true≢false (sym is))
 about_takes _ agent is = absurd (true≢false (sym is))
 
 -- the job of a taking still runs where it hasn't ended
-still : (facts : List Fact) (run stage job : ℕ) (told : Event) →
+pub still : (facts : List Fact) (run stage job : ℕ) (told : Event) →
     (same_key (key_of told) (key.Job run stage job) && is_taking told) ≡ true →
     is_none (job_ending run stage job facts) ≡ true → still_runs facts told ≡ true
 still facts run stage job (event.JobTaken r s j agent) is none =

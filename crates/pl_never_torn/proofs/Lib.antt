@@ -1,20 +1,21 @@
-mod Counting
-mod Deciding
-mod HeldRows
-mod HolderRows
-mod Holding
-mod JobRows
-mod Jobs
-mod Late
-mod Leaving
-mod LegRows
-mod Legs
-mod Making
-mod Naming
-mod Owners
-mod Rising
-mod StageRows
-mod Stages
-mod Standing
-mod Staying
-mod Telling
+pub mod Counting
+pub mod Deciding
+pub mod First
+pub mod HeldRows
+pub mod HolderRows
+pub mod Holding
+pub mod JobRows
+pub mod Jobs
+pub mod Late
+pub mod Leaving
+pub mod LegRows
+pub mod Legs
+pub mod Making
+pub mod Naming
+pub mod Owners
+pub mod Rising
+pub mod StageRows
+pub mod Stages
+pub mod Standing
+pub mod Staying
+pub mod Telling

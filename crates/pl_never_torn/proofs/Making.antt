@@ -85,7 +85,7 @@ module _ (again : SourcesCompileAgain) where
 
 -- ---- so runs' rows compile to these
 
-pairs_again : (files : List (FileKey × List ℕ)) → map pair_of (map used_file files) ≡ files
+pub pairs_again : (files : List (FileKey × List ℕ)) → map pair_of (map used_file files) ≡ files
 pairs_again [] = refl
 pairs_again (file ∷ files) =
     ap (λ (rest : List (FileKey × List ℕ)). file ∷ rest) (pairs_again files)

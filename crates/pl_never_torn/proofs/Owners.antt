@@ -94,11 +94,11 @@ there p q (one ∷ facts) fact e is =
 
 -- ---- a principal that was set is told by a fact of its name
 
-record IsSetBy (facts : List Fact) (name : List ℕ) (told : PrincipalSetting) : Type 0 where
-  fact : Fact
-  found : latest_about (key.Principal name) facts ≡ Some fact
-  tells : fact.event ≡ event.PrincipalSet told
-  named : told.name ≡ name
+pub record IsSetBy (facts : List Fact) (name : List ℕ) (told : PrincipalSetting) : Type 0 where
+  pub fact : Fact
+  pub found : latest_about (key.Principal name) facts ≡ Some fact
+  pub tells : fact.event ≡ event.PrincipalSet told
+  pub named : told.name ≡ name
 
 told_by : (name : List ℕ) (told : PrincipalSetting) (one : Event) →
     principal_told one ≡ Some told → same_key (key_of one) (key.Principal name) ≡ true →
@@ -111,7 +111,7 @@ told_by name told (event.PrincipalSet it) e is =
     (ap event.PrincipalSet i, ap (λ (p : PrincipalSetting). p.name) (sym i) ∙ n)
 told_by name told _ e is = absurd (none_some None told refl e)
 
-set_by : (facts : List Fact) (name : List ℕ) (told : PrincipalSetting) →
+pub set_by : (facts : List Fact) (name : List ℕ) (told : PrincipalSetting) →
     principal_set name facts ≡ Some told → IsSetBy facts name told
 set_by facts name told e = go (latest_about (key.Principal name) facts) refl e where
   go : (o : Option Fact) → latest_about (key.Principal name) facts ≡ o →
@@ -125,11 +125,11 @@ set_by facts name told e = go (latest_about (key.Principal name) facts) refl e w
 -- ---- who has a token is found by it
 
 module _ (facts : List Fact) (token : List ℕ) where
-  abbrev has : Fact → Bool
+  abbrev pub has : Fact → Bool
   has fact = is_also_about (key.Token token) fact && has_token facts token fact.event
 
   -- whose fact passes
-  passing : (name : List ℕ) (told : PrincipalSetting) → principal_set name facts ≡ Some told →
+  pub passing : (name : List ℕ) (told : PrincipalSetting) → principal_set name facts ≡ Some told →
       told.digest.bytes ≡ token → (one : Event) → one ≡ event.PrincipalSet told →
       told.name ≡ name →
       (names (second_of one) (key.Token token) && has_token facts token one) ≡ true
@@ -147,12 +147,12 @@ module _ (facts : List Fact) (token : List ℕ) where
       (both (is_eq (text_cmp told.digest.bytes token)) _ right there)
 
   -- what passes is a principal's fact, which has the token still
-  record Owns (told : PrincipalSetting) : Type 0 where
-    now : PrincipalSetting
-    set : principal_set told.name facts ≡ Some now
-    same_token : now.digest.bytes ≡ token
+  pub record Owns (told : PrincipalSetting) : Type 0 where
+    pub now : PrincipalSetting
+    pub set : principal_set told.name facts ≡ Some now
+    pub same_token : now.digest.bytes ≡ token
 
-  owner : (one : Event) →
+  pub owner : (one : Event) →
       (names (second_of one) (key.Token token) && has_token facts token one) ≡ true →
       (told : PrincipalSetting) × (one ≡ event.PrincipalSet told) × Owns told
   owner (event.PrincipalSet told) is = (
@@ -173,7 +173,7 @@ module _ (facts : List Fact) (token : List ℕ) where
   owner _ is = absurd (cc)
 
   -- so where one of that name has it, who is found by it is there and has it
-  owned : (name : List ℕ) (told : PrincipalSetting) → principal_set name facts ≡ Some told →
+  pub owned : (name : List ℕ) (told : PrincipalSetting) → principal_set name facts ≡ Some told →
       told.digest.bytes ≡ token →
       (who : PrincipalSetting) × (token_set token facts ≡ Some who) × Owns who
   owned name told e has_it =
@@ -317,7 +317,7 @@ asked_sets log made apart (event.PrincipalSet told) is =
     (not_admin log told is.0 is.1, own_token log told is.0 is.1 apart)
 asked_sets log made apart _ is = tt
 
-apart_keeps : Keeps (λ log. AreApart log.admin log.facts)
+pub apart_keeps : Keeps (λ log. AreApart log.admin log.facts)
 apart_keeps = record {
   due = λ log one before is_due apart. apart_more log.admin log.facts one apart
       (due_sets log.admin log.facts one.moment one.event (gives log.facts one.moment one.event

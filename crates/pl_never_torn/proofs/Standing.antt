@@ -5,15 +5,11 @@ use Rattle.pl_base.specs.declared.digest.Digest.{Digest}
 use Rattle.pl_changes.proofs.Leading.{none_some}
 use Rattle.pl_facts.specs.declared.entry.Entry.{Entry}
 use Rattle.pl_facts.specs.declared.fact.Fact.{Fact}
-use Rattle.pl_history.specs.Access.{IsSound}
 use Rattle.pl_history.specs.History.{Opening, log_of, opened}
 use Rattle.pl_history.specs.Legal.{Legal}
 use Rattle.pl_history.specs.Below.pl_granting_laws.specs.Histories.{AreOrderly}
-use Rattle.pl_history.proofs.Keeping.{Sound}
 use Rattle.pl_history.proofs.Orderly.{new_orderly, orderly_all}
-use Rattle.pl_history.proofs.Standing.{first_facts, first_last, new_sound}
-use Rattle.pl_granting.specs.Below.pl_settling.specs.Laws.{HasOneHolder}
-use Rattle.pl_journal.specs.Runs.{queueing, stage_start}
+use Rattle.pl_history.proofs.Standing.{first_facts, new_sound}
 use Rattle.pl_keeper.specs.declared.records.Meta.{Meta}
 use Rattle.pl_keeper.specs.declared.records.Record.TheVariants as kept
 use Rattle.pl_kept.specs.Kept.{numbers_kept}
@@ -33,6 +29,7 @@ use Rattle.pl_never_torn.specs.Standing.{HasStood}
 use Rattle.pl_never_torn.proofs.Deciding.{kept_below, planned_all, the_run}
 use Rattle.pl_never_torn.proofs.LegRows.{few_legs}
 use Rattle.pl_never_torn.proofs.Legs.{room_all}
+use Rattle.pl_never_torn.proofs.First.{first_apart, first_sound}
 use Rattle.pl_never_torn.proofs.Late.{none_late}
 use Rattle.pl_never_torn.proofs.Leaving.{leave_nothing}
 use Rattle.pl_never_torn.proofs.Making.{are_made, own_all}
@@ -42,31 +39,7 @@ use Rattle.pl_never_torn.proofs.Rising.{rising}
 use Rattle.pl_never_torn.proofs.Stages.{in_time_all}
 use Rattle.pl_never_torn.proofs.Staying.{Laws}
 
-admin_is : (opening : Opening) (entries : List Entry) →
-    (log_of opening entries).admin ≡ opening.admin
-unfolding log_of
-admin_is opening entries = refl
-
 module _ (opening : Opening) where
-  first_sound : IsSound opening → Sound (log_of opening [])
-  first_sound sound = record {
-    one = subst HasOneHolder (sym (first_facts opening)) sound.one;
-    queued =
-        subst (λ (fs : List Fact). (run stage : ℕ) → ¬ (stage_start run stage fs ≡ None) →
-        ¬ (queueing run fs ≡ None)) (sym (first_facts opening)) sound.queued;
-    numbers = λ run there.
-        let was : ¬ (queueing run opening.facts ≡ None) =
-        subst (λ (fs : List Fact). ¬ (queueing run fs ≡ None)) (first_facts opening) there in
-        omega (arith, sound.numbers run was, first_last opening);
-  }
-
-  first_apart : AreApart opening.admin opening.facts →
-      AreApart (log_of opening []).admin (log_of opening []).facts
-  first_apart apart =
-      subst (λ (admin : Digest). AreApart admin (log_of opening []).facts)
-      (sym (admin_is opening []))
-      (subst (AreApart opening.admin) (sym (first_facts opening)) apart)
-
   module _ (laws : Laws) (stood : HasStood opening) (entries : List Entry) (legal : Legal opening
       entries)
       (change : ℕ) (numbers : Meta) (all : List Seen)
@@ -85,7 +58,7 @@ module _ (opening : Opening) where
         let roomed = room_all again alike laws opening entries stood.orderly stood.later (
           (
             (
-              first_sound stood.sound,
+              first_sound opening stood.sound,
               subst AreSaid (sym (first_facts opening)) stood.said,
               subst AreJobsInTime (sym (first_facts opening)) stood.jobs,
             ),
@@ -95,7 +68,7 @@ module _ (opening : Opening) where
           subst HaveRoom (sym (first_facts opening)) stood.room,
         ) legal in
         let planned = planned_all laws opening entries stood.orderly stood.later (
-          first_sound stood.sound,
+          first_sound opening stood.sound,
           subst ArePlanned (sym (first_facts opening)) stood.planned,
         ) legal in
         leave_nothing change (log_of opening entries) numbers all told is.are.ascend made is.good
@@ -108,9 +81,9 @@ module _ (opening : Opening) where
         counted)
         (kept_below (log_of opening entries) numbers planned
         (the_run change (log_of opening entries) numbers counted))
-        (apart_all laws opening entries stood.orderly stood.later (first_apart stood.apart) legal)
+        (apart_all laws opening entries stood.orderly stood.later (first_apart opening stood.apart) legal)
         (in_time_all laws opening entries stood.orderly stood.later (
-          first_sound stood.sound,
+          first_sound opening stood.sound,
           subst AreInTime (sym (first_facts opening)) stood.in_time,
         ) legal).1 planned.0.one
         roomed.0.0.2

@@ -84,8 +84,8 @@ Grants facts moment = (who : AgentSetting) (name : JobName) →
     NameBroken facts moment who name None → MayBeGiven facts who name
 
 -- no name is reserved, and no other principal has the token; what becomes exclusive isn't busy; a
--- run has the next number, and was compiled to what was made; a decision is about a stage of a
--- queued run; no stage starts or ends by a request
+-- run has the next number, and was compiled to what was made; a run that is canceled was queued; a
+-- decision is about a stage of a queued run; no stage starts or ends by a request
 abbrev pub Tells : Log → Made → Event → Type 0
 Tells log made (event.ResourceSet told) = busy log.facts told ≡ None
 Tells log made (event.PipelineSet told) = is told.name (codes "text") ≡ false
@@ -99,6 +99,7 @@ Tells log made (event.DecisionMade run stage approver approve) = (queued : Queue
 Tells log made (event.JobTaken run stage job agent) = IsTakenSo log.facts run stage job agent
 Tells log made (event.JobEnded outcome reported stage job run rule outputs) =
     (is_some reported ≡ true) × IsReportedSo log.facts run stage job
+Tells log made (event.RunCanceled run) = ¬ (queueing run log.facts ≡ None)
 Tells log made (event.StageStarted run stage) = ⊥
 Tells log made (event.StageEnded run stage outcome rule) = ⊥
 Tells log made _ = Unit {0}
@@ -159,7 +160,8 @@ module _ (log : Log) (made : Made) where
   run_canceled : (run : ℕ) → Fine log made (cancel log.facts run)
   run_canceled run = cond_by (Fine log made) (is_some (by run_told (queueing run log.facts))) _ _
       (λ e. cond_by (Fine log made) (is_some (canceling run log.facts)) _ _ (λ f. tt)
-      (λ f. cond_by (Fine log made) (is_open run log.facts) _ _ (λ g. tt) (λ g. tt))) (λ e. tt)
+      (λ f. cond_by (Fine log made) (is_open run log.facts) _ _ (λ g none. true≢false (sym e
+      ∙ ap (λ (o : Option Fact). is_some (by run_told o)) none)) (λ g. tt))) (λ e. tt)
 
   decided : (who : List ℕ) (run : ℕ) (stage : List ℕ) (approve : Bool) →
       Fine log made (decide log.facts who run stage approve)

@@ -1,3 +1,4 @@
+pub mod Below
 pub mod Free
 pub mod Holders
 pub mod Jobs
