@@ -4,3 +4,4 @@
 mod laws;
 
 pub use laws::opening_laws;
+pub use pl_opening::{compilations_can_run, seeing_laws};

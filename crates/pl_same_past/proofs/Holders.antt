@@ -5,7 +5,7 @@ use Rattle.std.proofs.Common.{subst, ◌∙◌, arith}
 use Rattle.std.proofs.lemmas.Bool.Decides.{nat_tests}
 use Rattle.std.specs.List.{AllByRecursion}
 use Rattle.std.specs.Option.{option_and_then, option_or}
-use Rattle.pl_never_torn.specs.Below.pl_granting.specs.Below.pl_due.proofs.Standing.{both, first_of_two, second_of_two}
+use Rattle.pl_opening_laws.specs.Below.pl_opening.specs.Below.pl_due.proofs.Standing.{both, first_of_two, second_of_two}
 use Rattle.pl_facts.specs.declared.fact.Event.{Event}
 use Rattle.pl_facts.specs.declared.fact.Event.TheVariants as event
 use Rattle.pl_facts.specs.declared.fact.Fact.{Fact}

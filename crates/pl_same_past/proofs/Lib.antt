@@ -1,7 +1,12 @@
 pub mod Again
+pub mod Fine
 pub mod Holders
 pub mod Keeping
+pub mod OfRows
 pub mod Pasts
+pub mod Rising
 pub mod Rooting
+pub mod Roots
 pub mod Shapes
+pub mod Standing
 pub mod Tokens

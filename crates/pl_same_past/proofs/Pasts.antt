@@ -4,7 +4,7 @@ use Rattle.std.proofs.Common.{None, append-nil, append_assoc, if◌then◌else�
 use Rattle.std.proofs.Common.{inl, inr, arith}
 use Rattle.std.specs.List.{AllByRecursion}
 use Rattle.pl_base.specs.declared.digest.Digest.{Digest}
-use Rattle.pl_never_torn.specs.Below.pl_granting.specs.Below.pl_due.specs.Due.{IsDue}
+use Rattle.pl_opening_laws.specs.Below.pl_opening.specs.Below.pl_due.specs.Due.{IsDue}
 use Rattle.pl_facts.specs.Sizes.{counted}
 use Rattle.pl_facts.specs.declared.entry.Entry.{Entry}
 use Rattle.pl_facts.specs.declared.fact.Fact.{Fact}
@@ -47,7 +47,7 @@ use Rattle.pl_same_past.proofs.Holders.{holder_same, HoldSo}
 use Rattle.pl_same_past.proofs.Keeping.{look_alike, IsBased}
 use Rattle.pl_same_past.proofs.Rooting.{rooted_keep, Rooted}
 use Rattle.pl_same_past.proofs.Tokens.{token_same}
-use Rattle.pl_never_torn.specs.Below.pl_granting.specs.Below.pl_settling.specs.Settles.{Settles}
+use Rattle.pl_opening_laws.specs.Below.pl_opening.specs.Below.pl_settling.specs.Settles.{Settles}
 use Rattle.pl_never_torn.specs.Below.pl_snapshots.specs.Snapshots.{of_text, Wants, WantsOrder}
 use Rattle.pl_never_torn.specs.Below.pl_snapshots.specs.declared.snapshot.Snapshot.{Snapshot}
 use Rattle.pl_never_torn.specs.Below.pl_sources.specs.Again.{CompilesToOne, SourcesCompileAgain}

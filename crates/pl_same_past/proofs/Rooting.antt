@@ -5,11 +5,11 @@ use Rattle.std.proofs.Common.{inl, inr}
 use Rattle.std.proofs.lemmas.List.Elements.{All-contains}
 use Rattle.std.specs.List.{AllByRecursion}
 use Rattle.std.specs.Option.{option_and_then, option_map_or, option_or}
-use Rattle.pl_never_torn.specs.Below.pl_granting.specs.Below.pl_due.specs.Contention.{IsEligible, IsOne}
-use Rattle.pl_never_torn.specs.Below.pl_granting.specs.Below.pl_due.specs.Due.{Among, IsDue, Next, Superseded}
-use Rattle.pl_never_torn.specs.Below.pl_granting.specs.Below.pl_due.specs.Kinds.{Fails, IsDone, IsPassedOver, JobIsPassedOver, TimesOut}
-use Rattle.pl_never_torn.specs.Below.pl_granting.specs.Below.pl_due.specs.Least.{IsLeastOf}
-use Rattle.pl_never_torn.specs.Below.pl_granting.specs.Below.pl_due.specs.Nodes.{has_had, IsStageOf}
+use Rattle.pl_opening_laws.specs.Below.pl_opening.specs.Below.pl_due.specs.Contention.{IsEligible, IsOne}
+use Rattle.pl_opening_laws.specs.Below.pl_opening.specs.Below.pl_due.specs.Due.{Among, IsDue, Next, Superseded}
+use Rattle.pl_opening_laws.specs.Below.pl_opening.specs.Below.pl_due.specs.Kinds.{Fails, IsDone, IsPassedOver, JobIsPassedOver, TimesOut}
+use Rattle.pl_opening_laws.specs.Below.pl_opening.specs.Below.pl_due.specs.Least.{IsLeastOf}
+use Rattle.pl_opening_laws.specs.Below.pl_opening.specs.Below.pl_due.specs.Nodes.{has_had, IsStageOf}
 use Rattle.pl_facts.specs.declared.fact.Event.{Event}
 use Rattle.pl_facts.specs.declared.fact.Event.TheVariants as event
 use Rattle.pl_facts.specs.declared.fact.Fact.{Fact}
@@ -40,8 +40,8 @@ use Rattle.pl_same_step.specs.Below.pl_same_lookups.proofs.Finding.{never}
 use Rattle.pl_same_past.specs.Rooted.{AreRooted, TakesOnce}
 use Rattle.pl_same_past.proofs.Shapes.{canceling_is, end_is, found_is, job_end_is, start_is, taking_is}
 use Rattle.pl_same_past.proofs.Shapes.{IsTaking}
-use Rattle.pl_never_torn.specs.Below.pl_granting.specs.Below.pl_settling.proofs.Behind.{touched, untouched}
-use Rattle.pl_never_torn.specs.Below.pl_granting.specs.Below.pl_settling.proofs.Giving.{gives, map_or_true}
+use Rattle.pl_opening_laws.specs.Below.pl_opening.specs.Below.pl_settling.proofs.Behind.{touched, untouched}
+use Rattle.pl_opening_laws.specs.Below.pl_opening.specs.Below.pl_settling.proofs.Giving.{gives, map_or_true}
 use Rattle.pl_never_torn.specs.Below.pl_views.specs.Ready.{job_is_ready}
 
 -- ---- what a fact stands on

@@ -6,7 +6,7 @@ use Rattle.std.specs.Cmp.Lexicographic.{same_text, texts_ties}
 use Rattle.std.specs.Option.{option_and_then, option_map}
 use Rattle.pl_base.specs.Files.{text_cmp}
 use Rattle.pl_base.specs.declared.outcome.Outcome.{Outcome}
-use Rattle.pl_never_torn.specs.Below.pl_granting.specs.Below.pl_due.proofs.Standing.{first_of_two, second_of_two}
+use Rattle.pl_opening_laws.specs.Below.pl_opening.specs.Below.pl_due.proofs.Standing.{first_of_two, second_of_two}
 use Rattle.pl_facts.specs.declared.fact.Event.{Event}
 use Rattle.pl_facts.specs.declared.fact.Event.TheVariants as event
 use Rattle.pl_facts.specs.declared.fact.Fact.{Fact}
