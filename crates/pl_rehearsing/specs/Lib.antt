@@ -1,0 +1,4 @@
+pub mod Asking
+pub mod Drawn
+pub mod Parts
+pub mod Rehearsal
