@@ -228,7 +228,7 @@ def memory(step=int(os.environ.get("STEP", "1"))):
         print(f"  status {status}, replies {statuses}, {more} runs more than told: {many} times")
 
 
-def costs(many=1000, turns=7):
+def costs(many=int(os.environ.get("TEXTS", "1000")), turns=int(os.environ.get("TURNS", "7"))):
     here, there = [], []
     for turn in range(turns):
         start = time.perf_counter()
@@ -258,7 +258,7 @@ def costs(many=1000, turns=7):
         there.append(time.perf_counter() - start)
         db.close()
     ratio = statistics.median(a / b for a, b in zip(here, there))
-    told("1,000 texts beside bare commits of their rows", ratio <= 1.2, "(by turns %.2f; seconds, median (least): here %.2f (%.2f), sqlite3 %.2f (%.2f))" % (
+    told(f"{many:,} texts beside bare commits of their rows", ratio <= 1.2, "(by turns %.2f; seconds, median (least): here %.2f (%.2f), sqlite3 %.2f (%.2f))" % (
         ratio, statistics.median(here), min(here), statistics.median(there), min(there)))
 
 
