@@ -62,17 +62,17 @@ fn serve_beside<
     seat: Seat<Service<MemKeeper>>,
     outsides: Four<Outside<L, MemClock>>,
     at: SocketAddr,
-) -> (Ended<MemKeeper, L, MemClock>, io::Result<Vec<u8>>)
+) -> (io::Result<Vec<u8>>, Ended<MemKeeper, L, MemClock>)
     requires free { IsFree hall.lock seat }
     requires none_out { AreIn L.tells outsides }
 {
     join(
         rt,
+        move || talk(rt, alloc, at),
         move || -> Ended<MemKeeper, L, MemClock>
             requires free { IsFree hall.lock seat }
             requires none_out { AreIn L.tells outsides }
         { serve(rt, alloc, hall, seat, outsides) },
-        move || talk(rt, alloc, at),
     )
 }
 
@@ -84,7 +84,7 @@ fn a_real_door_is_served(rt: HostRuntime) -> Result<(), Fail> {
     let door = TcpDoor::open(rt, alloc, "127.0.0.1:0")?;
     let at = door.address()?;
     let outsides = in_four(alloc, door)?;
-    let (ended, replies) = serve_beside(&rt, alloc, hall, seat, outsides, at);
+    let (replies, ended) = serve_beside(&rt, alloc, hall, seat, outsides, at);
     assert_eq!(rt; replies?.as_slice(), REPLIES);
     assert!(rt; ended.reasons.end() == Some(End::Stopped));
     Ok(())
