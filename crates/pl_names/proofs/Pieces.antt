@@ -109,21 +109,31 @@ last_one before piece sixteen =
 parted : (n : ℕ) (bytes end : List ℕ) → drop n bytes ≡ end → bytes ≡ take n bytes ++ end
 parted n bytes end is = sym (take-append-drop n bytes) ∙ ap (λ b. take n bytes ++ b) is
 
+-- a front of so many bytes, and the last ones with the one before them
+with_last : (bytes piece : List ℕ) (last m n : ℕ) → n < length bytes → length bytes ≤ m + n →
+    drop (length bytes - (n + 1)) bytes ≡ last ∷ piece →
+    (has_control_behind 0 (take m bytes) || has_control_behind last piece) ≡
+    has_control_behind 0 bytes
+with_last bytes piece last m n long short is =
+    let front = take (length bytes - (n + 1)) bytes in
+    covered_by ends_control same 0 last m (front ++ last ∷ []) piece bytes
+    (parted (length bytes - (n + 1)) bytes (last ∷ piece) is
+    ∙ sym (append_assoc front (last ∷ []) piece))
+    (omega (
+      arith,
+      length-append front (last ∷ []),
+      length-take (length bytes - (n + 1)) bytes,
+      long,
+      short,
+    ))
+    (sym (behind_both ends_control same 0 front (last ∷ [])))
+
 pub controls : (bytes piece : List ℕ) (last : ℕ) → 17 ≤ length bytes →
     drop (length bytes - 17) bytes ≡ last ∷ piece →
     (has_control_behind 0 (take (16 * (length bytes / 16)) bytes) ||
     has_control_behind last piece) ≡ has_control_behind 0 bytes
 controls bytes piece last long is =
-    let front = take (length bytes - 17) bytes in
-    covered_by ends_control same 0 last (16 * (length bytes / 16)) (front ++ last ∷ []) piece bytes
-    (parted (length bytes - 17) bytes (last ∷ piece) is ∙ sym (append_assoc front (last ∷ []) piece))
-    (omega (
-      arith,
-      length-append front (last ∷ []),
-      length-take (length bytes - 17) bytes,
-      long,
-    ))
-    (sym (behind_both ends_control same 0 front (last ∷ [])))
+    with_last bytes piece last (16 * (length bytes / 16)) 16 (omega (arith, long)) (omega arith) is
 
 -- ---- segments
 
@@ -191,6 +201,18 @@ controls_told bytes (last ∷ piece) long is =
     ap (λ p. has_control_behind 0 (take (16 * (length bytes / 16)) bytes) ||
     has_control_behind last p) (take_all (length (last ∷ piece) - 1) piece (omega arith))
     ∙ controls bytes piece last long (sym is)
+
+pub halves_told : (bytes end : List ℕ) → 9 ≤ length bytes → length bytes ≤ 16 →
+    end ≡ drop (length bytes - 9) bytes →
+    (has_control_behind 0 (take 8 bytes) ||
+    has_control_behind (get_or end 0 0) (take (length end - 1) (drop 1 end))) ≡
+    has_control_behind 0 bytes
+halves_told bytes [] long short is =
+    absurd (omega (arith, ap length is, length-drop (length bytes - 9) bytes, long))
+halves_told bytes (last ∷ piece) long short is =
+    ap (λ p. has_control_behind 0 (take 8 bytes) || has_control_behind last p)
+    (take_all (length (last ∷ piece) - 1) piece (omega arith))
+    ∙ with_last bytes piece last 8 8 (omega (arith, long)) (omega (arith, short)) (sym is)
 
 pub segments_told : (bytes end : List ℕ) → 19 ≤ length bytes →
     end ≡ drop (length bytes - 19) bytes →

@@ -29,13 +29,17 @@ pub fn is_label(text: &str) -> bool
 }
 
 /// Whether a text has a control character. Where it has more than 16 bytes it is told by pieces of
-/// them, and else, where all are printable ones of ASCII, without reading its characters.
+/// them, where it has more than 8 by two halves, and else, where all are printable ones of ASCII,
+/// without reading its characters.
 fn has_control(text: &str) -> bool
     ensures { result ≡ list_any is_control (chars text.now) }
 {
     let bytes = text.as_bytes();
     if bytes.len() > 16 {
         return have_control(bytes);
+    }
+    if bytes.len() > 8 {
+        return halves_have(bytes);
     }
     if are_printable(bytes) {
         return false;
@@ -65,6 +69,21 @@ fn have_control(bytes: &[u8]) -> bool
     let (_, end) = bytes.split_at(bytes.len() - 17);
     match end {
         [last, piece @ ..] => pieces_have(bytes) | piece_has(*last, piece),
+        [] => false,
+    }
+}
+
+/// Whether a control character ends at one of the bytes, which are from 9 to 16: the first 8 and the
+/// last 8 are looked at, of which some may be in both.
+fn halves_have(bytes: &[u8]) -> bool
+    requires long { 9 ≤ length bytes.now }
+    requires short { length bytes.now ≤ 16 }
+    ensures { result ≡ has_control_behind 0 bytes.now }
+{
+    let (front, _) = bytes.split_at(8);
+    let (_, end) = bytes.split_at(bytes.len() - 9);
+    match end {
+        [last, piece @ ..] => piece_has(0, front) | piece_has(*last, piece),
         [] => false,
     }
 }

@@ -15,3 +15,8 @@ returns-then-are_printable c =
     no_control c.args.text.now c.are_printable.result
     (c.are_printable.ensures ∙ ap (list_all is_printable) c.as_bytes-bytes.ensures.value)
     c.if-are_printable.true
+
+pub returns-then-bytes-gt8 : goal.returns-then-bytes-gt8
+returns-then-bytes-gt8 c =
+    c.halves_have.ensures ∙ ap (has_control_behind 0) c.as_bytes-bytes.ensures.value
+    ∙ told c.args.text.now c.utf8.text
