@@ -1,14 +1,16 @@
 ghost use Rattle.std.specs.Prelude.{◌≡◌, IfOk, map};
 ghost use Rattle.std.specs.Cmp.Lexicographic.{slice_cmp};
 ghost use Rattle.std.specs.List.{list_all, list_any};
+ghost use Rattle.std.specs.Option.{option_map};
 ghost use Rattle.std.specs.Ordering.{is_lt, nat_cmp};
 ghost use Rattle.pl_limits.specs.Limits.{are_capabilities, are_distinct, are_outputs, ascend};
 ghost use Rattle.pl_limits.specs.Limits.{follows, is_file_text, is_new, is_output, may_be_granted};
 ghost use Rattle.pl_limits.specs.Limits.{are_rising, by_bytes, by_length, rises, same_day};
 ghost use Rattle.pl_limits.specs.Limits.{same_text};
+ghost use Rattle.pl_limits.specs.Places.{are_apart};
 ghost use Rattle.pl_names.specs.Names.{is_name};
 
-use crate::places::displaced;
+use crate::places::{displaced, slices};
 use pl_base::{Bytes, List, Memory, Text};
 use pl_names::is_name;
 use pl_rules::Day;
@@ -105,22 +107,47 @@ fn is_output(told: &(Text, Text)) -> bool
 }
 
 /// Whether no text stands twice. Texts of which each is longer than the one before it, or as long
-/// and behind it byte by byte, are gone through once, without memory. Of others those whose places
-/// by their hashes another text has are sorted, and then each comes before the next.
+/// and behind it byte by byte, are gone through once, without memory. Of others those are sorted
+/// whose places by their hashes another text has, and of these again, and then each comes before
+/// the next.
 pub(crate) fn are_distinct_texts(alloc: Global, texts: &[Text]) -> Result<bool, Memory>
     ensures { IfOk result (λ are. are ≡ are_distinct same_text texts.now) }
 {
     if rise_by_length(texts) {
         return Ok(true);
     }
-    match displaced(alloc, texts)? {
-        Some(rest) => {
-            let mut sorted = rest;
-            sorted.sort()?;
-            Ok(rise_by_bytes(sorted.as_slice()))
-        }
+    match left_of(alloc, slices(alloc, texts)?)? {
+        Some(some) => match left_of(alloc, some)? {
+            Some(rest) => rise_sorted(rest),
+            None => Ok(false),
+        },
         None => Ok(false),
     }
+}
+
+/// Of texts those that a table of places leaves, all where they are too many for its numbers, or
+/// none where it shows that one stands twice. Of all of them none stands twice where none of those
+/// does.
+fn left_of<'a>(alloc: Global, texts: Vec<&'a str>) -> Result<Option<Vec<&'a str>>, Memory>
+    ensures { IfOk result (λ found.
+        are_apart (option_map (λ rest. map (λ text. text.now) rest.items) found) ≡
+        are_distinct same_text (map (λ text. text.now) texts.entry.items)) }
+{
+    if texts.len() < 4_294_967_296 {
+        displaced(alloc, texts.as_slice())
+    } else {
+        Ok(Some(texts))
+    }
+}
+
+/// Whether no text stands twice: they are sorted, and then each comes before the next.
+fn rise_sorted(texts: Vec<&str>) -> Result<bool, Memory>
+    ensures { IfOk result (λ are.
+        are ≡ are_distinct same_text (map (λ text. text.now) texts.entry.items)) }
+{
+    let mut sorted = texts;
+    sorted.sort()?;
+    Ok(rise_by_bytes(sorted.as_slice()))
 }
 
 /// Which text comes first: the shorter one, and of two of one length by their bytes.
