@@ -28,7 +28,7 @@ returns-then-eq c =
     let texts = c.args.texts.now in
     let i = l.at in
     let room = 4 * c.min.result + 1 in
-    let d : Bor (List ℕ) = record {ref_ptr = (0, 0); now = []} in
+    let d : Bor (List ℕ) = record { ref_ptr = (0, 0); now = [] } in
     let x = get_or texts i d in
     let first = c.in-Some.first in
     let at : c.place-here.result ≡ place room x.now = c.place-here.ensures.value in
@@ -57,7 +57,7 @@ loop-at-preserved c =
     let texts = c.args.texts.now in
     let i = l.at in
     let room = 4 * c.min.result + 1 in
-    let d : Bor (List ℕ) = record {ref_ptr = (0, 0); now = []} in
+    let d : Bor (List ℕ) = record { ref_ptr = (0, 0); now = [] } in
     let x = get_or texts i d in
     let new = c.match-numbered in
     let at : c.place-here.result ≡ place room x.now = c.place-here.ensures.value in
