@@ -1,3 +1,4 @@
 mod Fronts
+mod Numbers
 mod Rests
 mod Storing

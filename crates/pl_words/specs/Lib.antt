@@ -1,3 +1,4 @@
 pub mod Options
 pub mod Parameters
+pub mod Runs
 pub mod Words

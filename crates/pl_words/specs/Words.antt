@@ -9,8 +9,9 @@ use Rattle.pl_base.specs.declared.expanded.Argument.{Argument}
 use Rattle.pl_digests.specs.Digests.{digest_in, is_of_nothing}
 use Rattle.pl_words.specs.Options.{Given, are_once, has_equals, is_equals, is_word, options_of}
 use Rattle.pl_words.specs.Options.{value_of}
+use Rattle.pl_words.specs.Runs.{runs_in}
 use Rattle.pl_words.specs.declared.command.Command.{Command}
-use Rattle.pl_words.specs.declared.command.Command.TheVariants.{Compile, Replay, Serve}
+use Rattle.pl_words.specs.declared.command.Command.TheVariants.{Compile, Rehearse, Replay, Serve}
 
 -- ---- `replay --admin HEX`, and `--store PATH` or not
 
@@ -44,6 +45,16 @@ abbrev pub serve_of : List Given → Option Command
 serve_of options =
     if are_once (codes "--admin" ∷ codes "--listen" ∷ codes "--store" ∷ []) options then
     serve_at (admin_of options) (value_of (codes "--listen") options) (store_of options) else None
+
+-- ---- `rehearse --runs N`
+
+abbrev pub runs_of : List Given → Option ℕ
+runs_of options = option_and_then runs_in (value_of (codes "--runs") options)
+
+abbrev pub rehearse_of : List Given → Option Command
+rehearse_of options =
+    if are_once (codes "--runs" ∷ []) options then
+    option_map (λ runs. Rehearse runs) (runs_of options) else None
 
 -- ---- `compile`, and `--param NAME=TEXT` any number of times, each with another name
 
@@ -82,7 +93,9 @@ command_of (name ∷ words) =
     if is_word name (codes "replay") then option_and_then replay_of (options_of words)
     else (if is_word name (codes "compile") then
     option_map (λ arguments. Compile arguments) (arguments_of words)
-    else (if is_word name (codes "serve") then option_and_then serve_of (options_of words) else None))
+    else (if is_word name (codes "serve") then option_and_then serve_of (options_of words)
+    else (if is_word name (codes "rehearse") then
+    option_and_then rehearse_of (options_of words) else None)))
 
 -- the words are those of `compile` or of `serve`, or of `replay` with a store: these have texts,
 -- which take memory
@@ -91,4 +104,5 @@ TakesMemory (Some (Compile arguments)) = ⊤
 TakesMemory (Some (Serve admin address store)) = ⊤
 TakesMemory (Some (Replay admin (Some path))) = ⊤
 TakesMemory (Some (Replay admin None)) = ⊥
+TakesMemory (Some (Rehearse runs)) = ⊥
 TakesMemory None = ⊥

@@ -22,4 +22,8 @@ pub enum Command {
     Compile {
         arguments: List<Argument>,
     },
+    /// `rehearse --runs N`: rehearse so many generated runs on a service of its own.
+    Rehearse {
+        runs: u64,
+    },
 }

@@ -5,6 +5,7 @@ mod command;
 mod digest;
 mod options;
 mod parameters;
+mod runs;
 mod words;
 
 pub use command::Command;

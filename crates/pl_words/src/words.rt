@@ -3,26 +3,28 @@
 ghost use Rattle.std.specs.Prelude.{◌≡◌, Some, map, string_bytes, IfOk, OnErr};
 ghost use Rattle.std.specs.Option.{IfSome, IsSome, option_and_then, option_map};
 ghost use Rattle.pl_words.specs.Options.{options_of};
-ghost use Rattle.pl_words.specs.Words.{TakesMemory, admin_of, arguments_of, command_of, replay_of};
-ghost use Rattle.pl_words.specs.Words.{serve_of, store_of};
+ghost use Rattle.pl_words.specs.Words.{TakesMemory, admin_of, arguments_of, command_of};
+ghost use Rattle.pl_words.specs.Words.{rehearse_of, replay_of, runs_of, serve_of, store_of};
 ghost use Rattle.pl_words.specs.declared.command.Command.TheVariants.{Compile, Serve};
 
 use crate::command::Command;
 use crate::digest::digest;
 use crate::options::{are_once, value_of};
 use crate::parameters::{are_parameters, arguments};
+use crate::runs::runs_in;
 use pl_base::{Digest, Memory, Text};
 use std::alloc::Global;
 
 /// The command that the words are, if they are one.
 ///
 /// `replay` and the option `--admin`; `serve` and the options `--admin` and `--listen`; each of the
-/// two may have the option `--store` besides; or `compile` and, as often as wanted, the option
-/// `--param`, each time with another name. Options stand in any order, each once but `--param`. An
-/// option's value is the next word, which doesn't begin with `-`, or stands behind `=`. The value
-/// of `--param` is cut at its first `=`, and what stands before it is the name, which isn't empty.
-/// Memory where memory is wanting for the arguments of `compile`, the address of `serve`, or the
-/// path of a store.
+/// two may have the option `--store` besides; `rehearse` and the option `--runs`; or `compile` and,
+/// as often as wanted, the option `--param`, each time with another name. Options stand in any
+/// order, each once but `--param`. An option's value is the next word, which doesn't begin with
+/// `-`, or stands behind `=`. The value of `--runs` is a number from 1 to 4096, without a leading
+/// zero. That of `--param` is cut at its first `=`, and what stands before it is the name, which
+/// isn't empty. Memory where memory is wanting for the arguments of `compile`, the address of
+/// `serve`, or the path of a store.
 pub fn parse(alloc: Global, words: &[String]) -> Result<Option<Command>, Memory>
     ensures command { IfOk result
         (λ command. command ≡ command_of (map (λ word. string_bytes word) words.now)) }
@@ -33,6 +35,7 @@ pub fn parse(alloc: Global, words: &[String]) -> Result<Option<Command>, Memory>
         [name, options @ ..] if name.as_str() == "replay" => replay(alloc, options),
         [name, options @ ..] if name.as_str() == "compile" => compile(alloc, options),
         [name, options @ ..] if name.as_str() == "serve" => serve(alloc, options),
+        [name, options @ ..] if name.as_str() == "rehearse" => Ok(rehearse(options)),
         _ => Ok(None),
     }
 }
@@ -91,6 +94,28 @@ fn compile(alloc: Global, options: &[String]) -> Result<Option<Command>, Memory>
     }
     let arguments = arguments(alloc, options)?;
     Ok(Some(Command::Compile { arguments }))
+}
+
+/// The command `rehearse` with these options.
+fn rehearse(words: &[String]) -> Option<Command>
+    ensures { result ≡
+        option_and_then rehearse_of (options_of (map (λ word. string_bytes word) words.now)) }
+{
+    if !are_once(&["--runs"], words) {
+        return None;
+    }
+    match runs(words) {
+        Some(runs) => Some(Command::Rehearse { runs }),
+        None => None,
+    }
+}
+
+/// The number that the option `--runs` gives.
+fn runs(words: &[String]) -> Option<u64>
+    ensures { IfSome (options_of (map (λ word. string_bytes word) words.now))
+        (λ options. result ≡ runs_of options) }
+{
+    runs_in(value_of("--runs", words)?)
 }
 
 /// The command `serve` with these options.
