@@ -4,6 +4,7 @@ use Rattle.pl_listener.specs.Handles.{Handle}
 use Rattle.pl_sessions.specs.declared.answer.Answer.{Answer}
 use Rattle.pl_wire.specs.declared.message.Message.{Message}
 use Rattle.pl_worker.specs.Works.{Stand, Works, stand}
+use Rattle.pl_worker.specs.declared.crew.Worked.{Worked}
 use Rattle.pl_worker.specs.declared.post.Crew.{Crew}
 use Rattle.pl_worker.specs.declared.post.Post.{Post}
 use Rattle.pl_worker.specs.declared.why.Reasons.{Reasons}
@@ -23,6 +24,11 @@ module _ {D L C : Type 0} (coming : C → Option (ℕ → ℕ)) (tells : L → H
     pub second : IsIn crew.second
     pub third : IsIn crew.third
     pub fourth : IsIn crew.fourth
+
+  -- a worker that began at this post served its links, and left the post so, for its reason
+  abbrev pub HasWorked : (D → ℕ → Message → Answer → D → Type 0) → Post D L C → Worked D L C
+      → Type 0
+  HasWorked act old left = Works act (stand_of old) left.reason (stand_of left.post)
 
   -- each of the four served its links at its own post, and ended for its own reason
   pub record CrewWorks (act : D → ℕ → Message → Answer → D → Type 0) (old : Crew D L C)

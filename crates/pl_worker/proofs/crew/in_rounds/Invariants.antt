@@ -1,5 +1,5 @@
 use Rattle.pl_worker.proofs.Rounds.{CrewBetween}
-use Rattle.pl_worker.proofs.crew.serve_by_four.Given as goal
+use Rattle.pl_worker.proofs.crew.in_rounds.Given as goal
 
 -- so far each worker found the door closed, behind the links that it served
 abbrev pub invariant-loop : goal.invariant-loop

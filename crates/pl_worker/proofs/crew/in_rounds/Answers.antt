@@ -1,7 +1,7 @@
 use Rattle.std.proofs.Common.{rules, ◌≡◌, sym, ◌∙◌, None}
 use Rattle.pl_worker.proofs.Ending.{all_closed}
 use Rattle.pl_worker.proofs.Rounds.{before_all, last_round, one_more_round}
-use Rattle.pl_worker.proofs.crew.serve_by_four.Goals as goal
+use Rattle.pl_worker.proofs.crew.in_rounds.Goals as goal
 
 pub loop-init : goal.loop-init
 loop-init g c =
