@@ -32,6 +32,7 @@ fn answer_ask<R: Threads + Wait + Sync>(rt: &R, alloc: Global, out: &mut Answers
         out.line("%%% case ", name);
         match question {
             "replies" => answer_case(rt, alloc, out, case),
+            "rehearsals" => answer_rehearsal(rt, alloc, out, case),
             _ => out.line("%%% not read: ", question),
         }
     }
@@ -91,11 +92,44 @@ fn answer_session<R: Threads + Wait + Sync>(
     let code = run(rt, alloc, words.as_slice(), &mut outside).code();
     let written = outside.ends.sink.bytes();
     push_replies(alloc, out, written);
-    out.push("status ");
-    out.number(alloc, u64::from(code));
-    out.push("\n");
+    push_status(alloc, out, code);
     if !answered_again(rt, alloc, &session, code, written)? {
         out.push("otherwise when it is opened again behind each message\n");
     }
+    Ok(())
+}
+
+fn push_status(alloc: Global, out: &mut Answers, code: u8) {
+    out.push("status ");
+    out.number(alloc, u64::from(code));
+    out.push("\n")
+}
+
+/// Writes what a command writes that reads nothing, whose words a case is, and its status.
+fn answer_rehearsal<R: Threads + Wait + Sync>(
+    rt: &R,
+    alloc: Global,
+    out: &mut Answers,
+    case: &str,
+) {
+    if answer_words(rt, alloc, out, case).is_err() {
+        out.fail()
+    }
+}
+
+fn answer_words<R: Threads + Wait + Sync>(
+    rt: &R,
+    alloc: Global,
+    out: &mut Answers,
+    case: &str,
+) -> Result<(), Memory> {
+    let mut words = Vec::new(alloc);
+    for word in case.split(' ') {
+        words.push(String::from_str(alloc, word)?)?;
+    }
+    let mut outside = outside_of(alloc, &[], Moments::new(alloc), List::new(alloc))?;
+    let code = run(rt, alloc, words.as_slice(), &mut outside).code();
+    push_replies(alloc, out, outside.ends.sink.bytes());
+    push_status(alloc, out, code);
     Ok(())
 }

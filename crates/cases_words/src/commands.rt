@@ -54,7 +54,13 @@ fn write_store(out: &mut Text, store: &Option<Text>) -> Result<(), Memory> {
     out.push_str("\n")
 }
 
-/// Writes the command that the words of a line are, with its address and its store, or `none`.
+fn write_runs(alloc: Global, out: &mut Text, runs: u64) -> Result<(), Memory> {
+    let digits = runs.to_string(alloc)?;
+    write_line(out, "rehearse runs:", digits.as_str())
+}
+
+/// Writes the command that the words of a line are, with its address, its store and how many runs it
+/// rehearses, or `none`.
 pub fn answer_command(alloc: Global, out: &mut Text, line: &str) -> Result<(), Memory> {
     let words = words_of(alloc, line)?;
     match parse(alloc, &words)? {
@@ -74,6 +80,7 @@ pub fn answer_command(alloc: Global, out: &mut Text, line: &str) -> Result<(), M
             write_store(out, &store)
         }
         Some(Command::Compile { arguments: _ }) => write_line(out, "compile", ""),
+        Some(Command::Rehearse { runs }) => write_runs(alloc, out, runs),
         None => write_line(out, "none", ""),
     }
 }

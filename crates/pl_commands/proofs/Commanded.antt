@@ -6,11 +6,12 @@ use Rattle.pl_listener.specs.Handles.{Handle}
 use Rattle.pl_outfit.specs.Outside.{Outside}
 use Rattle.pl_outfit.specs.declared.status.Status.{Status}
 use Rattle.pl_outfit.specs.declared.status.Status.TheVariants as status
+use Rattle.pl_rehearse.specs.Rehearse.{Rehearses}
 use Rattle.pl_replaying.specs.Replaying.{Replays}
 use Rattle.pl_serving.specs.Serving.{Serves}
 use Rattle.pl_words.specs.Words.{TakesMemory}
 use Rattle.pl_words.specs.declared.command.Command.{Command}
-use Rattle.pl_words.specs.declared.command.Command.TheVariants.{Compile, Replay, Serve}
+use Rattle.pl_words.specs.declared.command.Command.TheVariants.{Compile, Rehearse, Replay, Serve}
 
 module _ {L C : Type 0} (coming : C → Option (ℕ → ℕ)) (tells : L → Handle)
     (command : Option Command) (admin : Digest) (store path : Option (List ℕ)) (old : Outside)
@@ -28,6 +29,13 @@ module _ {L C : Type 0} (coming : C → Option (ℕ → ℕ)) (tells : L → Han
       subst (λ told. Runs coming tells told old ends new) is
       (inr (subst (λ at. Serves coming tells admin address at old ends new) same serves))
 
+pub rehearse_is : {L C : Type 0} (coming : C → Option (ℕ → ℕ)) (tells : L → Handle)
+    (command : Option Command) (runs : ℕ) (old : Outside) (ends : Status) (new : Outside)
+    → Some (Rehearse runs) ≡ command → Rehearses runs old ends new
+    → Runs coming tells command old ends new
+rehearse_is coming tells command runs old ends new is rehearses =
+    subst (λ told. Runs coming tells told old ends new) is rehearses
+
 -- memory was wanting before anything was read or written
 pub before_all : {L C : Type 0} (coming : C → Option (ℕ → ℕ)) (tells : L → Handle)
     (command : Option Command) (old : Outside) → TakesMemory command
@@ -36,3 +44,4 @@ before_all coming tells None old takes = absurd takes
 before_all coming tells (Some (Replay admin path)) old takes = inl (refl, refl)
 before_all coming tells (Some (Serve admin address path)) old takes = inl (refl, refl)
 before_all coming tells (Some (Compile arguments)) old takes = inl (refl, refl)
+before_all coming tells (Some (Rehearse runs)) old takes = absurd takes

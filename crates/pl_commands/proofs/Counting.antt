@@ -22,6 +22,7 @@ use Rattle.pl_outfit.specs.Outside.{Outside}
 use Rattle.pl_outfit.specs.Stores.{handed_back, one_more_if}
 use Rattle.pl_outfit.specs.declared.status.Status.{Status}
 use Rattle.pl_outfit.specs.declared.status.Status.TheVariants as status
+use Rattle.pl_rehearse.specs.Rehearse.{WritesLine as WritesSummary}
 use Rattle.pl_replaying.specs.Replaying.{Replays, ReplaysAt, status_of}
 use Rattle.pl_serving.specs.Below.pl_serve.specs.declared.four.Four.{Four}
 use Rattle.pl_replaying.specs.Below.pl_service.specs.Begun.{Fails}
@@ -39,7 +40,7 @@ use Rattle.pl_replaying.specs.Below.pl_unopened.specs.Unopened.{HasNoStore, Tell
 use Rattle.pl_replaying.specs.Below.pl_unopened.specs.Unopened.{WritesLine, no_store_status}
 use Rattle.pl_replaying.specs.Below.pl_unopened.specs.Unopened.{torn_line, with_store}
 use Rattle.pl_words.specs.declared.command.Command.{Command}
-use Rattle.pl_words.specs.declared.command.Command.TheVariants.{Compile, Replay, Serve}
+use Rattle.pl_words.specs.declared.command.Command.TheVariants.{Compile, Rehearse, Replay, Serve}
 use Rattle.pl_worker.specs.Ends.{has_failed}
 use Rattle.pl_worker.specs.declared.why.End.{End}
 use Rattle.pl_worker.specs.declared.why.End.TheVariants as the_end
@@ -446,6 +447,32 @@ compiles_counted arguments old ends new c =
       doors = no_doors c.ended _ _ (ap (λ o. o.doors.faults) c.is);
     })
 
+-- ---- `rehearse`
+
+wrote_counted : (line : List ℕ) (old : Outside) (ends : Status) (new : Outside)
+    → WritesSummary line old ends new → AllCounted ends old new
+wrote_counted line old status.Finished new w = record {
+  reads = w.sends.reading.read_faults;
+  writes = w.sends.write_faults;
+  stores = inl (ap (λ o. o.stores.faults) w.is);
+  doors = (zero, ap (λ o. o.doors.faults) w.is);
+}
+wrote_counted line old status.WriteFault new w = record {
+  reads = w.sends.reading.read_faults;
+  writes = w.sends.write_faults;
+  stores = inl (ap (λ o. o.stores.faults) w.is);
+  doors = (zero, ap (λ o. o.doors.faults) w.is);
+}
+wrote_counted line old status.Memory new w = absurd w.sends
+wrote_counted line old status.Torn new w = absurd w.sends
+wrote_counted line old status.ReadFault new w = absurd w.sends
+wrote_counted line old status.Usage new w = absurd w.sends
+wrote_counted line old status.KeeperFault new w = absurd w.sends
+wrote_counted line old status.ListenerFault new w = absurd w.sends
+wrote_counted line old status.Refused new w = absurd w.sends
+wrote_counted line old status.NotWhole new w = absurd w.sends
+wrote_counted line old status.Spent new w = absurd w.sends
+
 -- ---- words that are no command, and words for which memory was wanting
 
 usage_counted : (old : Outside) (ends : Status) (new : Outside) → ShowsUsage old ends new
@@ -495,3 +522,5 @@ module _ {L C : Type 0} (coming : C → Option (ℕ → ℕ)) (tells : L → Han
       serves_counted coming tells admin address path old ends new s
   all_counted (Some (Compile arguments)) (inl lacks) = lacks_counted old ends new lacks
   all_counted (Some (Compile arguments)) (inr c) = compiles_counted arguments old ends new c
+  all_counted (Some (Rehearse runs)) (inl lacks) = lacks_counted old ends new lacks
+  all_counted (Some (Rehearse runs)) (inr r) = wrote_counted r.line old ends new r.writes

@@ -13,6 +13,7 @@ use Rattle.pl_offline.specs.declared.ending.Ending.TheVariants as ending
 use Rattle.pl_outfit.specs.Outside.{Outside}
 use Rattle.pl_outfit.specs.declared.status.Status.{Status}
 use Rattle.pl_outfit.specs.declared.status.Status.TheVariants as status
+use Rattle.pl_rehearse.specs.Rehearse.{Sends}
 use Rattle.pl_replaying.specs.Replaying.{status_of}
 use Rattle.pl_replaying.specs.Below.pl_service.specs.declared.fault.OpenFault.{OpenFault}
 use Rattle.pl_replaying.specs.Below.pl_service.specs.declared.fault.OpenFault.TheVariants as fault
@@ -24,7 +25,7 @@ use Rattle.pl_sessions.specs.declared.served.Served.{Served}
 use Rattle.pl_sessions.specs.declared.served.Served.TheVariants as served
 use Rattle.pl_replaying.specs.Below.pl_unopened.specs.Unopened.{Tells, WritesLine, no_store_status, torn_line, with_store}
 use Rattle.pl_words.specs.declared.command.Command.{Command}
-use Rattle.pl_words.specs.declared.command.Command.TheVariants.{Compile, Replay, Serve}
+use Rattle.pl_words.specs.declared.command.Command.TheVariants.{Compile, Rehearse, Replay, Serve}
 use Rattle.pl_worker.specs.declared.why.End.{End}
 use Rattle.pl_worker.specs.declared.why.End.TheVariants as the_end
 
@@ -104,6 +105,10 @@ compiled_finished arguments ending.Spent old new runs is = absurd (cc is)
 compiled_finished arguments ending.WriteFault old new runs is = absurd (cc is)
 compiled_finished arguments (ending.Memory passed) old new runs is = absurd (cc is)
 
+sent_usage : (line : List ℕ) (old : Outside) (ends : Status) (new : Outside)
+    → Sends line old ends new → ends ≡ status.Usage → ⊥
+sent_usage line old ends new sends is = subst (λ s. Sends line old s new) is sends
+
 -- ---- a run
 
 module _ {L C : Type 0} (coming : C → Option (ℕ → ℕ)) (tells : L → Handle) (old : Outside)
@@ -129,6 +134,8 @@ module _ {L C : Type 0} (coming : C → Option (ℕ → ℕ)) (tells : L → Han
       go (inr links) = end_usage links.serves.end (sym links.serves.ending_is ∙ is)
   is_command (Compile arguments) (inl lacks) is = absurd (cc (sym lacks.0 ∙ is))
   is_command (Compile arguments) (inr c) is = compiled_usage c.ended (sym c.ending_is ∙ is)
+  is_command (Rehearse runs) (inl lacks) is = absurd (cc (sym lacks.0 ∙ is))
+  is_command (Rehearse runs) (inr r) is = sent_usage r.line old ends new r.writes.sends is
 
   pub not_usage : (command : Option Command) → Runs coming tells command old ends new
       → ends ≡ status.Usage → command ≡ None
@@ -144,6 +151,7 @@ module _ {L C : Type 0} (coming : C → Option (ℕ → ℕ)) (tells : L → Han
       → ReadsToItsEnd command ends new.link
   to_its_end None runs = λ is. absurd (cc (sym runs.ending_is ∙ is))
   to_its_end (Some (Serve admin address path)) runs = tt
+  to_its_end (Some (Rehearse many)) runs = tt
   to_its_end (Some (Replay admin path)) (inl lacks) = λ is. absurd (cc (sym lacks.0 ∙ is))
   to_its_end (Some (Replay admin path)) (inr (inl none)) =
       λ is. absurd (no_store_finished none.failed (sym none.ending_is ∙ is))

@@ -10,12 +10,13 @@ use Rattle.pl_offline.specs.declared.ending.Ending.TheVariants as ending
 use Rattle.pl_outfit.specs.Outside.{Outside}
 use Rattle.pl_outfit.specs.declared.status.Status.{Status}
 use Rattle.pl_outfit.specs.declared.status.Status.TheVariants as status
+use Rattle.pl_rehearse.specs.Rehearse.{Rehearsed}
 use Rattle.pl_replaying.specs.Replaying.{Replays}
 use Rattle.pl_serving.specs.Serving.{Serves}
 use Rattle.pl_sessions.specs.Told.{Told, Writes, Begun, IsAtEnd}
 use Rattle.pl_streams.specs.Whole.{Inflow, Outflow}
 use Rattle.pl_words.specs.declared.command.Command.{Command}
-use Rattle.pl_words.specs.declared.command.Command.TheVariants.{Compile, Replay, Serve}
+use Rattle.pl_words.specs.declared.command.Command.TheVariants.{Compile, Rehearse, Replay, Serve}
 
 -- ---- words that are no command
 
@@ -75,9 +76,12 @@ module _ {L C : Type 0} (coming : C → Option (ℕ → ℕ)) (tells : L → Han
       LacksMemory old ends new ⊎ Serves coming tells admin address path old ends new
   Runs (Some (Compile arguments)) old ends new =
       LacksMemory old ends new ⊎ Compiles arguments old ends new
+  Runs (Some (Rehearse runs)) old ends new =
+      LacksMemory old ends new ⊎ Rehearsed runs old ends new
   Runs None old ends new = ShowsUsage old ends new
 
--- with 0 a source that is read was read to its end
+-- with 0 a source that is read was read to its end: `serve` and `rehearse` read none
 abbrev pub ReadsToItsEnd : Option Command → Status → Told → Type 0
 ReadsToItsEnd (Some (Serve admin address path)) ends link = Unit {0}
+ReadsToItsEnd (Some (Rehearse runs)) ends link = Unit {0}
 ReadsToItsEnd other ends link = ends ≡ status.Finished → IsAtEnd link

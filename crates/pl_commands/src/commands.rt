@@ -10,6 +10,7 @@ ghost use Rattle.pl_words.specs.Words.{command_of};
 use crate::compiling::compile;
 use crate::usage::usage;
 use pl_outfit::{Outfit, Status};
+use pl_rehearse::rehearse;
 use pl_replaying::replay;
 use pl_serving::serve_at;
 use pl_words::{Command, parse};
@@ -34,7 +35,9 @@ use std::thread::Threads;
 /// `compile`, with as many `--param NAME=TEXT` as wanted, writes what the bundle of the source
 /// compiles to: 0 where that is the plan's text, 8 where it is the line of a refusal, 9 where the
 /// source holds no bundle; 10, 1, 3 and 6 as before, and where memory was wanting since a budget
-/// was passed, people are told which. Other words are a usage line and 2.
+/// was passed, people are told which. `rehearse --runs N` rehearses N generated runs on a service of
+/// its own, and writes what they come to, as `runs N jobs J superseded S`: 0 where it was written, 3
+/// and 6 as before. Nothing is read then. Other words are a usage line and 2.
 pub fn run<R: Threads + Wait + Sync, O: Outfit>(
     rt: &R,
     alloc: Global,
@@ -86,6 +89,7 @@ fn ran<R: Threads + Wait + Sync, O: Outfit>(
             ),
         ) => serve_at(rt, alloc, admin, &address, store.as_ref(), outfit),
         Ok(Some(Command::Compile { arguments })) => compile(alloc, &arguments, outfit),
+        Ok(Some(Command::Rehearse { runs })) => rehearse(alloc, runs, outfit),
         Ok(None) => usage(outfit),
         Err(_) => Status::Memory,
     }

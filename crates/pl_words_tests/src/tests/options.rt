@@ -84,6 +84,19 @@ fn compiles_alike(alloc: Global, words: &[&str]) -> Result<bool, Fail> {
     }
 }
 
+/// Whether `rehearse` gets the number that `clap` reads.
+fn rehearses_alike(alloc: Global, words: &[&str]) -> Result<bool, Fail> {
+    let read = by_clap(alloc, &["runs"], words)?;
+    let all = owned(alloc, words)?;
+    match parse(alloc, &all)? {
+        Some(Command::Rehearse { runs }) => {
+            let digits = runs.to_string(alloc)?;
+            Ok(read.get_str("runs") == Some(digits.as_str()))
+        }
+        _ => Ok(false),
+    }
+}
+
 #[test]
 fn replay_has_the_values_that_clap_reads(rt: HostRuntime) -> Result<(), Fail> {
     let alloc = rt.alloc();
@@ -101,5 +114,13 @@ fn compile_has_the_values_that_clap_reads(rt: HostRuntime) -> Result<(), Fail> {
     assert!(rt; compiles_alike(alloc, &["compile"])?);
     assert!(rt; compiles_alike(alloc, &["compile", "--param", "a=b", "--param=c=d=e"])?);
     assert!(rt; compiles_alike(alloc, &["compile", "--param=c=d=e", "--param", "a=b"])?);
+    Ok(())
+}
+
+#[test]
+fn rehearse_has_the_value_that_clap_reads(rt: HostRuntime) -> Result<(), Fail> {
+    let alloc = rt.alloc();
+    assert!(rt; rehearses_alike(alloc, &["rehearse", "--runs", "4"])?);
+    assert!(rt; rehearses_alike(alloc, &["rehearse", "--runs=4096"])?);
     Ok(())
 }

@@ -1,9 +1,9 @@
 use Rattle.std.proofs.Common.{◌≡◌, Some, map, string_bytes}
 use Rattle.std.specs.Option.{option_copied}
-use Rattle.pl_commands.proofs.Commanded.{before_all, replay_is, serve_is}
+use Rattle.pl_commands.proofs.Commanded.{before_all, rehearse_is, replay_is, serve_is}
 use Rattle.pl_outfit.specs.Outfit.{outside}
 use Rattle.pl_words.specs.Words.{command_of}
-use Rattle.pl_words.specs.declared.command.Command.TheVariants.{Replay, Serve}
+use Rattle.pl_words.specs.declared.command.Command.TheVariants.{Rehearse, Replay, Serve}
 use Rattle.pl_commands.proofs.commands.ran.Goals as goal
 
 pub returns-in-Err : goal.returns-in-Err
@@ -46,3 +46,17 @@ returns-in-Ok-Some-Serve g c =
     (outside g.O.In.Source g.O.Out.Sink (g.O.Outfit.view c.serve_at.new.outfit))
     c.in-Ok-Some-Serve.address is
     c.as_ref-in-Ok-Some-Serve.ensures.value c.serve_at.ensures
+
+pub returns-in-Ok-Some-Rehearse : goal.returns-in-Ok-Some-Rehearse
+returns-in-Ok-Some-Rehearse g c =
+    let command = command_of (map (λ word. string_bytes word) c.args.words.now) in
+    let whole = c.in-Ok-Some-Rehearse.ensures.command in
+    let one = c.in-Ok-Some-Rehearse.field-0-is in
+    let two = c.in-Ok-Some-Rehearse.field-0-0-is in
+    let at_runs = c.in-Ok-Some-Rehearse.runs-is in
+    let is : Some (Rehearse c.in-Ok-Some-Rehearse.runs) ≡ command = cc in
+    rehearse_is g.O.Time.Clock.coming g.O.Door.Listener.tells command
+    c.in-Ok-Some-Rehearse.runs
+    (outside g.O.In.Source g.O.Out.Sink (g.O.Outfit.view c.args.outfit.now)) c.rehearse.result
+    (outside g.O.In.Source g.O.Out.Sink (g.O.Outfit.view c.rehearse.new.outfit)) is
+    c.rehearse.ensures
