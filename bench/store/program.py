@@ -5,7 +5,8 @@ Parts: `rows` (three texts are queued, and are there after the next opening), `t
 isn't taken over: status 4, nothing read, one line), `kills` (a replay killed at random moments: each run that was answered is
 there, at most one more, none in part), `full` (a full disk; needs root), `memory` (each call for memory of an opening and of two texts
 is refused alone, by bench/memory/refuse.c: what was acknowledged is there at the next opening, and nothing else but what a status
-of 6 leaves open), `costs` (1,000 texts beside 1,000 commits of the same rows by Python's sqlite3 at full syncs). Prints a line for each thing that was tried, and ends with 0 where all held. Works in a new
+of 6 leaves open), `costs` (1,000 texts beside 1,000 commits of the same rows by Python's sqlite3 at full syncs, as the disk is and where each sync takes 1, 5 and 10
+milliseconds more: slow.c), `counted` (the instructions of a text behind others; needs valgrind). Prints a line for each thing that was tried, and ends with 0 where all held. Works in a new
 folder below the current one.
 """
 import hashlib
@@ -13,6 +14,7 @@ import json
 import os
 import random
 import re
+import resource
 import shutil
 import signal
 import sqlite3
@@ -228,45 +230,75 @@ def memory(step=int(os.environ.get("STEP", "1"))):
         print(f"  status {status}, replies {statuses}, {more} runs more than told: {many} times")
 
 
-def costs(many=int(os.environ.get("TEXTS", "1000")), turns=int(os.environ.get("TURNS", "7"))):
-    here, there = [], []
+def preloaded():
+    """The library that makes syncs slower."""
+    here = os.path.dirname(os.path.abspath(__file__))
+    if not os.path.exists("slow.so"):
+        subprocess.run(["cc", "-O1", "-shared", "-fPIC", "-o", "slow.so", f"{here}/slow.c", "-ldl"], check=True)
+    return f"{os.getcwd()}/slow.so"
+
+
+def replayed(path, many, env):
+    """A replay of so many texts over a store, or one in memory without a path: the seconds by the clock and of the processor."""
+    words = [program, "replay", "--admin", admin] + (["--store", path] if path else [])
+    start, used = time.perf_counter(), resource.getrusage(resource.RUSAGE_CHILDREN)
+    end = subprocess.run(words, input=message("POST", "/texts", TEXT) * many, capture_output=True, env=env)
+    took, now = time.perf_counter() - start, resource.getrusage(resource.RUSAGE_CHILDREN)
+    if end.returncode != 0 or end.stdout.count(b"201 Created") != many:
+        raise SystemExit(repr(end)[:300])
+    return took, now.ru_utime + now.ru_stime - used.ru_utime - used.ru_stime
+
+
+def bare(store, new, env):
+    """The bare commits of a store's runs: the seconds by the clock and of the processor."""
+    here = os.path.dirname(os.path.abspath(__file__))
+    end = subprocess.run([sys.executable, "-B", f"{here}/bare.py", store, new], capture_output=True, env=env, check=True)
+    return tuple(map(float, end.stdout.split()))
+
+
+def beside(milliseconds, many, turns):
+    """A replay of texts over a store and the bare commits of its rows, by turns, where each sync takes so many milliseconds more."""
+    env = dict(os.environ, LD_PRELOAD=preloaded(), SLOW=str(round(milliseconds * 1000)))
+    here, there, memory, syncs = [], [], [], []
     for turn in range(turns):
-        start = time.perf_counter()
-        words = [program, "replay", "--admin", admin, "--store", f"cost-{turn}.db"]
-        end = subprocess.run(words, input=message("POST", "/texts", TEXT) * many, capture_output=True)
-        here.append(time.perf_counter() - start)
-        if end.returncode != 0 or end.stdout.count(b"201 Created") != many:
-            return told("a replay of texts", False, repr(end)[:300])
-        db = sqlite3.connect(f"cost-{turn}.db")
-        kept = {place: body for place, body in db.execute("SELECT place, body FROM pallwethig_rows_1")}
-        db.close()
-        runs = sorted(it for it in kept if it[0] == 6)
-        others = [[] for _ in runs]
-        for place in kept:
-            if place[0] > 6:
-                others[int.from_bytes(place[1:9], "big") - 1].append(place)
-        db = sqlite3.connect(f"bare-{turn}.db", isolation_level=None)
-        db.execute("PRAGMA journal_mode=WAL")
-        db.execute("PRAGMA synchronous=FULL")
-        db.execute("CREATE TABLE pallwethig_rows_1 (place BLOB NOT NULL PRIMARY KEY, body BLOB NOT NULL) STRICT")
-        start = time.perf_counter()
-        for run, more in zip(runs, others):
-            db.execute("BEGIN IMMEDIATE")
-            for place in (run, *more, b"\0"):
-                db.execute("INSERT OR REPLACE INTO pallwethig_rows_1 VALUES (?1, ?2)", (place, kept[place]))
-            db.execute("COMMIT")
-        there.append(time.perf_counter() - start)
-        db.close()
-    ratio = statistics.median(a / b for a, b in zip(here, there))
-    told(f"{many:,} texts beside bare commits of their rows", ratio <= 1.2, "(by turns %.2f; seconds, median (least): here %.2f (%.2f), sqlite3 %.2f (%.2f))" % (
-        ratio, statistics.median(here), min(here), statistics.median(there), min(there)))
+        name = f"{milliseconds}-{turn}.db"
+        here.append(replayed(f"cost-{name}", many, dict(env, SYNCED="here.syncs")))
+        there.append(bare(f"cost-{name}", f"bare-{name}", dict(env, SYNCED="bare.syncs")))
+        memory.append(replayed(None, many, env))
+        syncs = [int(open(f"{it}.syncs", encoding="ascii").read()) for it in ("here", "bare")]
+    ratio = statistics.median(a[0] / b[0] for a, b in zip(here, there))
+
+    def spelled(times):
+        return "%.2f (least %.2f, of the processor %.2f)" % (statistics.median(it[0] for it in times), min(it[0] for it in times), statistics.median(it[1] for it in times))
+
+    told(f"{many:,} texts beside bare commits of their rows, each sync {milliseconds} ms more", ratio <= 1.2,
+         f"(by turns {ratio:.2f}; median seconds: here {spelled(here)} with {syncs[0]} syncs, in memory {spelled(memory)}, sqlite3 {spelled(there)} with {syncs[1]} syncs)")
+
+
+def costs(many=int(os.environ.get("TEXTS", "1000")), turns=int(os.environ.get("TURNS", "7"))):
+    for milliseconds in map(float, os.environ.get("SLOWER", "0 1 5 10").split()):
+        beside(milliseconds, many, turns if milliseconds < 1 else min(turns, 3))
+
+
+def instructions(path, many):
+    """What callgrind counts of a replay of so many texts."""
+    words = ["valgrind", "--tool=callgrind", "--callgrind-out-file=callgrind", program, "replay", "--admin", admin] + (["--store", path] if path else [])
+    end = subprocess.run(words, input=message("POST", "/texts", TEXT) * many, capture_output=True)
+    return int(re.search(rb"Collected : (\d+)", end.stderr)[1])
+
+
+def counted(few=20, many=60):
+    """The instructions of a text behind others, in memory and over a store."""
+    memory = (instructions(None, many) - instructions(None, few)) // (many - few)
+    store = (instructions("many.db", many) - instructions("few.db", few)) // (many - few)
+    print(f"instructions of a text: in memory {memory:,}, over a store {store:,}", flush=True)
 
 
 work = tempfile.mkdtemp(prefix="store-", dir=".")
 os.chdir(work)
 try:
     for part in sys.argv[2:]:
-        {"rows": rows, "two": two, "refusals": refusals, "kills": kills, "full": full, "memory": memory, "costs": costs}[part]()
+        {"rows": rows, "two": two, "refusals": refusals, "kills": kills, "full": full, "memory": memory, "costs": costs, "counted": counted}[part]()
 finally:
     os.chdir("..")
     shutil.rmtree(work)

@@ -3,11 +3,12 @@
 
 Parts: `refusals` (what is taken and what is refused, with the reason, and that a refused file stays), `kills` (a child killed
 at 200 random moments), `two` (two programs on one store), `full` (a full disk; needs root, for a small file system), `costs`
-(commits beside Python's sqlite3, and an opening of many rows). Prints a line for each thing that was tried, and ends with 0
+(commits beside Python's sqlite3, and an opening of many rows beside its SELECT and Python's decoding of them). Prints a line for each thing that was tried, and ends with 0
 where all held. Works in a new folder below the current one.
 """
 import os
 import random
+import resource
 import shutil
 import signal
 import sqlite3
@@ -18,6 +19,10 @@ import tempfile
 import time
 
 from cases import FULL, LOCKED, made, openings, ours
+
+TOP = os.path.dirname(os.path.dirname(os.path.dirname(os.path.abspath(__file__))))
+sys.path.append(f"{TOP}/bench/rows")
+from ended import record_of, rows
 
 program = os.path.abspath(sys.argv[1])
 failed = 0
@@ -183,6 +188,16 @@ def timed(work):
     return time.perf_counter() - start
 
 
+def worked(work):
+    """The processor time of the children of some work."""
+    def used():
+        it = resource.getrusage(resource.RUSAGE_CHILDREN)
+        return it.ru_utime + it.ru_stime
+    start = used()
+    work()
+    return used() - start
+
+
 def commits(turns=60, many=25):
     sides = (Commits("cost.db"), Python("cost-python.db"))
     times = ([], [])
@@ -197,27 +212,47 @@ def commits(turns=60, many=25):
     told("commits beside sqlite3's", rates[0] >= 0.9, "(by turns %.2f of its rate, in all %.2f, at best %.2f)" % tuple(rates))
 
 
-def opening(runs=10000):
-    side = Commits("many.db")
-    side.make(runs - 1)
-    side.close()
+def filled(path, kept):
+    """A database of these rows, by Python's sqlite3."""
+    db = sqlite3.connect(path, isolation_level=None)
+    db.execute("PRAGMA journal_mode=WAL")
+    db.execute(ours)
+    db.execute("BEGIN")
+    db.executemany("INSERT INTO pallwethig_rows_1 (place, body) VALUES (?1, ?2)", ((bytes([table]) + key, body) for table, key, body in kept))
+    db.execute("COMMIT")
+    db.close()
+
+
+def selected(path):
+    db = sqlite3.connect(path)
+    rows = [(place[0], place[1:], body) for place, body in db.execute("SELECT place, body FROM pallwethig_rows_1 ORDER BY place")]
+    db.close()
+    return rows
+
+
+def opening(runs=int(os.environ.get("RUNS", "10000")), turns=int(os.environ.get("TURNS", "7"))):
+    """Opening a store, reading its rows and decoding each into a record, beside Python's SELECT of the same rows and their decoding, by processor time. The rows are those of ended runs of the example."""
+    kept = rows(runs, TOP)
+    filled("many.db", kept)
+    assert run("many.db", "records").stdout == b"%d\n" % len(kept)
     run("none.db", "count")
-
-    def read():
-        db = sqlite3.connect("many.db")
-        rows = [(place[0], place[1:], body) for place, body in db.execute(
-            "SELECT place, body FROM pallwethig_rows_1 ORDER BY place")]
-        assert len(rows) == 2 * runs + 1
-        db.close()
-
-    here, there = [], []
-    for _ in range(7):
-        base = timed(lambda: run("none.db", "count"))
-        here.append(timed(lambda: run("many.db", "count")) - base)
-        there.append(timed(read))
-    ratio = statistics.median(here) / statistics.median(there)
-    told("opening many rows", ratio <= 1.5, "(%d rows: here %.1f ms, sqlite3's SELECT %.1f ms, ratio %.2f)" % (
-        2 * runs + 1, statistics.median(here) * 1e3, statistics.median(there) * 1e3, ratio))
+    times = {name: [] for name in ("count", "records", "select", "decode")}
+    for _ in range(turns):
+        base = worked(lambda: run("none.db", "count"))
+        for what in ("count", "records"):
+            times[what].append(worked(lambda: run("many.db", what)) - base)
+        start = time.process_time()
+        found = selected("many.db")
+        middle = time.process_time()
+        records = [record_of(*row) for row in found]
+        times["decode"].append(time.process_time() - middle)
+        times["select"].append(middle - start)
+        assert len(records) == len(kept)
+        del found, records
+    mid = {name: statistics.median(all_of) * 1e3 for name, all_of in times.items()}
+    here, there = mid["records"], mid["select"] + mid["decode"]
+    told("opening many rows and decoding them", here <= 1.5 * there, "(%d rows of %.1f MB; milliseconds of the processor: opened and told %.0f, decoded too %.0f; sqlite3's SELECT %.0f, decoded by Python %.0f; ratio %.2f, beside the SELECT alone %.2f)" % (
+        len(kept), sum(len(key) + len(body) for _, key, body in kept) / 1e6, mid["count"], here, mid["select"], mid["decode"], here / there, mid["count"] / mid["select"]))
 
 
 def costs():
@@ -230,7 +265,7 @@ os.chmod(work, 0o777)
 os.chdir(work)
 try:
     for part in sys.argv[2:]:
-        {"refusals": refusals, "kills": kills, "two": two, "full": full, "costs": costs}[part]()
+        {"refusals": refusals, "kills": kills, "two": two, "full": full, "costs": costs, "commits": commits, "opening": opening}[part]()
 finally:
     os.chdir("..")
     shutil.rmtree(work)
