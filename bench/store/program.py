@@ -29,6 +29,8 @@ from cases import openings
 program = os.path.abspath(sys.argv[1])
 admin = hashlib.sha256(b"abc").hexdigest()
 TEXT = b"steps:\n- script: echo hi\n"
+# The run of it ends as it is queued.
+SKIPPED = b"stages:\n- stage: A\n  condition: false\n  jobs:\n  - job: J\n    steps:\n    - script: echo hi\n"
 failed = 0
 
 
@@ -238,11 +240,11 @@ def preloaded():
     return f"{os.getcwd()}/slow.so"
 
 
-def replayed(path, many, env):
-    """A replay of so many texts over a store, or one in memory without a path: the seconds by the clock and of the processor."""
+def replayed(path, text, many, env):
+    """A replay of so many of a text over a store, or one in memory without a path: the seconds by the clock and of the processor."""
     words = [program, "replay", "--admin", admin] + (["--store", path] if path else [])
     start, used = time.perf_counter(), resource.getrusage(resource.RUSAGE_CHILDREN)
-    end = subprocess.run(words, input=message("POST", "/texts", TEXT) * many, capture_output=True, env=env)
+    end = subprocess.run(words, input=message("POST", "/texts", text) * many, capture_output=True, env=env)
     took, now = time.perf_counter() - start, resource.getrusage(resource.RUSAGE_CHILDREN)
     if end.returncode != 0 or end.stdout.count(b"201 Created") != many:
         raise SystemExit(repr(end)[:300])
@@ -256,42 +258,44 @@ def bare(store, new, env):
     return tuple(map(float, end.stdout.split()))
 
 
-def beside(milliseconds, many, turns):
+def beside(name, text, milliseconds, many, turns):
     """A replay of texts over a store and the bare commits of its rows, by turns, where each sync takes so many milliseconds more."""
     env = dict(os.environ, LD_PRELOAD=preloaded(), SLOW=str(round(milliseconds * 1000)))
     here, there, memory, syncs = [], [], [], []
     for turn in range(turns):
-        name = f"{milliseconds}-{turn}.db"
-        here.append(replayed(f"cost-{name}", many, dict(env, SYNCED="here.syncs")))
-        there.append(bare(f"cost-{name}", f"bare-{name}", dict(env, SYNCED="bare.syncs")))
-        memory.append(replayed(None, many, env))
+        path = f"{milliseconds}-{turn}-{len(text)}.db"
+        here.append(replayed(f"cost-{path}", text, many, dict(env, SYNCED="here.syncs")))
+        there.append(bare(f"cost-{path}", f"bare-{path}", dict(env, SYNCED="bare.syncs")))
+        memory.append(replayed(None, text, many, env))
         syncs = [int(open(f"{it}.syncs", encoding="ascii").read()) for it in ("here", "bare")]
     ratio = statistics.median(a[0] / b[0] for a, b in zip(here, there))
 
     def spelled(times):
         return "%.2f (least %.2f, of the processor %.2f)" % (statistics.median(it[0] for it in times), min(it[0] for it in times), statistics.median(it[1] for it in times))
 
-    told(f"{many:,} texts beside bare commits of their rows, each sync {milliseconds} ms more", ratio <= 1.2,
+    told(f"{many:,} texts {name} beside bare commits of their rows, each sync {milliseconds} ms more", ratio <= 1.2,
          f"(by turns {ratio:.2f}; median seconds: here {spelled(here)} with {syncs[0]} syncs, in memory {spelled(memory)}, sqlite3 {spelled(there)} with {syncs[1]} syncs)")
 
 
 def costs(many=int(os.environ.get("TEXTS", "1000")), turns=int(os.environ.get("TURNS", "7"))):
     for milliseconds in map(float, os.environ.get("SLOWER", "0 1 5 10").split()):
-        beside(milliseconds, many, turns if milliseconds < 1 else min(turns, 3))
+        for name, text in (("whose runs stay open", TEXT), ("whose runs end at once", SKIPPED)):
+            beside(name, text, milliseconds, many, turns if milliseconds < 1 else min(turns, 3))
 
 
-def instructions(path, many):
-    """What callgrind counts of a replay of so many texts."""
+def instructions(path, text, many):
+    """What callgrind counts of a replay of so many of a text."""
     words = ["valgrind", "--tool=callgrind", "--callgrind-out-file=callgrind", program, "replay", "--admin", admin] + (["--store", path] if path else [])
-    end = subprocess.run(words, input=message("POST", "/texts", TEXT) * many, capture_output=True)
+    end = subprocess.run(words, input=message("POST", "/texts", text) * many, capture_output=True)
     return int(re.search(rb"Collected : (\d+)", end.stderr)[1])
 
 
 def counted(few=20, many=60):
     """The instructions of a text behind others, in memory and over a store."""
-    memory = (instructions(None, many) - instructions(None, few)) // (many - few)
-    store = (instructions("many.db", many) - instructions("few.db", few)) // (many - few)
-    print(f"instructions of a text: in memory {memory:,}, over a store {store:,}", flush=True)
+    for name, text in (("whose run stays open", TEXT), ("whose run ends at once", SKIPPED)):
+        memory = (instructions(None, text, many) - instructions(None, text, few)) // (many - few)
+        store = (instructions(f"many-{len(text)}.db", text, many) - instructions(f"few-{len(text)}.db", text, few)) // (many - few)
+        print(f"instructions of a text {name}, behind {few} to {many} others: in memory {memory:,}, over a store {store:,}", flush=True)
 
 
 work = tempfile.mkdtemp(prefix="store-", dir=".")
