@@ -2,19 +2,22 @@
    there were, once the program ends. */
 #define _GNU_SOURCE
 #include <dlfcn.h>
+#include <stdatomic.h>
 #include <stdio.h>
 #include <stdlib.h>
+#include <sys/syscall.h>
 #include <time.h>
+#include <unistd.h>
 
 static long more = -1;
-static unsigned long many;
+static atomic_long many;
 
 static int slowly(const char *name, int file) {
     if (more < 0) {
         const char *text = getenv("SLOW");
         more = text ? atol(text) : 0;
     }
-    many++;
+    atomic_fetch_add(&many, 1);
     if (more > 0) {
         struct timespec time = {more / 1000000, more % 1000000 * 1000};
         nanosleep(&time, NULL);
@@ -30,7 +33,14 @@ __attribute__((destructor)) static void tell(void) {
     const char *path = getenv("SYNCED");
     FILE *out = path ? fopen(path, "w") : NULL;
     if (out) {
-        fprintf(out, "%lu\n", many);
+        fprintf(out, "%ld\n", atomic_load(&many));
         fclose(out);
     }
+}
+
+/* A build that isn't proved ends so, past the destructor. */
+void _exit(int status) {
+    tell();
+    syscall(SYS_exit_group, status);
+    __builtin_unreachable();
 }
