@@ -8,7 +8,8 @@ ghost use Rattle.pl_bundle.specs.Taking.{IsOpened, Takes, file_in};
 use crate::bundle::Bundle;
 use crate::head::{Head, head_of, key_at};
 use crate::lines::first_line;
-use pl_base::{Bytes, FileKey, FileSet, Memory};
+use pl_base::{Bytes, FileKey, Memory};
+use pl_file_sets::SharedFiles;
 use std::alloc::Global;
 
 /// How many files a bundle may have. More are want of memory.
@@ -62,7 +63,7 @@ fn open_file(bytes: &[u8]) -> Option<Opened<'_>>
 fn take_file<'a>(
     alloc: Global,
     opened: &Opened<'a>,
-    texts: &mut FileSet,
+    texts: &mut SharedFiles,
 ) -> Result<Option<&'a [u8]>, Memory>
     ensures { IfOk result (λ rest. Takes (file_in opened.now) opened.now.rest.now texts.old
         texts.new rest) }
@@ -79,7 +80,7 @@ fn place<'a>(
     alloc: Global,
     key: FileKey,
     opened: &Opened<'a>,
-    texts: &mut FileSet,
+    texts: &mut SharedFiles,
 ) -> Result<Option<&'a [u8]>, Memory>
     requires readable { Some key ≡ readable_key (file_in opened.now).0 }
     ensures { IfOk result (λ rest. Takes (file_in opened.now) opened.now.rest.now texts.old
@@ -88,13 +89,13 @@ fn place<'a>(
     if texts.get(&key).is_some() {
         return Ok(None);
     }
-    texts.put(key, Bytes::from_slice(alloc, opened.body)?)?;
+    texts.put_text(alloc, key, Bytes::from_slice(alloc, opened.body)?)?;
     Ok(Some(opened.rest))
 }
 
 /// Puts all files, and says whether each has a key of its own that keeps the rules. Memory where
 /// there are more than `MOST_FILES`.
-fn take_files(alloc: Global, bytes: &[u8], texts: &mut FileSet) -> Result<bool, Memory>
+fn take_files(alloc: Global, bytes: &[u8], texts: &mut SharedFiles) -> Result<bool, Memory>
     requires { (files_in (lines_of bytes.now)).0 ≡ [] }
     ensures { IfOk result (λ are_good. placed texts.old (files_in (lines_of bytes.now)).1 ≡
         if are_good then Some texts.new else None) }
@@ -122,7 +123,7 @@ fn of_files(alloc: Global, bytes: &[u8], opened: &Opened<'_>) -> Result<Option<B
     let Some(root) = key_at(alloc, &opened.head)? else {
         return Ok(None);
     };
-    let mut files = FileSet::new(alloc);
+    let mut files = SharedFiles::new(alloc);
     if take_files(alloc, bytes, &mut files)? {
         Ok(Some(Bundle { root, files }))
     } else {

@@ -10,10 +10,9 @@ ghost use Rattle.pl_compile.specs.Tracing.{ComeThrough};
 use crate::copying::judge_copies;
 use crate::expanding::expanded;
 use crate::fault::CompileFault;
-use pl_base::{
-    Argument, Bytes, ExactCopy, Expanded, FileKey, FileSet, List, Memory, Place, Refusal, Text,
-};
+use pl_base::{Argument, Bytes, ExactCopy, Expanded, FileKey, List, Memory, Place, Refusal, Text};
 use pl_budgets::Meter;
+use pl_file_sets::SharedFiles;
 use pl_plan::{Compiled, Plan, PlanCode, PlanFault, Sources, plan_of};
 use pl_schema::{Pipeline, SchemaCode, SchemaFault, pipeline_of};
 use std::alloc::Global;
@@ -93,7 +92,7 @@ fn tree_planned(alloc: Global, meter: &Meter, whole: &Expanded) -> Result<Plan, 
 fn push_text(
     alloc: Global,
     texts: &mut List<(FileKey, Bytes)>,
-    files: &FileSet,
+    files: &SharedFiles,
     key: &FileKey,
 ) -> Result<(), Memory>
     ensures { OnOk result
@@ -112,7 +111,7 @@ fn push_text(
 fn push_texts(
     alloc: Global,
     texts: &mut List<(FileKey, Bytes)>,
-    files: &FileSet,
+    files: &SharedFiles,
     keys: &[FileKey],
 ) -> Result<(), Memory>
     ensures { OnOk result (texts.new ≡ texts.old ++ texts_of files.now keys.now) }
@@ -126,7 +125,7 @@ fn push_texts(
 /// What a plan was compiled from.
 fn sources_of(
     alloc: Global,
-    files: &FileSet,
+    files: &SharedFiles,
     root: &FileKey,
     arguments: &List<Argument>,
     used: &List<FileKey>,
@@ -151,7 +150,7 @@ fn sources_of(
 pub fn compile_within(
     alloc: Global,
     meter: &Meter,
-    files: &FileSet,
+    files: &SharedFiles,
     root: &FileKey,
     arguments: &List<Argument>,
 ) -> Result<Compiled, CompileFault>
@@ -194,7 +193,7 @@ pub fn compile_within(
 /// "Security through templates").
 pub fn compile(
     alloc: Global,
-    files: &FileSet,
+    files: &SharedFiles,
     root: &FileKey,
     arguments: &List<Argument>,
 ) -> Result<Compiled, CompileFault>

@@ -17,9 +17,10 @@ ghost use Rattle.pl_compile.specs.Refusals.{Tells};
 use crate::fault::CompileFault;
 use crate::refusing::refusal_of;
 use crate::text_files::TextFiles;
-use pl_base::{Argument, Expanded, FileKey, FileSet, List};
+use pl_base::{Argument, Expanded, FileKey, List};
 use pl_budgets::Meter;
 use pl_directives::ExpandFault;
+use pl_file_sets::SharedFiles;
 use pl_step_origins::expand;
 use std::alloc::Global;
 
@@ -60,7 +61,7 @@ fn told(alloc: Global, expanded: Result<Expanded, ExpandFault>) -> Result<Expand
 pub fn expanded(
     alloc: Global,
     meter: &Meter,
-    files: &FileSet,
+    files: &SharedFiles,
     root: &FileKey,
     arguments: &List<Argument>,
 ) -> Result<Expanded, CompileFault>

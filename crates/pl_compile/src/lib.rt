@@ -15,3 +15,4 @@ pub use compiling::{compile, compile_within};
 pub use expanding::expanded;
 pub use fault::CompileFault;
 pub use laws::places_name_their_file;
+pub use pl_file_sets::SharedFiles;

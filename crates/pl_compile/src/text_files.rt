@@ -3,8 +3,9 @@ ghost use Rattle.std.specs.FinMap as finite;
 ghost use Rattle.pl_step_origins.specs.Below.pl_expand.specs.Below.pl_root.specs.Reading.{parsed};
 ghost use Rattle.pl_compile.specs.Reading.{AreOf, read_all};
 
-use pl_base::{ExactCopy, FileKey, FileSet, Memory, Shared};
+use pl_base::{ExactCopy, FileKey, Memory, Shared};
 use pl_budgets::{Budget, Meter};
+use pl_file_sets::SharedFiles;
 use pl_step_origins::{Files, MemFiles, Parsed};
 use std::alloc::Global;
 use std::marker::Model;
@@ -13,7 +14,7 @@ use std::marker::Model;
 #[derive(Drop)]
 pub(crate) struct TextFiles<'a> {
     meter: &'a Meter,
-    texts: &'a FileSet,
+    texts: &'a SharedFiles,
     read: MemFiles,
 }
 
@@ -54,7 +55,7 @@ fn put(
 
 impl<'a> TextFiles<'a> {
     /// The files of these texts, of which none is read yet. The meter tells where no more are read.
-    pub(crate) fn new(alloc: Global, meter: &'a Meter, texts: &'a FileSet) -> TextFiles<'a>
+    pub(crate) fn new(alloc: Global, meter: &'a Meter, texts: &'a SharedFiles) -> TextFiles<'a>
         ensures { result ≡ texts.now }
     {
         TextFiles {

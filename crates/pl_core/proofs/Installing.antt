@@ -19,6 +19,9 @@ use Rattle.pl_journal.specs.Log.{Log, version}
 use Rattle.pl_journal.specs.Log as journal
 use Rattle.pl_log.specs.Latest.{latest}
 use Rattle.pl_history.specs.Below.pl_step.specs.Full.{back, with_facts}
+use Rattle.pl_snapshots.proofs.FactByFact.{more_gathered}
+use Rattle.pl_snapshots.specs.Gathering.{IsGathered}
+use Rattle.pl_snapshots.specs.declared.gathering.Gathered.{Gathered}
 use Rattle.pl_core.proofs.Keeping.{kept_behind, nothing_behind}
 use Rattle.pl_core.proofs.Keeping.{opening_behind}
 use Rattle.pl_core.proofs.Keeping.{pending_behind, went_back}
@@ -92,6 +95,16 @@ module _ (first : ℕ) (log new : Log) (entries : List Entry) (entry : Entry)
   pub kept_more : Follows (opening_of first log) entries entry → IsKept first new (entries ++ entry ∷ [])
   kept_more follows = kept_behind new (entries ++ entry ∷ []) [] (opening_of first log) now_behind
       (legal_more (opening_of first log) [] entries entry kept.legal follows) now_fit kept.within
+
+  pub gathered_more : (gathered : Gathered) →
+      IsGathered (log_of (opening_of first log) entries).facts gathered →
+      IsGathered (log_of (opening_of first new) (entries ++ entry ∷ [])).facts gathered
+  gathered_more gathered gathers =
+      subst (λ (l : Log). IsGathered l.facts gathered)
+      (now_is ∙ ap (λ (o : Opening). log_of o (entries ++ entry ∷ [])) (sym opening_stays))
+      (subst (λ (l : Log). IsGathered l.facts gathered) (sym is)
+      (subst (λ (l : Log). IsGathered l.facts gathered) (sym was)
+      (more_gathered (log_of (opening_of first log) entries).facts entry.facts gathered gathers)))
 
   next_more : next_change (opening_of first log) (entries ++ entry ∷ []) ≡
       next_change (opening_of first log) entries

@@ -1,5 +1,5 @@
 -- How the state stays kept while facts are prepared, taken back and installed.
-use Rattle.std.proofs.Common.{◌≡◌, ℕ, ◌+◌, ◌≤◌, List, [], ◌++◌, length, refl, sym}
+use Rattle.std.proofs.Common.{◌≡◌, ℕ, ◌+◌, ◌≤◌, ◌⊎◌, inl, List, [], ◌++◌, length, refl, sym}
 use Rattle.std.proofs.Common.{ap, subst, ◌∙◌, arith}
 use Rattle.std.proofs.Math.Seq.{take-append_seam, drop-append_seam}
 use Rattle.std.proofs.lemmas.List.{append-nil, length-append, take-append-le}
@@ -13,6 +13,8 @@ use Rattle.pl_history.specs.Legal.{Legal}
 use Rattle.pl_history.specs.History.{Opening, facts_of, log_of}
 use Rattle.pl_journal.specs.Log.{Log}
 use Rattle.pl_history.specs.Below.pl_step.specs.Full.{back, with_facts}
+use Rattle.pl_snapshots.specs.Gathering.{IsGathered}
+use Rattle.pl_snapshots.specs.declared.gathering.Gathered.{Gathered}
 
 -- ---- what the journal tells of the opening and of what was prepared
 
@@ -93,6 +95,11 @@ module _ (new : Log) (entries : List Entry) (more : List Fact) (opening : Openin
       subst (λ (o : Opening). AreNumbers o entries size moment files change) (sym opening_behind)
       numbers
 
+  pub gathered_behind : (gathered : Gathered) → IsGathered (log_of opening entries).facts gathered →
+      IsGathered (log_of (opening_of opening.change new) entries).facts gathered
+  gathered_behind gathered is =
+      subst (λ (o : Opening). IsGathered (log_of o entries).facts gathered) (sym opening_behind) is
+
 -- ---- what isn't installed is taken back
 
 pub went_back : (first : ℕ) (log : Log) (entries : List Entry) → IsKept first log entries →
@@ -110,9 +117,41 @@ module _ (first : ℕ) (log new : Log) (entries : List Entry) (kept : IsKept fir
   back_fit = subst (λ (facts : List Fact). AreFit facts) (ap (λ (l : Log). l.facts) (sym is))
       (All-take IsFit log.installed log.facts kept.fit)
 
+  pub back_gathered : (gathered : Gathered) →
+      IsGathered (log_of (opening_of first log) entries).facts gathered →
+      IsGathered new.facts gathered
+  back_gathered gathered gathers =
+      subst (λ (l : Log). IsGathered l.facts gathered) (sym (is ∙ went_back first log entries kept))
+      gathers
+
+  pub gathered_back : (gathered : Gathered) → IsGathered new.facts gathered →
+      IsGathered (log_of (opening_of first log) entries).facts gathered
+  gathered_back gathered gathers =
+      subst (λ (l : Log). IsGathered l.facts gathered) (is ∙ went_back first log entries kept)
+      gathers
+
   pub back_kept : IsKept first new entries
   back_kept = kept_behind new entries [] (opening_of first log) back_behind kept.legal back_fit
       kept.within
+
+  -- all of it: nothing is pending, and other files may be gathered
+  pub back_whole : (gathered : Gathered) (size moment files change : ℕ) (Room : Type 0)
+      (es : List Entry) → es ≡ entries → IsGathered new.facts gathered →
+      AreNumbers (opening_of first log) entries size moment files change →
+      IsKept first new es × AreNumbers (opening_of first new) es size moment files change ×
+      ((pending_of new ≡ []) ⊎ Room) × IsGathered (log_of (opening_of first new) es).facts gathered
+  back_whole gathered size moment files change Room es same gathers numbers =
+      let opening = opening_of first log in (
+        subst (λ (es : List Entry). IsKept first new es) (sym same) back_kept,
+        subst (λ (es : List Entry). AreNumbers (opening_of first new) es size moment files change)
+            (sym same)
+            (numbers_behind new entries [] opening back_behind size moment files change numbers),
+        inl (pending_behind new entries [] opening back_behind),
+        subst (λ (es : List Entry). IsGathered (log_of (opening_of first new) es).facts gathered)
+            (sym same)
+            (gathered_behind new entries [] opening back_behind gathered
+            (gathered_back gathered gathers)),
+      )
 
 -- ---- the state by its parts
 
@@ -143,3 +182,17 @@ nothing_pending first log entries state kept seen none =
     (ap (λ (s : State). s.pending) seen ∙ none)
     ∙ nothing_behind base
     ∙ ap (λ (s : State). log_of s.opening s.entries) seen
+
+pub gathered_now : (first : ℕ) (log : Log) (entries : List Entry) (state : State)
+    (gathered : Gathered) → IsKept first log entries → (let seen : State = record {
+      opening = opening_of first log;
+      entries = entries;
+      pending = pending_of log;
+    } in
+    seen ≡ state) → state.pending ≡ [] →
+    IsGathered (log_of (opening_of first log) entries).facts gathered →
+    IsGathered log.facts gathered
+gathered_now first log entries state gathered kept seen none is =
+    subst (λ (l : Log). IsGathered l.facts gathered)
+    (ap (λ (s : State). log_of s.opening s.entries) seen
+    ∙ sym (nothing_pending first log entries state kept seen none)) is

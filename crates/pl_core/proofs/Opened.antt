@@ -12,6 +12,8 @@ use Rattle.pl_history.specs.History.{Opening, log_of}
 use Rattle.pl_journal.specs.Log.{Log, version}
 use Rattle.pl_journal.specs.Log as journal
 use Rattle.pl_history.specs.Below.pl_step.specs.Full.{with_facts}
+use Rattle.pl_snapshots.specs.Gathering.{IsGathered}
+use Rattle.pl_snapshots.specs.declared.gathering.Gathered.{Gathered}
 use Rattle.pl_core.proofs.Keeping.{kept_behind, nothing_behind}
 use Rattle.pl_core.proofs.Keeping.{opening_behind, pending_behind, state_is}
 
@@ -67,6 +69,14 @@ module _ (log : Log) (opening : Opening) (entries : List Entry) (is : log ≡ lo
         },
         inl (pending_behind log [] [] opening behind),
       )
+
+  pub opened_gathered : (gathered : Gathered) → IsGathered log.facts gathered →
+      IsGathered (log_of (opening_of opening.change log) entries).facts gathered
+  opened_gathered gathered gathers =
+      subst (λ (es : List Entry). IsGathered (log_of (opening_of opening.change log) es).facts gathered)
+      (sym none)
+      (subst (λ (o : Opening). IsGathered (log_of o []).facts gathered) (sym stays)
+      (subst (λ (l : Log). IsGathered l.facts gathered) is gathers))
 
   pub opened_is : let seen : State = record {
     opening = opening_of opening.change log;

@@ -40,6 +40,10 @@ pub if_ok : {X E : Type 0} (P Q : X → Type 0) (r : Result X E) → ((x : X) �
 if_ok P Q (Ok x) step holds = step x holds
 if_ok P Q (Err e) step holds = tt
 
+pub on_err : {X E P Q : Type 0} (r : Result X E) → (P → Q) → OnErr r P → OnErr r Q
+on_err (Ok x) step holds = tt
+on_err (Err e) step holds = step holds
+
 -- ---- what was made can run
 
 pub made_can_run : ((snapshot : Snapshot) (compiled : Compiled) →

@@ -6,3 +6,4 @@ pub use Rattle.pl_history.specs.Below.pl_granting as pl_granting
 pub use Rattle.pl_history.specs.Below.pl_granting_laws as pl_granting_laws
 pub use Rattle.pl_history.specs.Below.pl_settling as pl_settling
 pub use Rattle.pl_history.specs.Below.pl_step as pl_step
+pub use Rattle.pl_snapshots as pl_snapshots

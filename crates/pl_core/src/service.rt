@@ -24,7 +24,7 @@ use pl_history::{Held, access_laws, claim_laws, compilations_can_run};
 use pl_journal::Numbers;
 use pl_open_runs::IndexedJournal;
 use pl_requests::{Call, Reply};
-use pl_snapshots::Snapshot;
+use pl_snapshots::{Gathered, Snapshot};
 use std::alloc::Global;
 use std::marker::Model;
 
@@ -36,6 +36,8 @@ use std::marker::Model;
 #[derive(Drop)]
 pub struct Core {
     journal: IndexedJournal,
+    /// The files as some first of the installed facts leave them.
+    gathered: Gathered,
     entries: Vec<Entry>,
     /// The bytes of the entries' texts.
     size: u64,
@@ -57,6 +59,8 @@ impl Model for Core {
     ghost use Rattle.pl_core.specs.State.{State};
     ghost use Rattle.pl_facts.specs.contracts.entry.Entry as an_entry;
     ghost use Rattle.pl_facts.specs.contracts.fact.Fact as a_fact;
+    ghost use Rattle.pl_history.specs.History.{log_of};
+    ghost use Rattle.pl_snapshots.specs.Gathering.{IsGathered};
 
     ghost Value = { State };
 
@@ -75,7 +79,9 @@ impl Model for Core {
         core.version core.change ×
         ((pending_of core.journal ≡ []) ⊎ ((vec_len core.entries < vec_capacity core.entries) ×
         (core.behind ≡ change_behind (opening_of core.first core.journal) core.entries.items
-        (pending_of core.journal)))) };
+        (pending_of core.journal)))) ×
+        IsGathered (log_of (opening_of core.first core.journal) core.entries.items).facts
+        core.gathered };
 }
 
 impl Core {
@@ -116,8 +122,11 @@ impl Core {
         let journal = begun(alloc, admin, numbers, change, facts)?;
         let moment = journal.journal().last_moment();
         let version = journal.journal().version();
+        let mut gathered = Gathered::new(alloc);
+        gathered.catch_up(alloc, journal.journal())?;
         Ok(Core {
             journal,
+            gathered,
             entries: Vec::new(alloc),
             size: 0,
             moment,
@@ -170,7 +179,7 @@ impl Core {
         requires { self.now.pending ≡ [] }
         ensures { IfOk result (WantsFor (log self.now) call.now) }
     {
-        wanted_for(alloc, self.journal.journal(), call)
+        wanted_for(alloc, self.journal.journal(), &self.gathered, call)
     }
 
     /// The kept rows of the state, in order of table and key. Memory where memory is wanting, and
@@ -223,6 +232,7 @@ impl Core {
         access_laws();
         claim_laws();
         self.journal.back_to_installed();
+        self.gathered.catch_up(alloc, self.journal.journal())?;
         self.entries.reserve(1)?;
         let held = Held {
             entries: self.entries.len() as u64,

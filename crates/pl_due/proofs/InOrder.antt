@@ -14,9 +14,9 @@ use Rattle.pl_due.specs.Contention.{Holds, InRun, locks}
 use Rattle.pl_due.specs.Due.{Next, Superseded}
 use Rattle.pl_due.specs.Kinds.{Fails, IsDone, IsPassedOver, JobIsPassedOver, TimesOut}
 use Rattle.pl_due.specs.Kinds.{false_stage_end}
-use Rattle.pl_due.specs.Least.{FirstOf, InStage, Least}
+use Rattle.pl_due.specs.Least.{FirstOf, InStage, Least, OfStages}
 use Rattle.pl_due.specs.Nodes.{IsStageOf, condition, is_canceled, is_waiting}
-use Rattle.pl_due.specs.Scans.{FirstStage, HasStages, Waits}
+use Rattle.pl_due.specs.Scans.{FirstJob, FirstStage, HasStages, Waits}
 use Rattle.pl_due.proofs.Scanned.{least_of_all}
 
 -- what is of a kind is of such a stage
@@ -59,14 +59,15 @@ module _ (facts : List Fact) (moment : ℕ) where
 
 -- where no condition is false, that of a stage that waits is true
 pub says_true : (facts : List Fact) (told : QueuedRun) (one : PlanStage) (run stage : ℕ) →
-    Least facts (IsPassedOver facts) None → IsStageOf facts run stage told one →
-    is_waiting one run stage facts ≡ true → condition told run (Stage stage) facts ≡ true
+    FirstJob (OfStages facts (IsPassedOver facts) run stage) None →
+    IsStageOf facts run stage told one → is_waiting one run stage facts ≡ true →
+    condition told run (Stage stage) facts ≡ true
 says_true facts told one run stage none there waits =
     go (condition told run (Stage stage) facts) refl
   where
     go : (b : Bool) → condition told run (Stage stage) facts ≡ b → b ≡ true
     go true says = refl
-    go false says = absurd (none run stage 0 (false_stage_end (is_canceled run facts) run stage)
+    go false says = absurd (none 0 (false_stage_end (is_canceled run facts) run stage)
         (told, one, there, record { itself = refl; waits = waits; says = says; gets = refl }))
 
 -- ---- among contenders

@@ -132,7 +132,7 @@ module _ (facts : List Fact) (test : Test) where
   of_queued run told = option_map_or (λ (t : QueuedRun). passing test t.compiled.plan.stages run
       (length t.compiled.plan.stages)) told []
 
-  in_its_run : (run : ℕ) (at : Place) → Contains (of_run facts test run) at → at.run ≡ run
+  pub in_its_run : (run : ℕ) (at : Place) → Contains (of_run facts test run) at → at.run ≡ run
   in_its_run run at = go (by run_told (queueing run facts))
     where
       go : (told : Option QueuedRun) → Contains (of_queued run told) at → at.run ≡ run
@@ -140,7 +140,7 @@ module _ (facts : List Fact) (test : Test) where
       go (Some t) in_it =
           among_run t.compiled.plan.stages run (length t.compiled.plan.stages) at in_it
 
-  run_pairs : (run : ℕ) → AllPairs IsBefore (of_run facts test run)
+  pub run_pairs : (run : ℕ) → AllPairs IsBefore (of_run facts test run)
   run_pairs run = go (by run_told (queueing run facts))
     where
       go : (told : Option QueuedRun) → AllPairs IsBefore (of_queued run told)
@@ -177,7 +177,7 @@ module _ (facts : List Fact) (test : Test) where
       let less = head_before (λ m n. m < n) run other runs pairs in_runs in
       inl (omega (arith, a, b, less))))
 
-  in_run : (told : QueuedRun) (one : PlanStage) (run stage : ℕ) →
+  pub in_run : (told : QueuedRun) (one : PlanStage) (run stage : ℕ) →
       IsStageOf facts run stage told one → test told.compiled.plan.stages run stage ≡ true →
       Contains (of_run facts test run) (at_place run stage)
   in_run told one run stage is passes =
@@ -200,7 +200,7 @@ run_in runs run h =
     let (k, one, below, is, same) = Any-from_list_any (λ one. eqb one run) runs h in
     subst (Contains runs) (eqb_same one run same) (k, below, is)
 
-open_run : (facts : List Fact) (told : QueuedRun) (one : PlanStage) (run stage : ℕ) →
+pub open_run : (facts : List Fact) (told : QueuedRun) (one : PlanStage) (run stage : ℕ) →
     IsStageOf facts run stage told one → stage_end run stage facts ≡ None →
     is_open run facts ≡ true
 open_run facts told one run stage is unended =

@@ -63,7 +63,7 @@ module _ (facts : List Fact) (kind : InStage) where
 
   -- ---- of all stages
 
-  none_among : (places : List Place) → FirstStage facts kind places None → (at : Place) →
+  pub none_among : (places : List Place) → FirstStage facts kind places None → (at : Place) →
       Contains places at → (job : ℕ) (event : Event) →
       OfStages facts kind at.run at.stage job event → ⊥
   none_among [] found at (k, below, is) job event h = absurd (omega arith)

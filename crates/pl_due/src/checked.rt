@@ -70,7 +70,7 @@ pub(crate) fn is_permitted(journal: &Journal, queued: &QueuedRun, planned: &Plan
 }
 
 /// What guards a resource.
-pub(crate) fn checks_on<'j>(journal: &'j Journal, key: &ResourceKey) -> &'j [Check]
+pub fn checks_on<'j>(journal: &'j Journal, key: &ResourceKey) -> &'j [Check]
     ensures { result.now ≡ spec.checks_on journal.now.facts key.now }
 {
     match journal.resource(key) {

@@ -143,7 +143,7 @@ fn contender_at<H: Holding>(
 }
 
 /// Those of some stages of which something holds, in their order.
-pub(crate) fn contenders<H: Holding>(
+pub fn contenders<H: Holding>(
     alloc: Global,
     journal: &Journal,
     moment: Moment,

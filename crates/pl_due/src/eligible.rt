@@ -15,7 +15,7 @@ use pl_judgement::judgement_laws;
 use std::alloc::Global;
 
 /// Something that holds of stages.
-pub(crate) trait Holding {
+pub trait Holding {
     ghost of: { Self → List Fact → ℕ → InRun };
 
     /// Whether it holds of a stage.
@@ -49,7 +49,7 @@ impl Holding for Eligible {
 
 /// Stages that run: they hold what they use of exclusive resources.
 #[derive(Clone, Copy)]
-pub(crate) struct Running;
+pub struct Running;
 
 impl Holding for Running {
     ghost of = { λ itself facts moment. spec.Holds facts };

@@ -3,8 +3,8 @@ ghost use Rattle.pl_due.specs.Contention.{AreThose, IsEligible, locks};
 ghost use Rattle.pl_due.specs.Due.{IsDue, Next, Superseded, findings};
 ghost use Rattle.pl_due.specs.Fit.{AreFit, last_moment};
 ghost use Rattle.pl_due.specs.Kinds.{IsPassedOver};
-ghost use Rattle.pl_due.specs.Least.{FirstOf, Least};
-ghost use Rattle.pl_due.specs.Scans.{HasRunning, HasWaiting};
+ghost use Rattle.pl_due.specs.Least.{FirstOf};
+ghost use Rattle.pl_due.specs.Scans.{FirstStage, HasRunning, HasWaiting};
 ghost use Rattle.pl_locks.specs.Kept.{IsOrdered};
 ghost use Rattle.pl_locks.specs.Locks.{IsSuperseded};
 
@@ -151,7 +151,7 @@ fn after_conditions(
     requires fit { AreFit journal.now.facts }
     requires running { HasRunning journal.now.facts running.now }
     requires waiting { HasWaiting journal.now.facts waiting.now }
-    requires says { Least journal.now.facts (IsPassedOver journal.now.facts) None }
+    requires says { FirstStage journal.now.facts (IsPassedOver journal.now.facts) waiting.now None }
     ensures { IfOk result (FirstOf (drop 4 (findings journal.now.facts moment))) }
 {
     let AllJudged { fails, eligible } = all_judged(alloc, journal, moment, waiting)?;

@@ -19,7 +19,7 @@ use std::alloc::Global;
 
 /// Jobs that are taken and out of time.
 #[derive(Clone, Copy)]
-pub(crate) struct OutOfTime;
+pub struct OutOfTime;
 
 impl Kind for OutOfTime {
     ghost of = { λ itself facts moment. spec.TimesOut facts moment };
@@ -50,7 +50,7 @@ fn first_out_of_time(at: &StageAt<'_>) -> Option<u32>
 
 /// Jobs of running stages that wait for an agent alone, and whose condition is false.
 #[derive(Clone, Copy)]
-pub(crate) struct FalseJobs;
+pub struct FalseJobs;
 
 impl Kind for FalseJobs {
     ghost of = { λ itself facts moment. spec.JobIsPassedOver facts };

@@ -18,14 +18,14 @@ use pl_views::{is_ready, job_is_ready, run_view};
 use std::alloc::Global;
 
 /// Whether a stage is started and hasn't ended.
-pub(crate) fn is_running(journal: &Journal, run: u64, stage: u32) -> bool
+pub fn is_running(journal: &Journal, run: u64, stage: u32) -> bool
     ensures { result ≡ spec.is_running run stage journal.now.facts }
 {
     journal.stage_start(run, stage).is_some() && journal.stage_end(run, stage).is_none()
 }
 
 /// Whether a stage is neither started nor ended, and waits for no other stage.
-pub(crate) fn waits(journal: &Journal, run: u64, stage: u32, planned: &PlanStage) -> bool
+pub fn waits(journal: &Journal, run: u64, stage: u32, planned: &PlanStage) -> bool
     ensures { result ≡ spec.is_waiting planned.now run stage journal.now.facts }
 {
     journal.stage_start(run, stage).is_none()
@@ -98,7 +98,7 @@ pub(crate) fn is_out_of_time(at: &StageAt<'_>, job: u32) -> bool
 }
 
 /// Whether a job is neither taken nor ended, and waits for nothing more.
-pub(crate) fn awaits_agent(at: &StageAt<'_>, job: u32) -> bool
+pub fn awaits_agent(at: &StageAt<'_>, job: u32) -> bool
     ensures { result ≡ spec.awaits_agent at.now.planned.now at.now.run at.now.stage job
         (facts_of at.now) }
 {

@@ -14,17 +14,17 @@ use std::alloc::Global;
 
 /// A stage by its run's number and its place in the run's plan.
 #[derive(Clone, Copy)]
-pub(crate) struct Place {
-    pub(crate) run: u64,
-    pub(crate) stage: u32,
+pub struct Place {
+    pub run: u64,
+    pub stage: u32,
 }
 
 /// The stages that run, and those that are neither started nor ended and wait for no other stage,
 /// each by run, then by place.
 #[derive(Drop)]
-pub(crate) struct OpenStages {
-    pub(crate) running: List<Place>,
-    pub(crate) waiting: List<Place>,
+pub struct OpenStages {
+    pub running: List<Place>,
+    pub waiting: List<Place>,
 }
 
 /// Those of open runs.
@@ -39,7 +39,7 @@ pub(crate) fn open_stages(alloc: Global, journal: &IndexedJournal) -> Result<Ope
 }
 
 /// Those of some runs.
-fn stages_of(alloc: Global, journal: &Journal, runs: &[u64]) -> Result<OpenStages, Memory>
+pub fn stages_of(alloc: Global, journal: &Journal, runs: &[u64]) -> Result<OpenStages, Memory>
     requires { AreFit journal.now.facts }
     ensures running { IfOk result (λ all. all.running ≡
         flat_map (spec.of_run journal.now.facts (spec.runs journal.now.facts)) runs.now) }

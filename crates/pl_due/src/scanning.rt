@@ -15,7 +15,7 @@ use pl_journal::Journal;
 use std::alloc::Global;
 
 /// A kind of what is due.
-pub(crate) trait Kind {
+pub trait Kind {
     ghost of: { Self → List Fact → ℕ → InStage };
 
     /// The fact that a stage gets, or the first of its jobs that is of this kind; None where
@@ -59,7 +59,7 @@ fn in_place<K: Kind>(
 }
 
 /// What is due of a kind in the first of some stages in which anything is.
-pub(crate) fn first_stage<K: Kind>(
+pub fn first_stage<K: Kind>(
     alloc: Global,
     journal: &Journal,
     moment: Moment,

@@ -5,12 +5,12 @@ use pl_plan::PlanStage;
 
 /// A stage of a queued run, asked about at a moment.
 #[derive(Clone, Copy)]
-pub(crate) struct StageAt<'j> {
-    pub(crate) journal: &'j Journal,
-    pub(crate) moment: Moment,
-    pub(crate) run: u64,
+pub struct StageAt<'j> {
+    pub journal: &'j Journal,
+    pub moment: Moment,
+    pub run: u64,
     /// Its place in the run's plan.
-    pub(crate) stage: u32,
-    pub(crate) queued: &'j QueuedRun,
-    pub(crate) planned: &'j PlanStage,
+    pub stage: u32,
+    pub queued: &'j QueuedRun,
+    pub planned: &'j PlanStage,
 }

@@ -13,7 +13,7 @@ use std::alloc::Global;
 
 /// Running stages whose jobs have all ended.
 #[derive(Clone, Copy)]
-pub(crate) struct Done;
+pub struct Done;
 
 impl Kind for Done {
     ghost of = { λ itself facts moment. spec.IsDone facts };
@@ -37,7 +37,7 @@ impl Kind for Done {
 
 /// Waiting stages whose condition is false.
 #[derive(Clone, Copy)]
-pub(crate) struct FalseStages;
+pub struct FalseStages;
 
 impl Kind for FalseStages {
     ghost of = { λ itself facts moment. spec.IsPassedOver facts };

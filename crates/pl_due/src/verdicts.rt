@@ -7,7 +7,7 @@ ghost use Rattle.pl_due.specs.Checked.{is_permitted};
 ghost use Rattle.pl_due.specs.Contention as spec;
 ghost use Rattle.pl_due.specs.Fit.{AreFit, last_moment};
 ghost use Rattle.pl_due.specs.Kinds.{IsPassedOver};
-ghost use Rattle.pl_due.specs.Least.{Least};
+ghost use Rattle.pl_due.specs.Least.{OfStages};
 ghost use Rattle.pl_due.specs.Scans as scans;
 
 use crate::checked::is_permitted;
@@ -35,13 +35,13 @@ struct OneJudged {
 /// What is told of some stages: the end of the first of which a check fails, and where none does
 /// all that may start as far as no other stands in their way.
 #[derive(Drop)]
-pub(crate) struct AllJudged {
-    pub(crate) fails: Option<Event>,
-    pub(crate) eligible: List<Contender>,
+pub struct AllJudged {
+    pub fails: Option<Event>,
+    pub eligible: List<Contender>,
 }
 
 /// Judges some stages, none of which has a condition that is false, until a check of one fails.
-pub(crate) fn all_judged(
+pub fn all_judged(
     alloc: Global,
     journal: &Journal,
     moment: Moment,
@@ -49,7 +49,8 @@ pub(crate) fn all_judged(
 ) -> Result<AllJudged, Memory>
     requires moment { moment ≤ last_moment }
     requires fit { AreFit journal.now.facts }
-    requires says { Least journal.now.facts (IsPassedOver journal.now.facts) None }
+    requires says { scans.FirstStage journal.now.facts (IsPassedOver journal.now.facts) places.now
+        None }
     ensures { IfOk result (λ told. scans.AllJudged journal.now.facts moment places.now told.fails
         told.eligible) }
 {
@@ -81,7 +82,8 @@ fn judged_at(
 ) -> Result<OneJudged, Memory>
     requires moment { moment ≤ last_moment }
     requires fit { AreFit journal.now.facts }
-    requires says { Least journal.now.facts (IsPassedOver journal.now.facts) None }
+    requires says { scans.FirstJob (OfStages journal.now.facts
+        (IsPassedOver journal.now.facts) place.run place.stage) None }
     ensures { IfOk result (λ told. scans.OneJudged journal.now.facts moment place.run place.stage
         told.fails told.picked) }
 {
@@ -118,7 +120,8 @@ fn nothing() -> OneJudged
 /// Judges a stage.
 fn judged(alloc: Global, at: &StageAt<'_>) -> Result<OneJudged, Memory>
     requires asked { IsAsked at.now }
-    requires says { Least (facts_of at.now) (IsPassedOver (facts_of at.now)) None }
+    requires says { scans.FirstJob (OfStages (facts_of at.now) (IsPassedOver (facts_of at.now))
+        at.now.run at.now.stage) None }
     ensures { IfOk result (λ told. scans.OneJudged (facts_of at.now) at.now.moment at.now.run
         at.now.stage told.fails told.picked) }
 {

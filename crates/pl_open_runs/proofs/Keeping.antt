@@ -20,7 +20,8 @@ use Rattle.pl_journal.specs.Log.{Log, Opening, empty}
 use Rattle.pl_journal.specs.Runs.{number_told}
 use Rattle.pl_open_runs.specs.Index.{Ascends, Covers, HasFewStages, IsIndex, ended_told, has}
 use Rattle.pl_open_runs.specs.Open.{is_open, open_runs}
-use Rattle.pl_open_runs.proofs.Numbers.{InOrder, among_filter, among_kept, among_of, ascends_of}
+use Rattle.pl_open_runs.proofs.Numbers.{InOrder, among_filter, among_kept, among_of, among_put}
+use Rattle.pl_open_runs.proofs.Numbers.{ascends_of}
 use Rattle.pl_open_runs.proofs.Numbers.{has_of, in_order_filter, in_order_of, in_order_put}
 use Rattle.pl_open_runs.proofs.OpenRuns.{among_is_open, are_open_runs, open_in_order}
 use Rattle.pl_open_runs.proofs.OpenRuns.{open_is_among, open_of_known}
@@ -81,23 +82,20 @@ queued_covers journal fact known runs run index queued = λ one is. ⊎_elim
     (λ h. not_both fact.event run one queued h)) ∙ is))
     (cases_eq run one)
 
-pub index_queued : (journal : Log) (fact : Fact) (known runs : List ℕ) (run : ℕ) →
+-- the open runs are these, where the fact queues this run
+queued_are : (journal : Log) (fact : Fact) (known runs others : List ℕ) (run : ℕ) →
     IsIndex journal known runs → number_told fact.event ≡ Some run → HasFewStages fact →
-    IsIndex (pushed journal fact) (insert_key nat_cmp known run)
-    (filter (λ one. is_open one (journal.facts ++ fact ∷ [])) (insert_key nat_cmp known run))
-index_queued journal fact known runs run index queued few =
-    let covers = queued_covers journal fact known runs run index queued in
-    let up = put_ascends known run index.ascends in
-    record {
-      few = All-push HasFewStages journal.facts fact index.few few;
-      within = pushed_within journal fact index.within;
-      runs_are = open_of_known (journal.facts ++ fact ∷ []) (insert_key nat_cmp known run)
-          (in_order_of (insert_key nat_cmp known run) up) covers;
-      ascends = up;
-      covers = covers;
-      covers_installed = pushed_covers journal fact (insert_key nat_cmp known run) index.within
-          (more_covers known run (take journal.installed journal.facts) index.covers_installed);
-    }
+    others ≡ open_runs (journal.facts ++ fact ∷ []) →
+    IsIndex (pushed journal fact) (insert_key nat_cmp known run) others
+queued_are journal fact known runs others run index queued few are = record {
+  few = All-push HasFewStages journal.facts fact index.few few;
+  within = pushed_within journal fact index.within;
+  runs_are = are;
+  ascends = put_ascends known run index.ascends;
+  covers = queued_covers journal fact known runs run index queued;
+  covers_installed = pushed_covers journal fact (insert_key nat_cmp known run) index.within
+      (more_covers known run (take journal.installed journal.facts) index.covers_installed);
+}
 
 -- whatever is open now is known, and where it was open before
 else_covers : (journal : Log) (fact : Fact) (known runs : List ℕ) → IsIndex journal known runs →
@@ -131,6 +129,62 @@ was_among : (journal : Log) (known runs : List ℕ) → IsIndex journal known ru
     is_open run journal.facts ≡ true → Among runs run
 was_among journal known runs index run is =
     subst (λ l. Among l run) (sym index.runs_are) (open_is_among journal.facts run is)
+
+-- any other run is as it was
+other_same : (facts : List Fact) (fact : Fact) (run one : ℕ) → number_told fact.event ≡ Some run →
+    (run ≡ one → ⊥) → is_open one (facts ++ fact ∷ []) ≡ is_open one facts
+other_same facts fact run one queued apart = open_same facts fact one
+    (λ h. apart (same_Some run one (sym queued ∙ h)))
+    (λ h. not_both fact.event run one queued h)
+
+-- a queued run that is open
+index_opened : (journal : Log) (fact : Fact) (known runs : List ℕ) (run : ℕ) →
+    IsIndex journal known runs → number_told fact.event ≡ Some run → HasFewStages fact →
+    is_open run (journal.facts ++ fact ∷ []) ≡ true →
+    IsIndex (pushed journal fact) (insert_key nat_cmp known run) (insert_key nat_cmp runs run)
+index_opened journal fact known runs run index queued few is_now =
+    queued_are journal fact known runs (insert_key nat_cmp runs run) run index queued few
+    (are_open_runs (journal.facts ++ fact ∷ []) (insert_key nat_cmp runs run)
+    (in_order_put runs run (runs_in_order journal known runs index))
+    (λ one h. ⊎_elim
+    (λ e. subst (λ n. is_open n (journal.facts ++ fact ∷ []) ≡ true) e is_now)
+    (λ apart. other_same journal.facts fact run one queued apart
+    ∙ was_open journal known runs index one (⊎_elim (λ e. absurd (apart e)) (λ g. g)
+    (among_put runs run one h)))
+    (cases_eq run one))
+    (λ one is. ⊎_elim
+    (λ e. subst (Among (insert_key nat_cmp runs run)) e
+    (among_itself nat_cmp nat_cmp-IsAntisymmetric runs run))
+    (λ apart. among_stays nat_cmp nat_cmp-IsAntisymmetric runs run one
+    (was_among journal known runs index one
+    (sym (other_same journal.facts fact run one queued apart) ∙ is)))
+    (cases_eq run one)))
+
+differs : (one other : ℕ) → not (one == other) ≡ true → one ≡ other → ⊥
+differs one other h e = grind arith
+
+passes : (one other : ℕ) → (one ≡ other → ⊥) → not (one == other) ≡ true
+passes one other apart = grind arith
+
+-- a queued run that has no stage to be open
+index_shut : (journal : Log) (fact : Fact) (known runs : List ℕ) (run : ℕ) →
+    IsIndex journal known runs → number_told fact.event ≡ Some run → HasFewStages fact →
+    is_open run (journal.facts ++ fact ∷ []) ≡ false →
+    IsIndex (pushed journal fact) (insert_key nat_cmp known run)
+    (filter (λ one. not (one == run)) runs)
+index_shut journal fact known runs run index queued few shut =
+    let test : ℕ → Bool = λ one. not (one == run) in
+    queued_are journal fact known runs (filter test runs) run index queued few
+    (are_open_runs (journal.facts ++ fact ∷ []) (filter test runs)
+    (in_order_filter test runs (runs_in_order journal known runs index))
+    (λ one h. let kept = among_filter test runs one h in
+    other_same journal.facts fact run one queued (λ e. differs one run kept.0 (sym e))
+    ∙ was_open journal known runs index one kept.1)
+    (λ one is. let apart : one ≡ run → ⊥ =
+    λ e. true≢false (sym is ∙ ap (λ n. is_open n (journal.facts ++ fact ∷ [])) e ∙ shut) in
+    among_kept test runs one (passes one run apart)
+    (was_among journal known runs index one
+    (sym (other_same journal.facts fact run one queued (λ e. apart (sym e))) ∙ is))))
 
 pub index_other : (journal : Log) (fact : Fact) (known runs : List ℕ) →
     IsIndex journal known runs → number_told fact.event ≡ None → ended_told fact.event ≡ None →
@@ -183,12 +237,6 @@ index_ended journal fact known runs run index ended over =
     (passes one run (λ e. true≢false (sym is ∙ ap (λ n. is_open n (journal.facts ++ fact ∷ [])) e
     ∙ over)))
     (was_among journal known runs index one (open_before journal.facts fact one (never one) is))))
-  where
-    differs : (one other : ℕ) → not (one == other) ≡ true → one ≡ other → ⊥
-    differs one other h e = grind arith
-
-    passes : (one other : ℕ) → (one ≡ other → ⊥) → not (one == other) ≡ true
-    passes one other apart = grind arith
 
 -- ---- back, and installed
 
@@ -266,16 +314,31 @@ index_at journal new known known' runs runs' same same_known same_runs index =
     subst (λ (all : Log × List ℕ × List ℕ). IsIndex all.0 all.1 all.2)
     (λ i. (sym same i, sym same_known i, sym same_runs i)) index
 
--- a run was queued, and all known ones were looked at
-pub after_queued : (journal new : Log) (fact : Fact) (known known' runs runs' : List ℕ) (run : ℕ) →
+-- a run was queued: it is open, or it isn't
+pub after_opened : (journal new : Log) (fact : Fact) (known known' runs runs' : List ℕ) (run : ℕ) →
     IsIndex journal known runs → number_told fact.event ≡ Some run → HasFewStages fact →
     new ≡ pushed journal fact → known' ≡ insert_key nat_cmp known run →
-    runs' ≡ filter (λ one. is_open one new.facts) known' → IsIndex new known' runs'
-after_queued journal new fact known known' runs runs' run index queued few is known_is runs_are =
+    is_open run new.facts ≡ true → runs' ≡ insert_key nat_cmp runs run → IsIndex new known' runs'
+after_opened journal new fact known known' runs runs' run index queued few is known_is is_now are =
     index_at (pushed journal fact) new (insert_key nat_cmp known run) known'
-    (filter (λ one. is_open one (journal.facts ++ fact ∷ [])) (insert_key nat_cmp known run)) runs'
-    is known_is (runs_are ∙ (λ i. filter (λ one. is_open one (is i).facts) (known_is i)))
-    (index_queued journal fact known runs run index queued few)
+    (insert_key nat_cmp runs run) runs' is known_is are
+    (index_opened journal fact known runs run index queued few
+    (sym (ap (λ (log : Log). is_open run log.facts) is) ∙ is_now))
+
+pub after_shut : (journal new : Log) (fact : Fact) (known known' runs runs' : List ℕ) (run : ℕ) →
+    IsIndex journal known runs → number_told fact.event ≡ Some run → HasFewStages fact →
+    new ≡ pushed journal fact → known' ≡ insert_key nat_cmp known run →
+    is_open run new.facts ≡ false → runs' ≡ filter (λ one. not (one == run)) runs →
+    IsIndex new known' runs'
+after_shut journal new fact known known' runs runs' run index queued few is known_is shut are =
+    index_at (pushed journal fact) new (insert_key nat_cmp known run) known'
+    (filter (λ one. not (one == run)) runs) runs' is known_is are
+    (index_shut journal fact known runs run index queued few
+    (sym (ap (λ (log : Log). is_open run log.facts) is) ∙ shut))
+
+-- open runs ascend
+pub runs_ascend : (journal : Log) (known runs : List ℕ) → IsIndex journal known runs → Ascends runs
+runs_ascend journal known runs index = ascends_of runs (runs_in_order journal known runs index)
 
 -- a run is known more, and nothing else changed
 pub after_known : (journal new : Log) (known known' runs runs' : List ℕ) (run : ℕ) →

@@ -1,7 +1,7 @@
 //! The open runs in order, and the known ones among which they are looked for.
 
-ghost use Rattle.std.specs.Prelude.{◌≡◌, ◌+◌, ◌≤◌, ◌==◌, ◌∷◌, ◌++◌, [], All, filter, length, not};
-ghost use Rattle.std.specs.Prelude.{take, IsTrue, OnErr, OnOk, Some, None, vec_len, vec_capacity};
+ghost use Rattle.std.specs.Prelude.{◌≡◌, ◌+◌, ◌<◌, ◌≤◌, ◌==◌, ◌∷◌, ◌++◌, [], All, filter, length, not};
+ghost use Rattle.std.specs.Prelude.{take, IsOk, IsTrue, OnErr, OnOk, Some, None, vec_len, vec_capacity};
 ghost use Rattle.std.specs.BTreeSet.{insert_key};
 ghost use Rattle.std.specs.Ordering.{nat_cmp};
 ghost use Rattle.pl_journal.specs.Runs.{number_told};
@@ -20,11 +20,27 @@ fn put_in(numbers: &mut Vec<u64>, number: u64) -> Result<(), Memory>
     ensures ok { OnOk result (numbers.new.items ≡ insert_key nat_cmp numbers.old.items number) }
     ensures err { OnErr result (numbers.new.items ≡ numbers.old.items) }
     ensures len { vec_len numbers.new ≤ vec_len numbers.old + 1 }
+    ensures room { vec_len numbers.old < vec_capacity numbers.old → IsOk result }
+    ensures capacity { vec_capacity numbers.old ≤ vec_capacity numbers.new }
 {
     if let Err(at) = numbers.binary_search(&number) {
         numbers.insert(at, number)?;
     }
     Ok(())
+}
+
+/// Puts a number in its place among ascending ones where there is room, unless it is there. It takes
+/// no memory.
+fn put_in_room(numbers: &mut Vec<u64>, number: u64)
+    requires ascends { Ascends numbers.old.items }
+    requires room { vec_len numbers.old < vec_capacity numbers.old }
+    ensures items { numbers.new.items ≡ insert_key nat_cmp numbers.old.items number }
+    ensures capacity { vec_capacity numbers.old ≤ vec_capacity numbers.new }
+{
+    match put_in(numbers, number) {
+        Ok(()) => {}
+        Err(Memory) => unreachable!(),
+    }
 }
 
 /// Looks at all known runs, of which the open ones are. It takes no memory.
@@ -91,7 +107,7 @@ fn has_few_stages(fact: &Fact) -> bool
     }
 }
 
-/// Puts the fact that a run was queued behind the others, and looks which runs are open now.
+/// Puts the fact that a run was queued behind the others, and looks whether that run is open now.
 fn push_queued(
     journal: &mut Journal,
     known: &mut Vec<u64>,
@@ -112,7 +128,11 @@ fn push_queued(
     runs.reserve(known.len() + 1)?;
     put_in(known, run)?;
     journal.push(fact)?;
-    look_at_all(journal, known, runs);
+    if is_open(journal, run) {
+        put_in_room(runs, run);
+    } else {
+        take_out(runs, run);
+    }
     Ok(())
 }
 

@@ -7,29 +7,33 @@ ghost use Rattle.pl_seeing.specs.Sharing.{Comes};
 ghost use Rattle.pl_sources.specs.Again.{files_of};
 
 use crate::same::are_same;
-use pl_base::{Bytes, ExactCopy, FileSet, Memory, Shared};
+use pl_base::{Bytes, ExactCopy, Memory, Shared};
 use pl_keeper::{KeptFile, KeptRun};
 use pl_plan::Compiled;
-use pl_sources::{CompileFault, compile, sources_compile_again};
+use pl_sources::{CompileFault, SharedFiles, compile, sources_compile_again};
 use std::alloc::Global;
 
 /// The files of a run by their keys; of two with one key the first counts.
-fn file_set(alloc: Global, told: &[KeptFile]) -> Result<FileSet, Memory>
+fn file_set(alloc: Global, told: &[KeptFile]) -> Result<SharedFiles, Memory>
     ensures { IfOk result (λ files. files ≡ finite.from_entries (map pair_of told.now)) }
 {
-    let mut files = FileSet::new(alloc);
+    let mut files = SharedFiles::new(alloc);
     let mut left = told.len();
     while left > 0 {
         left -= 1;
         let file = &told[left];
         let text = Bytes::from_slice(alloc, file.text.as_slice())?;
-        files.put(file.key.copy(alloc)?, text)?;
+        files.put_text(alloc, file.key.copy(alloc)?, text)?;
     }
     Ok(files)
 }
 
 /// What files compile to with a run's root and arguments, or None where they are refused.
-fn compiled_from(alloc: Global, files: &FileSet, told: &KeptRun) -> Result<Option<Compiled>, Memory>
+fn compiled_from(
+    alloc: Global,
+    files: &SharedFiles,
+    told: &KeptRun,
+) -> Result<Option<Compiled>, Memory>
     ensures { IfOk result (Comes files.now told.now.root told.now.arguments) }
 {
     sources_compile_again();

@@ -6,5 +6,6 @@ mod gathering;
 mod snapshot;
 mod wanting;
 
+pub use gathering::Gathered;
 pub use snapshot::Snapshot;
 pub use wanting::wanted;

@@ -1,11 +1,13 @@
 //! What a request wants to be compiled.
 
 ghost use Rattle.std.specs.Prelude.{◌≡◌, IfOk};
+ghost use Rattle.pl_snapshots.specs.Gathering.{IsGathered};
 ghost use Rattle.pl_snapshots.specs.Snapshots as spec;
 
-use crate::gathering::files_of;
+use crate::gathering::Gathered;
 use crate::snapshot::Snapshot;
-use pl_base::{Bytes, ExactCopy, FileKey, FileSet, List, Memory, Text};
+use pl_base::{Bytes, ExactCopy, FileKey, List, Memory, Text};
+use pl_file_sets::SharedFiles;
 use pl_journal::Journal;
 use pl_requests::{Order, PipelineSetting, Request};
 use std::alloc::Global;
@@ -28,9 +30,9 @@ fn text_file(alloc: Global) -> Result<FileKey, Memory>
 fn of_text(alloc: Global, journal: &Journal, text: &Bytes) -> Result<Snapshot, Memory>
     ensures { IfOk result (λ snapshot. snapshot ≡ spec.of_text journal.now text.now) }
 {
-    let mut files = FileSet::new(alloc);
+    let mut files = SharedFiles::new(alloc);
     let text = Bytes::from_slice(alloc, text.as_slice())?;
-    files.put(text_file(alloc)?, text)?;
+    files.put_text(alloc, text_file(alloc)?, text)?;
     let root = text_file(alloc)?;
     Ok(Snapshot {
         files,
@@ -54,16 +56,28 @@ fn root_of(alloc: Global, told: &PipelineSetting, order: &Order) -> Result<FileK
     })
 }
 
+/// All files, which what was gathered shares.
+fn files_of(alloc: Global, journal: &Journal, gathered: &Gathered) -> Result<SharedFiles, Memory>
+    requires { IsGathered journal.now.facts gathered.now }
+    ensures { IfOk result (spec.AreFiles journal.now.facts) }
+{
+    let mut now = gathered.copy(alloc)?;
+    now.catch_up(alloc, journal)?;
+    Ok(now.files)
+}
+
 /// All files, and the pipeline's one as the root.
 fn of_order(
     alloc: Global,
     journal: &Journal,
+    gathered: &Gathered,
     told: &PipelineSetting,
     order: &Order,
 ) -> Result<Snapshot, Memory>
+    requires { IsGathered journal.now.facts gathered.now }
     ensures { IfOk result (spec.IsOfOrder journal.now told.now order.now) }
 {
-    let files = files_of(alloc, journal)?;
+    let files = files_of(alloc, journal, gathered)?;
     let root = root_of(alloc, told, order)?;
     let arguments = order.arguments.copy(alloc)?;
     Ok(Snapshot {
@@ -77,19 +91,21 @@ fn of_order(
 /// What a request wants to be compiled: `POST /texts` its text, alone, as the file `/text.yml` of
 /// the repository `text` and the ref `refs/heads/text`, without arguments; `POST /runs` the
 /// pipeline's file under the order's ref, among all files as they stand, with the order's
-/// arguments, or None where the pipeline isn't there; any other request None. Memory where memory
-/// is wanting.
+/// arguments, or None where the pipeline isn't there; any other request None. What was gathered is
+/// shared, and only the facts behind that are looked at. Memory where memory is wanting.
 pub fn wanted(
     alloc: Global,
     journal: &Journal,
+    gathered: &Gathered,
     request: &Request,
 ) -> Result<Option<Snapshot>, Memory>
+    requires { IsGathered journal.now.facts gathered.now }
     ensures { IfOk result (spec.Wants journal.now request.now) }
 {
     match request {
         Request::QueueText(text) => Ok(Some(of_text(alloc, journal, text)?)),
         Request::Queue(order) => match journal.pipeline(&order.pipeline) {
-            Some(told) => Ok(Some(of_order(alloc, journal, told, order)?)),
+            Some(told) => Ok(Some(of_order(alloc, journal, gathered, told, order)?)),
             None => Ok(None),
         },
         _ => Ok(None),

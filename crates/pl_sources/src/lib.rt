@@ -4,4 +4,4 @@
 mod laws;
 
 pub use laws::sources_compile_again;
-pub use pl_compile::{CompileFault, compile};
+pub use pl_compile::{CompileFault, SharedFiles, compile};

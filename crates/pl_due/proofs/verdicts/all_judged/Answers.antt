@@ -1,13 +1,24 @@
 use Rattle.std.proofs.Common.{get_or, ◌∙◌}
 use Rattle.std.proofs.lemmas.List.{get_or_default}
+use Rattle.std.proofs.lemmas.List.Elements.{Contains-get_or}
+use Rattle.pl_due.specs.Kinds.{IsPassedOver}
 use Rattle.pl_due.specs.Open.{at_place}
 use Rattle.pl_due.proofs.Once.{at_first, at_last, no_more, one_more, some_fails}
+use Rattle.pl_due.proofs.Scanned.{none_among}
 use Rattle.pl_due.proofs.verdicts.all_judged.Goals.{in-Some-picked+in_ok-push, in_default-picked}
 use Rattle.pl_due.proofs.verdicts.all_judged.Goals as goal
 
 pub loop-place-init : goal.loop-place-init
 loop-place-init c = at_first c.args.journal.now.facts c.args.moment c.args.places.now
     c.new-eligible.result c.new-eligible.ensures
+
+pub judged_at-requires-clause-says : goal.judged_at-requires-clause-says
+judged_at-requires-clause-says c =
+    let facts = c.args.journal.now.facts in
+    let places = c.args.places.now in
+    none_among facts (IsPassedOver facts) places c.requires.says
+    (get_or places c.loop-place.place-index (at_place 0 0))
+    (Contains-get_or places c.loop-place.place-index (at_place 0 0) c.loop-place-test.true)
 
 pub returns-in-Some : goal.returns-in-Some
 returns-in-Some c =

@@ -4,10 +4,11 @@ use Rattle.pl_core.specs.State.{State}
 use Rattle.pl_facts.specs.declared.entry.Entry.{Entry}
 use Rattle.pl_facts.specs.Sizes.{counted}
 use Rattle.pl_history.specs.Legal.{Follows}
-use Rattle.pl_history.specs.History.{Opening}
+use Rattle.pl_history.specs.History.{Opening, log_of}
 use Rattle.pl_journal.specs.Log.{Log, last_moment, version}
-use Rattle.pl_core.proofs.Installing.{kept_more, none_pending, number_behind, numbers_more}
-use Rattle.pl_core.proofs.Installing.{size_more}
+use Rattle.pl_snapshots.specs.Gathering.{IsGathered}
+use Rattle.pl_core.proofs.Installing.{gathered_more, kept_more, none_pending, number_behind}
+use Rattle.pl_core.proofs.Installing.{numbers_more, size_more}
 use Rattle.pl_core.proofs.service.Core.add.Goals as goal
 
 pub invariant_of-self : goal.invariant_of-self
@@ -39,4 +40,9 @@ invariant_of-self c =
           (numbers_more c.self.inside.first log new entries c.args.entry kept pending
           c.install.ensures _ _ _ _ size moment files behind),
       inl (none_pending c.self.inside.first log new entries c.args.entry kept pending c.install.ensures),
+      subst (λ (es : List Entry).
+          IsGathered (log_of (opening_of c.self.inside.first new) es).facts c.self.inside.gathered)
+          (sym c.push_reserved.ensures.items)
+          (gathered_more c.self.inside.first log new entries c.args.entry kept pending
+          c.install.ensures c.self.inside.gathered c.self.invariant.3),
     )

@@ -1,7 +1,7 @@
 use Rattle.std.proofs.Common.{ap, ◌∙◌, inl}
 use Rattle.pl_core.specs.Kept.{opening_of}
 use Rattle.pl_core.specs.State.{State}
-use Rattle.pl_core.proofs.Keeping.{back_behind, back_kept, numbers_behind, opening_behind}
+use Rattle.pl_core.proofs.Keeping.{back_behind, back_kept, gathered_behind, numbers_behind, opening_behind}
 use Rattle.pl_core.proofs.Keeping.{pending_behind, state_is}
 use Rattle.pl_core.proofs.service.Core.back.Goals as goal
 
@@ -16,6 +16,8 @@ invariant_of-self c =
       numbers_behind c.back_to_installed.new.self entries _ (opening_of c.self.inside.first log) behind _ _ _ _
           c.self.invariant.1,
       inl (pending_behind c.back_to_installed.new.self entries _ (opening_of c.self.inside.first log) behind),
+      gathered_behind c.back_to_installed.new.self entries _ (opening_of c.self.inside.first log) behind
+          c.self.inside.gathered c.self.invariant.3,
     )
 
 pub returns : goal.returns

@@ -1,5 +1,5 @@
 use Rattle.std.proofs.Common.{◌≡◌, ◌+◌, List, Option, IfOk, length, sym, ap, subst, ◌∙◌, arith}
-use Rattle.std.proofs.Common.{◌<◌, ◌⊎◌, []}
+use Rattle.std.proofs.Common.{◌<◌, ◌⊎◌, [], refl}
 use Rattle.std.specs.Prelude.{vec_capacity, vec_len}
 use Rattle.pl_core.specs.Kept.{AreNumbers, IsKept, change_behind, opening_of, pending_of}
 use Rattle.pl_core.specs.Prepared.{IsEntryOf, added_by, next_number}
@@ -12,12 +12,56 @@ use Rattle.pl_journal.specs.Log.{Log}
 use Rattle.pl_history.specs.Below.pl_step.specs.Full.{with_facts}
 use Rattle.pl_history.specs.Below.pl_step.specs.Step.{IsStep, stepped_with}
 use Rattle.pl_history.specs.Below.pl_step.specs.declared.held.Held.{Held}
-use Rattle.pl_core.proofs.Keeping.{all_installed, kept_behind, numbers_behind, opening_behind}
-use Rattle.pl_core.proofs.Keeping.{pending_behind, went_back}
+use Rattle.pl_snapshots.specs.Gathering.{IsGathered}
+use Rattle.pl_core.proofs.Keeping.{all_installed, back_behind, back_fit, back_gathered, back_whole}
+use Rattle.pl_core.proofs.Keeping.{gathered_back, gathered_behind}
+use Rattle.pl_core.proofs.Keeping.{kept_behind, numbers_behind, opening_behind, pending_behind}
+use Rattle.pl_core.proofs.Keeping.{went_back}
 use Rattle.pl_core.proofs.Preparing.{behind_by, changed_by, guarded_by, if_ok, kept_room}
-use Rattle.pl_core.proofs.Preparing.{made_can_run, pending_by}
+use Rattle.pl_core.proofs.Preparing.{made_can_run, on_err, pending_by}
 use Rattle.pl_core.proofs.Preparing.{prepared_by, steps_at}
 use Rattle.pl_core.proofs.service.Core.prepare.Goals as goal
+
+pub catch_up-requires : goal.catch_up-requires
+catch_up-requires c =
+    subst (λ (l : Log). IsGathered l.facts c.self.inside.gathered) (sym c.journal.ensures)
+    (back_gathered c.self.inside.first c.self.inside.journal c.back_to_installed.new.self
+    c.self.inside.entries.items c.self.invariant.0 c.back_to_installed.ensures
+    c.self.inside.gathered c.self.invariant.3)
+
+-- where memory is wanting, nothing is prepared
+pub invariant_of-self : goal.invariant_of-self
+invariant_of-self c =
+    back_whole c.self.inside.first c.self.inside.journal c.back_to_installed.new.self
+    c.self.inside.entries.items c.self.invariant.0 c.back_to_installed.ensures c.catch_up.new.self
+    c.self.inside.size c.self.inside.moment c.self.inside.version c.self.inside.change _
+    c.self.inside.entries.items refl
+    (subst (λ (l : Log). IsGathered l.facts c.catch_up.new.self) c.journal.ensures
+    c.catch_up.ensures.gathered)
+    c.self.invariant.1
+
+pub invariant_of-self-in_err-reserve : goal.invariant_of-self-in_err-reserve
+invariant_of-self-in_err-reserve c =
+    back_whole c.self.inside.first c.self.inside.journal c.back_to_installed.new.self
+    c.self.inside.entries.items c.self.invariant.0 c.back_to_installed.ensures c.catch_up.new.self
+    c.self.inside.size c.self.inside.moment c.self.inside.version c.self.inside.change _
+    c.reserve.new.self.items c.reserve.ensures.items
+    (subst (λ (l : Log). IsGathered l.facts c.catch_up.new.self) c.journal.ensures
+    c.catch_up.ensures.gathered)
+    c.self.invariant.1
+
+pub returns-in_err-catch_up-clause-opening : goal.returns-in_err-catch_up-clause-opening
+returns-in_err-catch_up-clause-opening c =
+    let opening = opening_of c.self.inside.first c.self.inside.journal in
+    opening_behind c.back_to_installed.new.self c.self.inside.entries.items [] opening
+    (back_behind c.self.inside.first c.self.inside.journal c.back_to_installed.new.self
+    c.self.inside.entries.items c.self.invariant.0 c.back_to_installed.ensures)
+    ∙ ap (λ (state : State). state.opening) c.self.view_is
+
+pub prepare-requires-clause-fit : goal.prepare-requires-clause-fit
+prepare-requires-clause-fit c =
+    back_fit c.self.inside.first c.self.inside.journal c.back_to_installed.new.self
+    c.self.inside.entries.items c.self.invariant.0 c.back_to_installed.ensures
 
 pub prepare-requires-clause-installed : goal.prepare-requires-clause-installed
 prepare-requires-clause-installed c =
@@ -136,10 +180,27 @@ invariant_of-self-2 c =
           c.prepare.result c.back_to_installed.new.self new
           (vec_len c.reserve.new.self < vec_capacity c.reserve.new.self) room (base c)
           c.prepare.ensures.number c.prepare.ensures.journal c.prepare.ensures.err)),
+      subst (λ (es : List Entry).
+          IsGathered (log_of (opening_of c.self.inside.first new) es).facts c.catch_up.new.self)
+          (sym c.reserve.ensures.items)
+          (gathered_behind new entries (some c).0 opening behind c.catch_up.new.self
+          (gathered_back c.self.inside.first c.self.inside.journal c.back_to_installed.new.self
+          entries c.self.invariant.0 c.back_to_installed.ensures c.catch_up.new.self
+          (subst (λ (l : Log). IsGathered l.facts c.catch_up.new.self) c.journal.ensures
+          c.catch_up.ensures.gathered))),
     )
 
 pub returns-clause-opening : goal.returns-clause-opening
 returns-clause-opening c = opening_is c
+
+pub returns-clause-err : goal.returns-clause-err
+returns-clause-err c =
+    let opening = opening_of c.self.inside.first c.self.inside.journal in
+    let behind = back_behind c.self.inside.first c.self.inside.journal c.back_to_installed.new.self
+    c.self.inside.entries.items c.self.invariant.0 c.back_to_installed.ensures in
+    on_err c.prepare.result (λ is. ap pending_of is
+    ∙ pending_behind c.back_to_installed.new.self c.self.inside.entries.items [] opening behind)
+    c.prepare.ensures.err
 
 pub returns-clause-steps : goal.returns-clause-steps
 returns-clause-steps c = steps_now c

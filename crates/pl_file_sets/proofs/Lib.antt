@@ -1,0 +1,4 @@
+mod Leaves
+pub mod Sending
+mod Sets
+mod Tries
