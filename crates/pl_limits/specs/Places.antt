@@ -12,12 +12,12 @@ mixed told more = (16777619 * told + more) % 4294967296
 abbrev pub word : ℕ → ℕ → ℕ → ℕ → ℕ
 word a b c d = a + 256 * b + 65536 * c + 16777216 * d
 
--- a text's hash: four bytes at a time, and those that are left one by one
+-- a text's hash: four bytes at a time, and those that are left as one number
 abbrev pub hash_from : ℕ → List ℕ → ℕ
 hash_from told [] = told
-hash_from told (a ∷ []) = mixed told a
-hash_from told (a ∷ b ∷ []) = mixed (mixed told a) b
-hash_from told (a ∷ b ∷ c ∷ []) = mixed (mixed (mixed told a) b) c
+hash_from told (a ∷ []) = mixed told (word a 0 0 0)
+hash_from told (a ∷ b ∷ []) = mixed told (word a b 0 0)
+hash_from told (a ∷ b ∷ c ∷ []) = mixed told (word a b c 0)
 hash_from told (a ∷ b ∷ c ∷ d ∷ more) = hash_from (mixed told (word a b c d)) more
 
 -- a text's hash, and its place in a table of so many

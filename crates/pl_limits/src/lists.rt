@@ -133,7 +133,7 @@ fn left_of<'a>(alloc: Global, texts: Vec<&'a str>) -> Result<Option<Vec<&'a str>
         are_apart (option_map (λ rest. map (λ text. text.now) rest.items) found) ≡
         are_distinct same_text (map (λ text. text.now) texts.entry.items)) }
 {
-    if texts.len() < 4_294_967_296 {
+    if texts.len() < 65_536 {
         displaced(alloc, texts.as_slice())
     } else {
         Ok(Some(texts))

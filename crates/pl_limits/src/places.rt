@@ -28,7 +28,7 @@ fn word(a: u8, b: u8, c: u8, d: u8) -> u64
     a as u64 + 256 * b as u64 + 65_536 * c as u64 + 16_777_216 * d as u64
 }
 
-/// A text's hash: four bytes at a time, and those that are left one by one.
+/// A text's hash: four bytes at a time, and those that are left as one number.
 fn hash(text: &str) -> u64
     ensures value { result ≡ hash text.now }
     ensures short { result < 2 ^ 32 }
@@ -40,9 +40,9 @@ fn hash(text: &str) -> u64
         left = rest;
     }
     match left {
-        [a] => mixed(told, *a as u64),
-        [a, b] => mixed(mixed(told, *a as u64), *b as u64),
-        [a, b, c] => mixed(mixed(mixed(told, *a as u64), *b as u64), *c as u64),
+        [a] => mixed(told, word(*a, 0, 0, 0)),
+        [a, b] => mixed(told, word(*a, *b, 0, 0)),
+        [a, b, c] => mixed(told, word(*a, *b, *c, 0)),
         _ => told,
     }
 }
@@ -58,7 +58,7 @@ fn place(text: &str, room: usize) -> usize
 
 /// The text of a number from 1 on; 0 is none.
 #[inline(always)]
-fn numbered<'a>(texts: &[&'a str], number: u32) -> Option<&'a str>
+fn numbered<'a>(texts: &[&'a str], number: u16) -> Option<&'a str>
     ensures { result ≡ numbered texts.now number }
 {
     if number == 0 {
@@ -74,33 +74,34 @@ fn numbered<'a>(texts: &[&'a str], number: u32) -> Option<&'a str>
 pub(crate) fn slices<'a>(alloc: Global, texts: &'a [Text]) -> Result<Vec<&'a str>, Memory>
     ensures { IfOk result (λ all. map (λ text. text.now) all.items ≡ texts.now) }
 {
-    let mut all = Vec::with_capacity(alloc, texts.len())?;
-    for text in texts {
-        all.push(text.as_str())?;
+    let mut all = Vec::new(alloc);
+    all.resize(texts.len(), "")?;
+    for (at, text) in texts.iter().enumerate() {
+        all[at] = text.as_str();
     }
     Ok(all)
 }
 
 /// Those of the texts whose places another text had before them, in their order, or none where a
 /// text stood at its place before. Of all of them none stands twice where none of those does. The
-/// places keep the numbers of texts, which have four bytes.
+/// places keep the numbers of texts, which have two bytes.
 pub(crate) fn displaced<'a>(
     alloc: Global,
     texts: &[&'a str],
 ) -> Result<Option<Vec<&'a str>>, Memory>
-    requires { length texts.now < 2 ^ 32 }
+    requires { length texts.now < 2 ^ 16 }
     ensures { IfOk result (λ found.
         are_apart (option_map (λ rest. map (λ text. text.now) rest.items) found) ≡
         are_distinct same_text (map (λ text. text.now) texts.now)) }
 {
-    let room = 4 * texts.len().min(1_048_576) + 1;
-    let mut places: Vec<u32> = Vec::new(alloc);
+    let room = 4 * texts.len() + 1;
+    let mut places: Vec<u16> = Vec::new(alloc);
     places.resize(room, 0)?;
     let mut rest = Vec::new(alloc);
     for (at, text) in texts.iter().enumerate() {
         let here = place(*text, room);
         match numbered(texts, places[here]) {
-            None => places[here] = at as u32 + 1,
+            None => places[here] = at as u16 + 1,
             Some(first) => {
                 if first == *text {
                     return Ok(None);
