@@ -3,39 +3,24 @@ use crate::message::{Moments, Session, push_message};
 use crate::outside::outside_of;
 use crate::told::push_replies;
 use pl_base::{List, Memory};
-use pl_cases::{Answers, first_line};
+use pl_cases::{Answers, answer_each};
 use pl_commands::run;
 use std::alloc::Global;
 use std::sync::Wait;
 use std::thread::Threads;
 
-/// Answers all cases of a text, which stand in it as `pl_cases` says. (Its own `answer_all` asks a
-/// trait's method, which isn't told that a runtime may be shared by threads.)
+/// Answers all cases of a text, which stand in it as `pl_cases` says.
 pub fn answer_sessions<R: Threads + Wait + Sync>(
     rt: &R,
     alloc: Global,
     out: &mut Answers,
     text: &str,
 ) {
-    let text = text.strip_suffix('\n').unwrap_or(text);
-    for ask in text.split("\n%%% ask ").skip(1) {
-        answer_ask(rt, alloc, out, ask);
-    }
-}
-
-/// Answers the cases of a question.
-fn answer_ask<R: Threads + Wait + Sync>(rt: &R, alloc: Global, out: &mut Answers, ask: &str) {
-    let (question, rest) = first_line(ask);
-    let (_, cases) = rest.split_once("%%% case ").unwrap_or((rest, ""));
-    for case in cases.split("\n%%% case ") {
-        let (name, case) = first_line(case);
-        out.line("%%% case ", name);
-        match question {
-            "replies" => answer_case(rt, alloc, out, case),
-            "rehearsals" => answer_rehearsal(rt, alloc, out, case),
-            _ => out.line("%%% not read: ", question),
-        }
-    }
+    answer_each(out, text, |out, question, _notes, case| match question {
+        "replies" => answer_case(rt, alloc, out, case),
+        "rehearsals" => answer_rehearsal(rt, alloc, out, case),
+        _ => out.line("%%% not read: ", question),
+    })
 }
 
 /// The words of the command: the admin's token is `abc`.

@@ -8,7 +8,7 @@ use pl_base::{
     Bytes, Clock, LAST_MOMENT, List, MemSink, MemSource, Memory, Moment, Paired, Row, Text,
 };
 use pl_keeper::{Keeper, KeeperFault, MemKeeper};
-use pl_listener::ListenFault;
+use pl_listener::{ListenFault, Listener};
 use pl_outfit::Outfit;
 use std::alloc::Global;
 
@@ -45,8 +45,8 @@ pub struct Outside {
     rows: Option<List<Row>>,
     pub back: Option<MemKeeper>,
     keeper_faults: u64,
-    // For how many handles of its door there is room.
-    room: u8,
+    // How many handles of its door are out.
+    handles_out: u8,
 }
 
 /// A store in memory without a row.
@@ -71,9 +71,14 @@ impl Outfit for Outside {
     ghost view = { λ outfit. record {
       ends = outfit.ends;
       coming = None;
+      lines = record {
+        no_store = λ path failed. [];
+        door = λ address. [];
+        no_door = λ address failed. [];
+      };
       people = None;
       stores = record { asked = None; rows = None; back = None; faults = outfit.keeper_faults };
-      doors = record { asked = None; back = None; room = outfit.room; faults = 0 };
+      doors = record { asked = None; back = None; out = outfit.handles_out; faults = 0 };
     } };
 
     ghost with_ends = { λ outfit ends. record outfit { ends = ends } };
@@ -109,12 +114,18 @@ impl Outfit for Outside {
     }
 
     fn door(&mut self, _alloc: Global, _address: &Text) -> Result<ClosedDoor, ListenFault> {
-        self.room = 4;
+        self.handles_out = 1;
         Ok(ClosedDoor::new())
     }
 
+    fn share(&mut self, alloc: Global, door: &mut ClosedDoor) -> Result<ClosedDoor, ListenFault> {
+        let handle = door.share(alloc)?;
+        self.handles_out += 1;
+        Ok(handle)
+    }
+
     fn door_back(&mut self, _door: ClosedDoor) {
-        self.room -= 1;
+        self.handles_out -= 1;
     }
 
     fn tell(&mut self, _line: &str) {}
@@ -145,7 +156,7 @@ pub fn outside_of(
         rows: Some(rows),
         back: None,
         keeper_faults: 0,
-        room: 0,
+        handles_out: 0,
     })
 }
 

@@ -8,7 +8,7 @@ mod shown;
 mod spelling;
 
 pub use answers::Answers;
-pub use asks::{Questions, answer_all, first_line};
+pub use asks::{Questions, answer_all, answer_each, first_line};
 pub use meaning::{meant, repeated};
 pub use shown::push_shown;
 pub use spelling::plain;

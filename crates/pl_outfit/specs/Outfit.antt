@@ -14,15 +14,16 @@ use Rattle.pl_listener.specs.Handles.{Handle}
 use Rattle.pl_listener.specs.declared.fault.ListenFault.{ListenFault}
 use Rattle.pl_listener.specs.declared.fault.ListenFault.TheVariants as listener
 use Rattle.pl_outfit.specs.Doors.{Doors, IsNew, opened_at, refused_at as no_door_at}
-use Rattle.pl_outfit.specs.Outside.{Outside}
+use Rattle.pl_outfit.specs.Outside.{Lines, Outside}
 use Rattle.pl_outfit.specs.Stores.{BeginsWith, Stores, given_at, refused_at as no_store_at}
 use Rattle.pl_sessions.specs.Told.{Told}
 
--- the source and the sink, the moments that the next clock will tell, the bytes that people were
--- told, where it tells them, its stores, and its doors
+-- the source and the sink, the moments that the next clock will tell, the lines that it tells
+-- people itself, the bytes that people were told, where it tells them, its stores, and its doors
 pub record View (In Out : Type 0) : Type 0 where
   pub ends : Paired In Out
   pub coming : Option (ℕ → ℕ)
+  pub lines : Lines
   pub people : Option (List ℕ)
   pub stores : Stores
   pub doors : Doors
@@ -50,20 +51,20 @@ abbrev pub outside : {In Out : Type 0} → the_source.Ghosts In → the_sink.Gho
 outside reading writing view = record {
   link = told_by_ends reading writing view.ends;
   coming = view.coming;
+  lines = view.lines;
   people = view.people;
   stores = view.stores;
   doors = view.doors;
 }
 
--- no store was given, and people were told a line
-pub record GivesNoStore {In Out : Type 0} (path : Option (List ℕ)) (failed : Bool)
-    (old new : View In Out) : Type 0 where
-  pub line : List ℕ
-  pub is :
-      new ≡ record old {
-        people = with_end old.people line;
-        stores = no_store_at path failed old.stores;
-      }
+-- no store was given, and people were told its line
+abbrev pub GivesNoStore : {In Out : Type 0} → Option (List ℕ) → Bool → View In Out → View In Out
+    → Type 0
+GivesNoStore path failed old new =
+    new ≡ record old {
+      people = with_end old.people (old.lines.no_store path failed);
+      stores = no_store_at path failed old.stores;
+    }
 
 -- a store was given of which no call was made; or it couldn't be, or memory was wanting
 abbrev pub GivesStore : {K In Out : Type 0} → (K → Option (List Row)) → (K → ℕ)
@@ -74,17 +75,18 @@ GivesStore held faults path old (Ok store) new =
 GivesStore held faults path old (Err keeper.Failed) new = GivesNoStore path true old new
 GivesStore held faults path old (Err keeper.Memory) new = GivesNoStore path false old new
 
--- people were told a line, and the doors are these
-pub record TellsOfDoor {In Out : Type 0} (doors : Doors) (old new : View In Out) : Type 0 where
-  pub line : List ℕ
-  pub is : new ≡ record old { people = with_end old.people line; doors = doors }
+-- people were told this line, and the doors are these
+abbrev pub TellsOfDoor : {In Out : Type 0} → List ℕ → Doors → View In Out → View In Out → Type 0
+TellsOfDoor line doors old new =
+    new ≡ record old { people = with_end old.people line; doors = doors }
 
 -- the first handle of a door was given; or the door couldn't be opened, or memory was wanting
 abbrev pub GivesDoor : {D In Out : Type 0} → (D → Handle) → List ℕ → View In Out
     → Result D ListenFault → View In Out → Type 0
 GivesDoor tells address old (Ok door) new =
-    IsNew (tells door) × TellsOfDoor (opened_at address old.doors) old new
+    IsNew (tells door)
+    × TellsOfDoor (old.lines.door address) (opened_at address old.doors) old new
 GivesDoor tells address old (Err listener.Failed) new =
-    TellsOfDoor (no_door_at address true old.doors) old new
+    TellsOfDoor (old.lines.no_door address true) (no_door_at address true old.doors) old new
 GivesDoor tells address old (Err listener.Memory) new =
-    TellsOfDoor (no_door_at address false old.doors) old new
+    TellsOfDoor (old.lines.no_door address false) (no_door_at address false old.doors) old new

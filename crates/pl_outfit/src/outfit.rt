@@ -2,7 +2,8 @@ ghost use Rattle.std.specs.Prelude.{◌≡◌, ◌<◌, None, option_copied};
 ghost use Rattle.std.specs.Borrow.{sem};
 ghost use Rattle.pl_base.specs.Streams.{with_end};
 ghost use Rattle.pl_base.specs.declared.paired.Paired.{Paired};
-ghost use Rattle.pl_outfit.specs.Doors.{ended};
+ghost use Rattle.pl_listener.specs.Handles.{Shares};
+ghost use Rattle.pl_outfit.specs.Doors.{ended, shared_by};
 ghost use Rattle.pl_outfit.specs.Outfit.{GivesDoor, GivesStore, LendsEnds, View};
 ghost use Rattle.pl_outfit.specs.Stores.{handed_back};
 
@@ -54,14 +55,24 @@ pub trait Outfit {
         } };
 
     /// Opens a door at an address, and gives its first handle; people are told where it listens, or
-    /// why it doesn't. There is room for four handles then.
+    /// why it doesn't.
     fn door(&mut self, alloc: Global, address: &Text) -> Result<Self::Door, ListenFault>
         ensures { GivesDoor Self.Door.tells address.now (view self.old) result (view self.new) };
 
-    /// Ends a handle that has no link out, for which there is room. It takes no memory.
+    /// Gives one more handle of the door, with counts of its own, by one that is out: there are four
+    /// at most. A call that fails is counted by the handle that is there.
+    fn share(&mut self, alloc: Global, door: &mut Self::Door) -> Result<Self::Door, ListenFault>
+        requires few { (view self.old).doors.out < 4 }
+        ensures shares { Shares Self.Door.tells (Self.Door.tells door.old) result
+            (Self.Door.tells door.new) }
+        ensures out { view self.new ≡ record (view self.old) {
+          doors = shared_by result (view self.old).doors;
+        } };
+
+    /// Ends a handle that is out and has no link out. It takes no memory.
     fn door_back(&mut self, door: Self::Door)
-        requires out { (Self.Door.tells door).out ≡ None }
-        requires room { 0 < (view self.old).doors.room }
+        requires none_out { (Self.Door.tells door).out ≡ None }
+        requires out { 0 < (view self.old).doors.out }
         ensures { view self.new ≡ record (view self.old) {
           doors = ended (Self.Door.tells door) (view self.old).doors;
         } };

@@ -1,4 +1,4 @@
-ghost use Rattle.std.specs.Prelude.{◌≡◌, None, false, refl};
+ghost use Rattle.std.specs.Prelude.{◌≡◌, [], None, false, refl};
 
 use crate::store::ProcessStore;
 use crate::streams::{Reading, SystemClock, Writing};
@@ -23,8 +23,8 @@ pub struct Process<R, W, E> {
     people: E,
     keeper_faults: u64,
     door_faults: u64,
-    // For how many handles of a door there is room.
-    room: u8,
+    // How many handles of a door are out.
+    handles_out: u8,
 }
 
 impl<R, W, E> Process<R, W, E> {
@@ -49,7 +49,7 @@ impl<R, W, E> Process<R, W, E> {
             people,
             keeper_faults: 0,
             door_faults: 0,
-            room: 0,
+            handles_out: 0,
         }
     }
 }
@@ -68,12 +68,17 @@ impl<R: io::Read, W: io::Write, E: io::Write> Outfit for Process<R, W, E> {
     ghost view = { λ process. record {
       ends = process.ends;
       coming = None;
+      lines = record {
+        no_store = λ path failed. [];
+        door = λ address. [];
+        no_door = λ address failed. [];
+      };
       people = None;
       stores = record { asked = None; rows = None; back = None; faults = process.keeper_faults };
       doors = record {
         asked = None;
         back = None;
-        room = process.room;
+        out = process.handles_out;
         faults = process.door_faults;
       };
     } };
@@ -129,7 +134,7 @@ impl<R: io::Read, W: io::Write, E: io::Write> Outfit for Process<R, W, E> {
                     Ok(at) => writeln!(self.people, "listening on {at}"),
                     Err(_) => writeln!(self.people, "listening on {address}"),
                 };
-                self.room = 4;
+                self.handles_out = 1;
                 Ok(door)
             }
             Err(fault) => {
@@ -143,8 +148,18 @@ impl<R: io::Read, W: io::Write, E: io::Write> Outfit for Process<R, W, E> {
         }
     }
 
+    fn share(
+        &mut self,
+        alloc: Global,
+        door: &mut TcpDoor<HostRuntime>,
+    ) -> Result<TcpDoor<HostRuntime>, ListenFault> {
+        let handle = door.share(alloc)?;
+        self.handles_out += 1;
+        Ok(handle)
+    }
+
     fn door_back(&mut self, door: TcpDoor<HostRuntime>) {
-        self.room -= 1;
+        self.handles_out -= 1;
         if door.faults() > 0 {
             self.door_faults = self.door_faults.saturating_add(1);
         }

@@ -1,6 +1,6 @@
 -- Handles of a door that couldn't be shared in four are ended.
-use Rattle.std.proofs.Common.{◌≡◌, ◌∙◌, ℕ, List, [], ◌∷◌, Err, refl, ap, inr}
-use Rattle.std.proofs.Common.{nat_lt}
+use Rattle.std.proofs.Common.{◌≡◌, ◌∙◌, ◌+◌, ℕ, List, [], ◌∷◌, Err, refl, sym, subst, ap, inr}
+use Rattle.std.proofs.Common.{length, nat_lt}
 use Rattle.std.specs.List.{AllByRecursion}
 use Rattle.pl_base.specs.Counts.{one_more}
 use Rattle.pl_base.specs.declared.sink.Sink as the_sink
@@ -8,11 +8,12 @@ use Rattle.pl_base.specs.declared.source.Source as the_source
 use Rattle.pl_listener.specs.Handles.{Handle, Shares, another}
 use Rattle.pl_listener.specs.declared.fault.ListenFault.{ListenFault}
 use Rattle.pl_listener.specs.declared.fault.ListenFault.TheVariants as fault
-use Rattle.pl_outfit.specs.Doors.{Doors, IsNew, ended, opened_at}
+use Rattle.pl_outfit.specs.Doors.{Doors, IsNew, ended, opened_at, with_one_more}
 use Rattle.pl_outfit.specs.Outfit.{TellsOfDoor, View, outside}
 use Rattle.pl_outfit.specs.Outside.{Outside}
 use Rattle.pl_outfit.specs.Stores.{one_more_if}
-use Rattle.pl_serving.specs.Doors.{HasNoDoors, Opens, all_ended, counted, with_door}
+use Rattle.pl_serving.specs.Doors.{HasNoDoors, OpensFor, all_ended, counted, opened_for}
+use Rattle.pl_serving.specs.Doors.{with_door}
 
 -- no link was given through it, and no call of it failed
 pub record IsUnused (handle : Handle) : Type 0 where
@@ -52,35 +53,53 @@ module _ {S : Type 0} (tells : S → Handle) (old new : Handle) (is_new : IsNew 
 
   pub shares_none : (address : List ℕ) (why : ListenFault) (before between after : Outside)
       (others : List Handle) → AllByRecursion IsUnused others → Shares tells old (Err why) new
-      → Opens address before between
+      → OpensFor (length (new ∷ others)) address before between
       → after ≡ record between { doors = all_ended (new ∷ others) between.doors }
       → HasNoDoors address why before after
   shares_none address why before between after others unused is opens ends = (
     inr (record {
-      line = opens.line;
       handles = new ∷ others;
       none = (no_link why is, none_given others unused);
       is = all;
     }),
     ap (λ o. o.doors.faults) all
-        ∙ quiet others (ended new (opened_at address before.doors)) unused
+        ∙ quiet others (ended new (opened_for (length (new ∷ others)) address before.doors)) unused
         ∙ one_fault why before.doors.faults is,
   )
     where
-      all : after ≡ with_door opens.line
-          (all_ended (new ∷ others) (opened_at address before.doors)) before
+      all : after ≡ with_door (before.lines.door address)
+          (all_ended (new ∷ others) (opened_for (length (new ∷ others)) address before.doors))
+          before
       all =
           ends ∙ ap (λ (o : Outside). let out : Outside =
           record o { doors = all_ended (new ∷ others) o.doors } in out) opens.is
 
 module _ {In Out : Type 0} (reading : the_source.Ghosts In) (writing : the_sink.Ghosts Out) where
   pub opens_by : (address : List ℕ) (old new : View In Out)
-      → TellsOfDoor (opened_at address old.doors) old new
-      → Opens address (outside reading writing old) (outside reading writing new)
+      → TellsOfDoor (old.lines.door address) (opened_at address old.doors) old new
+      → OpensFor 1 address (outside reading writing old) (outside reading writing new)
   opens_by address old new tells = record {
-    line = tells.line;
-    is = ap (outside reading writing) tells.is;
+    is = ap (outside reading writing) tells;
   }
+
+  -- where one more handle was given, and where none was
+  pub opens_more : (count : ℕ) (address : List ℕ) (before : Outside) (old new : View In Out)
+      → OpensFor count address before (outside reading writing old)
+      → new ≡ record old { doors = with_one_more old.doors }
+      → OpensFor (count + 1) address before (outside reading writing new)
+  opens_more count address before old new opens is = record {
+    is =
+        ap (outside reading writing) is
+        ∙ ap (λ (o : Outside). let out : Outside =
+        record o { doors = with_one_more o.doors } in out) opens.is;
+  }
+
+  pub opens_as_many : (count : ℕ) (address : List ℕ) (before : Outside) (old new : View In Out)
+      → OpensFor count address before (outside reading writing old) → new ≡ old
+      → OpensFor count address before (outside reading writing new)
+  opens_as_many count address before old new opens is =
+      subst (λ (v : View In Out). OpensFor count address before (outside reading writing v))
+      (sym is) opens
 
   -- handles that were ended, one behind the other
   pub ended_one : (first : Handle) (old new : View In Out)

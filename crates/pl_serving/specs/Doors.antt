@@ -1,5 +1,6 @@
 -- Four handles of a door.
-use Rattle.std.specs.Prelude.{◌≡◌, ◌⊎◌, ℕ, Bool, true, false, List, [], ◌∷◌, Result, Ok, Err}
+use Rattle.std.specs.Prelude.{◌≡◌, ◌⊎◌, ℕ, Bool, true, false, List, [], ◌∷◌, length}
+use Rattle.std.specs.Prelude.{Result, Ok, Err}
 use Rattle.std.specs.List.{AllByRecursion}
 use Rattle.pl_base.specs.Counts.{one_more}
 use Rattle.pl_base.specs.Streams.{with_end}
@@ -15,7 +16,7 @@ abbrev pub all_ended : List Handle → Doors → Doors
 all_ended [] doors = doors
 all_ended (handle ∷ handles) doors = all_ended handles (ended handle doors)
 
--- people were told a line, and the doors are these
+-- people were told this line, and the doors are these
 abbrev pub with_door : List ℕ → Doors → Outside → Outside
 with_door line doors old = record old { people = with_end old.people line; doors = doors }
 
@@ -31,22 +32,32 @@ pub record AreNew {L : Type 0} (tells : L → Handle) (doors : Four L) : Type 0 
   pub third : IsNew (tells doors.third)
   pub fourth : IsNew (tells doors.fourth)
 
--- a door was opened, and people were told a line
-pub record Opens (address : List ℕ) (old new : Outside) : Type 0 where
-  pub line : List ℕ
-  pub is : new ≡ with_door line (opened_at address old.doors) old
+-- a door was opened, and so many handles of it are out
+abbrev pub opened_for : ℕ → List ℕ → Doors → Doors
+opened_for count address doors = record (opened_at address doors) { out = count }
 
--- none was, and people were told a line
+-- a door was opened, so many handles of it are out, and people were told the outfit's line
+pub record OpensFor (count : ℕ) (address : List ℕ) (old new : Outside) : Type 0 where
+  pub is : new ≡ with_door (old.lines.door address) (opened_for count address old.doors) old
+
+-- four handles are
+abbrev pub Opens : List ℕ → Outside → Outside → Type 0
+Opens address old new = OpensFor 4 address old new
+
+-- none was, and people were told the outfit's line
 pub record OpensNone (address : List ℕ) (why : ListenFault) (old new : Outside) : Type 0 where
-  pub line : List ℕ
-  pub is : new ≡ with_door line (refused_at address (has_failed why) old.doors) old
+  pub is :
+      new ≡ with_door (old.lines.no_door address (has_failed why))
+      (refused_at address (has_failed why) old.doors) old
 
--- one was, but it couldn't be shared in four: its handles were ended, and none had given a link
+-- one was, but it couldn't be shared in four: as many handles were ended as were given, and none
+-- had given a link
 pub record SharesNone (address : List ℕ) (why : ListenFault) (old new : Outside) : Type 0 where
-  pub line : List ℕ
   pub handles : List Handle
   pub none : AllByRecursion (λ (handle : Handle). handle.accepted ≡ 0) handles
-  pub is : new ≡ with_door line (all_ended handles (opened_at address old.doors)) old
+  pub is :
+      new ≡ with_door (old.lines.door address)
+      (all_ended handles (opened_for (length handles) address old.doors)) old
 
 -- where the listener failed it was counted, and nothing else was
 abbrev pub counted : ListenFault → ℕ → ℕ

@@ -5,7 +5,7 @@ ghost use Rattle.pl_outfit.specs.Outfit.{outside};
 ghost use Rattle.pl_serving.specs.Doors.{OpensFour};
 
 use pl_base::Text;
-use pl_listener::{ListenFault, Listener};
+use pl_listener::ListenFault;
 use pl_outfit::Outfit;
 use pl_serve::Four;
 use std::alloc::Global;
@@ -21,14 +21,14 @@ pub(crate) fn four_doors<O: Outfit>(
         (outside O.In.Source O.Out.Sink (O.view outfit.new)) }
 {
     let mut first = outfit.door(alloc, address)?;
-    let second = match first.share(alloc) {
+    let second = match outfit.share(alloc, &mut first) {
         Ok(handle) => handle,
         Err(fault) => {
             outfit.door_back(first);
             return Err(fault);
         }
     };
-    let third = match first.share(alloc) {
+    let third = match outfit.share(alloc, &mut first) {
         Ok(handle) => handle,
         Err(fault) => {
             outfit.door_back(first);
@@ -36,7 +36,7 @@ pub(crate) fn four_doors<O: Outfit>(
             return Err(fault);
         }
     };
-    match first.share(alloc) {
+    match outfit.share(alloc, &mut first) {
         Ok(fourth) => Ok(Four {
             first,
             second,

@@ -78,7 +78,7 @@ fn serve_doors<R: Threads + Wait + Sync, O: Outfit>(
 ) -> Status
     requires free { IsFree hall.lock seat }
     requires new { AreNew O.Door.tells doors }
-    requires room { (O.view outfit.old).doors.room ≡ 4 }
+    requires out { (O.view outfit.old).doors.out ≡ 4 }
     ensures { (opening : Opening) → parts_of seat ≡ first_parts hall.lock opening
         → ServesLinks O.Time.coming O.Door.tells opening doors
         (outside O.In.Source O.Out.Sink (O.view outfit.old)) result
@@ -132,7 +132,7 @@ fn with_clock<O: Outfit>(outfit: &mut O, door: O::Door) -> Outside<O::Door, O::T
 // Ends four handles.
 fn end_four<O: Outfit>(outfit: &mut O, outsides: Four<Outside<O::Door, O::Time>>)
     requires none_out { AreIn O.Door.tells outsides }
-    requires room { (O.view outfit.old).doors.room ≡ 4 }
+    requires out { (O.view outfit.old).doors.out ≡ 4 }
     ensures { O.view outfit.new ≡ record (O.view outfit.old) {
       doors = all_ended (handles_of O.Door.tells outsides) (O.view outfit.old).doors;
     } }

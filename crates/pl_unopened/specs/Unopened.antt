@@ -27,14 +27,13 @@ with_store path old = record old { stores = given_at path old.stores }
 abbrev pub no_store_status : Bool → Status
 no_store_status failed = if failed then status.KeeperFault else status.Memory
 
--- none was, and people were told a line
+-- none was, and people were told the outfit's line
 pub record HasNoStore (path : Option (List ℕ)) (old : Outside) (ending : Status) (new : Outside)
     : Type 0 where
   pub failed : Bool
-  pub line : List ℕ
   pub is :
       new ≡ record old {
-        people = with_end old.people line;
+        people = with_end old.people (old.lines.no_store path failed);
         stores = refused_at path failed old.stores;
       }
   pub ending_is : ending ≡ no_store_status failed
