@@ -1,4 +1,5 @@
 mod at_once;
 mod calls;
+mod clerks;
 mod four;
 mod sockets;

@@ -57,7 +57,7 @@ impl<'a> Visitor for Caller<'a> {
 }
 
 /// Whether the flag is set, or becomes so in time.
-fn is_set_in_time(flag: &AtomicU64) -> bool {
+pub(crate) fn is_set_in_time(flag: &AtomicU64) -> bool {
     for _ in 0..LOOKS {
         if flag.load(Ordering::SeqCst) == 1 {
             return true;
