@@ -6,7 +6,7 @@ use Rattle.std.specs.Cmp.{IsStrictWeakOrder}
 use Rattle.std.specs.List.{find, slice_get, AllWithin}
 use Rattle.std.specs.List.Sorted.{IsPartitionedBy}
 use Rattle.std.specs.Cmp.Lexicographic.{slice_cmp}
-use Rattle.std.specs.Option.{option_and_then}
+use Rattle.std.specs.Option.{option_and_then, option_map_or}
 use Rattle.std.specs.Ordering.{is_eq, is_lt, nat_cmp, ordering_reverse, ordering_then}
 use Rattle.std.specs.Prelude.{nat_lt, ◌==◌}
 use Rattle.std.specs.declared.cmp.Ordering.{Ordering}
@@ -49,6 +49,51 @@ before_first at all order i j d le lt e =
     true_else (is_before at (get_or all i d)) (λ denied.
     true≢false (sym e ∙ places_weak.chain (key (get_or all j d)) (key (get_or all i d)) at
     (far all order i j d le lt) denied))
+
+-- ---- whether so many rows come before a place
+
+at_number : (all : List Seen) (n : ℕ) (d : Seen) → n < length all →
+    slice_get all n ≡ Some (get_or all n d)
+at_number [] n d lt = absurd (omega arith)
+at_number (y ∷ ys) zero d lt = refl
+at_number (y ∷ ys) (suc n) d lt = at_number ys n d (omega arith)
+
+-- whether the row of a number comes before it
+abbrev pub comes : Place → List Seen → ℕ → Bool
+comes at all n = option_map_or (is_before at) (slice_get all n) false
+
+told : (at : Place) (all : List Seen) (n : ℕ) (d : Seen) → n < length all →
+    comes at all n ≡ is_before at (get_or all n d)
+told at all n d lt =
+    ap (λ (o : Option Seen). option_map_or (is_before at) o false) (at_number all n d lt)
+
+back_by : (at : Place) (all : List Seen) → AreInOrder all → (n : ℕ) → comes at all n ≡ false →
+    AllWithin (λ one. is_before at one ≡ false) all n (length all)
+back_by at all order n denied k d low high =
+    false_else (is_before at (get_or all k d)) (λ e.
+    true≢false (sym (before_first at all order n k d low high e) ∙
+    (sym (told at all n d (omega (arith, low, high))) ∙ denied)))
+
+-- none does
+pub cut_none : (at : Place) (all : List Seen) → AreInOrder all → (n : ℕ) → n ≡ 0 →
+    comes at all n ≡ false → IsCut at all n
+cut_none at all order n zero_is denied = record {
+  within = omega (arith, zero_is);
+  front = λ k d low high. absurd (omega (arith, zero_is, high));
+  back = back_by at all order n denied;
+}
+
+-- the last of them does
+pub cut_some : (at : Place) (all : List Seen) → AreInOrder all → (n m : ℕ) → n ≡ m + 1 →
+    n ≤ length all → comes at all n ≡ false → comes at all m ≡ true → IsCut at all n
+cut_some at all order n m more within denied last = record {
+  within = within;
+  front = λ k d low high.
+      let le : k ≤ m = omega (arith, more, high) in
+      let lt : m < length all = omega (arith, more, within) in
+      before_first at all order k m d le lt (sym (told at all m d lt) ∙ last);
+  back = back_by at all order n denied;
+}
 
 -- ---- searches
 

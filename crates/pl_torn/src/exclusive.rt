@@ -5,6 +5,7 @@ ghost use Rattle.pl_torn.specs.Exclusive as spec;
 ghost use Rattle.pl_torn.specs.Seen.{AreInOrder};
 
 use crate::looking::{planned_stage, resource_told};
+use crate::near::Near;
 use crate::seen::{Seen, stage_of};
 use pl_base::{Memory, ResourceKey};
 use pl_keeper::KeptStage;
@@ -101,7 +102,7 @@ fn is_sharing(
     if !is_running(told) {
         return Ok(false);
     }
-    match planned_stage(alloc, all, told.run, told.position)? {
+    match planned_stage(alloc, all, Near::first(), told.run, told.position)? {
         Some(other) => share(alloc, all, planned.uses.as_slice(), other.uses.as_slice()),
         None => Ok(false),
     }

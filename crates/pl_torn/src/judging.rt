@@ -10,6 +10,7 @@ use crate::holding::{has_other, is_leg_too_many, is_out_of_stage};
 use crate::looking::{meta_told, plan_told, planned_stage, stage_told};
 use crate::moments::{is_job_late, is_job_off, is_late, is_run_late, is_stage_late, is_stage_off};
 use crate::names::{is_reserved_pipeline, is_reserved_principal};
+use crate::near::Near;
 use crate::plans::{is_above, lacks_rows};
 use crate::seen::{Seen, stands_at};
 use pl_base::{Digest, Memory, Shared};
@@ -39,9 +40,11 @@ pub fn torn<'s, 'r>(
     requires order { AreInOrder all.now }
     ensures { IfOk result (λ found. option_copied found ≡ spec.torn admin.now all.now) }
 {
+    let mut near = Near::first();
     for (at, one) in all.iter().enumerate() {
         let before = in_front(all, at);
-        if is_bad(alloc, admin, all, before, one)? {
+        near = near.moved(all, at, one);
+        if is_bad(alloc, admin, all, before, near, one)? {
             return Ok(Some(one));
         }
     }
@@ -62,6 +65,7 @@ fn is_bad(
     admin: &Digest,
     all: &[Seen<'_>],
     before: &[Seen<'_>],
+    near: Near,
     one: &Seen<'_>,
 ) -> Result<bool, Memory>
     requires order { AreInOrder all.now }
@@ -74,7 +78,7 @@ fn is_bad(
         return Ok(true);
     }
     match &one.kept {
-        Some(kept) => is_bad_record(alloc, admin, all, before, &one.compiled, kept),
+        Some(kept) => is_bad_record(alloc, admin, all, before, near, &one.compiled, kept),
         None => Ok(true),
     }
 }
@@ -102,6 +106,7 @@ fn is_bad_record(
     admin: &Digest,
     all: &[Seen<'_>],
     before: &[Seen<'_>],
+    near: Near,
     compiled: &Option<Shared<Compiled>>,
     kept: &Record,
 ) -> Result<bool, Memory>
@@ -112,10 +117,10 @@ fn is_bad_record(
     match kept {
         Record::Pipeline(told) => Ok(is_reserved_pipeline(told)),
         Record::Principal(told) => Ok(is_reserved_principal(admin, before, told)),
-        Record::Run(told) => is_bad_run(alloc, all, compiled, told),
-        Record::Stage(told) => is_bad_stage(alloc, all, before, told),
-        Record::Job(told) => is_bad_job(alloc, all, before, told),
-        Record::Decision(told) => is_bad_decision(alloc, all, told),
+        Record::Run(told) => is_bad_run(alloc, all, near, compiled, told),
+        Record::Stage(told) => is_bad_stage(alloc, all, before, near, told),
+        Record::Job(told) => is_bad_job(alloc, all, before, near, told),
+        Record::Decision(told) => is_bad_decision(alloc, all, near, told),
         Record::Meta(_) | Record::File(_) | Record::Resource(_) | Record::Agent(_) => Ok(false),
     }
 }
@@ -124,6 +129,7 @@ fn is_bad_record(
 fn is_bad_run(
     alloc: Global,
     all: &[Seen<'_>],
+    near: Near,
     compiled: &Option<Shared<Compiled>>,
     told: &KeptRun,
 ) -> Result<bool, Memory>
@@ -132,7 +138,7 @@ fn is_bad_run(
 {
     let numbers = meta_told(all);
     Ok(
-        lacks_rows(alloc, all, compiled, told)?
+        lacks_rows(alloc, all, near, compiled, told)?
             || is_above(numbers, told)
             || is_run_late(numbers, told),
     )
@@ -143,17 +149,18 @@ fn is_bad_stage(
     alloc: Global,
     all: &[Seen<'_>],
     before: &[Seen<'_>],
+    near: Near,
     told: &KeptStage,
 ) -> Result<bool, Memory>
     requires order { AreInOrder all.now }
     ensures { IfOk result (λ is. is ≡ spec.is_bad_stage all.now before.now told.now) }
 {
-    let Some(plan) = plan_told(alloc, all, told.run)? else {
+    let Some(plan) = plan_told(alloc, all, near, told.run)? else {
         return Ok(true);
     };
     let stages = plan.stages.as_slice();
     match stages.get(told.position as usize) {
-        Some(planned) => is_bad_stage_of(alloc, all, before, stages, told, planned),
+        Some(planned) => is_bad_stage_of(alloc, all, before, near, stages, told, planned),
         None => Ok(true),
     }
 }
@@ -163,6 +170,7 @@ fn is_bad_stage_of(
     alloc: Global,
     all: &[Seen<'_>],
     before: &[Seen<'_>],
+    near: Near,
     stages: &[PlanStage],
     told: &KeptStage,
     planned: &PlanStage,
@@ -171,7 +179,7 @@ fn is_bad_stage_of(
     ensures { IfOk result (λ is. is ≡
         spec.is_bad_stage_of all.now before.now stages.now told.now planned.now) }
 {
-    if is_stage_off(alloc, all, stages, planned, told)? {
+    if is_stage_off(alloc, all, near, stages, planned, told)? {
         return Ok(true);
     }
     if is_stage_late(meta_told(all), told) {
@@ -185,16 +193,17 @@ fn is_bad_job(
     alloc: Global,
     all: &[Seen<'_>],
     before: &[Seen<'_>],
+    near: Near,
     told: &KeptJob,
 ) -> Result<bool, Memory>
     requires order { AreInOrder all.now }
     ensures { IfOk result (λ is. is ≡ spec.is_bad_job all.now before.now told.now) }
 {
-    let Some(planned) = planned_stage(alloc, all, told.run, told.stage)? else {
+    let Some(planned) = planned_stage(alloc, all, near, told.run, told.stage)? else {
         return Ok(true);
     };
     match planned.jobs.get(told.position as usize) {
-        Some(job) => is_bad_job_of(alloc, all, before, told, planned, job),
+        Some(job) => is_bad_job_of(alloc, all, before, near, told, planned, job),
         None => Ok(true),
     }
 }
@@ -204,6 +213,7 @@ fn is_bad_job_of(
     alloc: Global,
     all: &[Seen<'_>],
     before: &[Seen<'_>],
+    near: Near,
     told: &KeptJob,
     planned: &PlanStage,
     job: &PlanJob,
@@ -212,7 +222,7 @@ fn is_bad_job_of(
     ensures { IfOk result (λ is. is ≡
         spec.is_bad_job_of all.now before.now told.now planned.now job.now) }
 {
-    let stage = stage_told(alloc, all, told.run, told.stage)?;
+    let stage = stage_told(alloc, all, near, told.run, told.stage)?;
     if is_out_of_stage(stage, told) {
         return Ok(true);
     }
@@ -222,17 +232,22 @@ fn is_bad_job_of(
     if is_leg_too_many(planned, job, before, told) {
         return Ok(true);
     }
-    if is_job_off(alloc, all, planned.jobs.as_slice(), job, told)? {
+    if is_job_off(alloc, all, near, planned.jobs.as_slice(), job, told)? {
         return Ok(true);
     }
     Ok(is_job_late(meta_told(all), told))
 }
 
 /// Whether a decision's row is bad.
-fn is_bad_decision(alloc: Global, all: &[Seen<'_>], told: &KeptDecision) -> Result<bool, Memory>
+fn is_bad_decision(
+    alloc: Global,
+    all: &[Seen<'_>],
+    near: Near,
+    told: &KeptDecision,
+) -> Result<bool, Memory>
     requires order { AreInOrder all.now }
     ensures { IfOk result (λ is. is ≡ spec.is_bad_decision all.now told.now) }
 {
-    let planned = planned_stage(alloc, all, told.run, told.stage)?;
+    let planned = planned_stage(alloc, all, near, told.run, told.stage)?;
     Ok(planned.is_none() || is_late(meta_told(all), told.moment))
 }

@@ -7,6 +7,7 @@ mod judging;
 mod looking;
 mod moments;
 mod names;
+mod near;
 mod plans;
 mod seen;
 

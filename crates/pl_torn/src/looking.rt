@@ -6,6 +6,7 @@ ghost use Rattle.std.specs.Option.{option_copied};
 ghost use Rattle.pl_torn.specs.Looking as spec;
 ghost use Rattle.pl_torn.specs.Seen.{seen_at as spec_seen_at, AreInOrder};
 
+use crate::near::Near;
 use crate::seen::{Seen, first_row, job_of, seen_at, stage_of};
 use pl_base::{Memory, ResourceKey};
 use pl_fields::encoded;
@@ -39,7 +40,7 @@ pub(crate) fn resource_told<'s>(
         return Err(Memory);
     }
     let bytes = encoded(alloc, key)?;
-    match seen_at(all, 3, bytes.as_slice()) {
+    match seen_at(all, 0, 3, bytes.as_slice()) {
         Some(one) => match &one.kept {
             Some(Record::Resource(told)) => Ok(Some(told)),
             _ => Ok(None),
@@ -52,6 +53,7 @@ pub(crate) fn resource_told<'s>(
 pub(crate) fn stage_row<'s, 'r>(
     alloc: Global,
     all: &'s [Seen<'r>],
+    near: Near,
     run: u64,
     stage: u32,
 ) -> Result<Option<&'s Seen<'r>>, Memory>
@@ -60,20 +62,21 @@ pub(crate) fn stage_row<'s, 'r>(
         (λ row. option_copied row ≡ spec_seen_at (spec.stage_place run stage) all.now) }
 {
     let key = encoded(alloc, &(run, stage))?;
-    Ok(seen_at(all, 7, key.as_slice()))
+    Ok(seen_at(all, near.stage_at(stage), 7, key.as_slice()))
 }
 
 /// What a stage's row tells.
 pub(crate) fn stage_told<'s>(
     alloc: Global,
     all: &'s [Seen<'_>],
+    near: Near,
     run: u64,
     stage: u32,
 ) -> Result<Option<&'s KeptStage>, Memory>
     requires order { AreInOrder all.now }
     ensures { IfOk result (λ told. option_copied told ≡ spec.stage_told run stage all.now) }
 {
-    match stage_row(alloc, all, run, stage)? {
+    match stage_row(alloc, all, near, run, stage)? {
         Some(one) => Ok(stage_of(one)),
         None => Ok(None),
     }
@@ -83,6 +86,7 @@ pub(crate) fn stage_told<'s>(
 pub(crate) fn job_row<'s, 'r>(
     alloc: Global,
     all: &'s [Seen<'r>],
+    near: Near,
     run: u64,
     stage: u32,
     job: u32,
@@ -92,13 +96,14 @@ pub(crate) fn job_row<'s, 'r>(
         (λ row. option_copied row ≡ spec_seen_at (spec.job_place run stage job) all.now) }
 {
     let key = encoded(alloc, &(run, (stage, job)))?;
-    Ok(seen_at(all, 8, key.as_slice()))
+    Ok(seen_at(all, near.job_at(job), 8, key.as_slice()))
 }
 
 /// What a job's row tells.
 pub(crate) fn job_told<'s>(
     alloc: Global,
     all: &'s [Seen<'_>],
+    near: Near,
     run: u64,
     stage: u32,
     job: u32,
@@ -106,7 +111,7 @@ pub(crate) fn job_told<'s>(
     requires order { AreInOrder all.now }
     ensures { IfOk result (λ told. option_copied told ≡ spec.job_told run stage job all.now) }
 {
-    match job_row(alloc, all, run, stage, job)? {
+    match job_row(alloc, all, near, run, stage, job)? {
         Some(one) => Ok(job_of(one)),
         None => Ok(None),
     }
@@ -116,13 +121,14 @@ pub(crate) fn job_told<'s>(
 pub(crate) fn plan_told<'s>(
     alloc: Global,
     all: &'s [Seen<'_>],
+    near: Near,
     run: u64,
 ) -> Result<Option<&'s Plan>, Memory>
     requires order { AreInOrder all.now }
     ensures { IfOk result (λ plan. option_copied plan ≡ spec.plan_told run all.now) }
 {
     let key = encoded(alloc, &run)?;
-    match seen_at(all, 6, key.as_slice()) {
+    match seen_at(all, near.run, 6, key.as_slice()) {
         Some(one) => match &one.compiled {
             Some(compiled) => Ok(Some(&compiled.plan)),
             None => Ok(None),
@@ -135,6 +141,7 @@ pub(crate) fn plan_told<'s>(
 pub(crate) fn planned_stage<'s>(
     alloc: Global,
     all: &'s [Seen<'_>],
+    near: Near,
     run: u64,
     stage: u32,
 ) -> Result<Option<&'s PlanStage>, Memory>
@@ -142,7 +149,7 @@ pub(crate) fn planned_stage<'s>(
     ensures { IfOk result
         (λ planned. option_copied planned ≡ spec.planned_stage run stage all.now) }
 {
-    match plan_told(alloc, all, run)? {
+    match plan_told(alloc, all, near, run)? {
         Some(plan) => Ok(plan.stages.get(stage as usize)),
         None => Ok(None),
     }

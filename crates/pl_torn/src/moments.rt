@@ -7,6 +7,7 @@ ghost use Rattle.pl_torn.specs.Moments as spec;
 ghost use Rattle.pl_torn.specs.Seen.{AreInOrder};
 
 use crate::looking::{job_told, stage_told};
+use crate::near::Near;
 use crate::plans::next;
 use crate::seen::Seen;
 use pl_base::{Memory, Moment};
@@ -117,13 +118,14 @@ fn is_among(places: &[u32], at: u32) -> bool
 fn started_at(
     alloc: Global,
     all: &[Seen<'_>],
+    near: Near,
     run: u64,
     stage: u32,
 ) -> Result<Option<Moment>, Memory>
     requires order { AreInOrder all.now }
     ensures { IfOk result (λ begun. begun ≡ spec.started_at all.now run stage) }
 {
-    match stage_told(alloc, all, run, stage)? {
+    match stage_told(alloc, all, near, run, stage)? {
         Some(told) => Ok(told.started),
         None => Ok(None),
     }
@@ -133,13 +135,14 @@ fn started_at(
 fn stage_ended_at(
     alloc: Global,
     all: &[Seen<'_>],
+    near: Near,
     run: u64,
     stage: u32,
 ) -> Result<Option<Moment>, Memory>
     requires order { AreInOrder all.now }
     ensures { IfOk result (λ ended. ended ≡ spec.stage_ended_at all.now run stage) }
 {
-    match stage_told(alloc, all, run, stage)? {
+    match stage_told(alloc, all, near, run, stage)? {
         Some(told) => Ok(stage_ended(told)),
         None => Ok(None),
     }
@@ -149,6 +152,7 @@ fn stage_ended_at(
 fn stage_starts_before(
     alloc: Global,
     all: &[Seen<'_>],
+    near: Near,
     depends: &[u32],
     told: &KeptStage,
 ) -> Result<bool, Memory>
@@ -157,7 +161,7 @@ fn stage_starts_before(
         depends.now told.now.position told.now.started) }
 {
     for other in depends {
-        if stage_is_early(alloc, all, *other, told)? {
+        if stage_is_early(alloc, all, near, *other, told)? {
             return Ok(true);
         }
     }
@@ -168,6 +172,7 @@ fn stage_starts_before(
 fn stage_is_early(
     alloc: Global,
     all: &[Seen<'_>],
+    near: Near,
     other: u32,
     told: &KeptStage,
 ) -> Result<bool, Memory>
@@ -178,7 +183,7 @@ fn stage_is_early(
     if other >= told.position {
         return Ok(false);
     }
-    let ended = stage_ended_at(alloc, all, told.run, other)?;
+    let ended = stage_ended_at(alloc, all, near, told.run, other)?;
     Ok(starts_early(told.started, ended))
 }
 
@@ -186,6 +191,7 @@ fn stage_is_early(
 fn stage_ends_behind(
     alloc: Global,
     all: &[Seen<'_>],
+    near: Near,
     stages: &[PlanStage],
     told: &KeptStage,
 ) -> Result<bool, Memory>
@@ -194,7 +200,7 @@ fn stage_ends_behind(
 {
     let mut at: u32 = 0;
     for other in stages {
-        if other_stage_is_early(alloc, all, at, other, told)? {
+        if other_stage_is_early(alloc, all, near, at, other, told)? {
             return Ok(true);
         }
         at = next(at)?;
@@ -206,6 +212,7 @@ fn stage_ends_behind(
 fn other_stage_is_early(
     alloc: Global,
     all: &[Seen<'_>],
+    near: Near,
     at: u32,
     other: &PlanStage,
     told: &KeptStage,
@@ -221,7 +228,7 @@ fn other_stage_is_early(
     if !is_among(other.depends.as_slice(), told.position) {
         return Ok(false);
     }
-    let begun = started_at(alloc, all, told.run, at)?;
+    let begun = started_at(alloc, all, near, told.run, at)?;
     Ok(starts_early(begun, stage_ended(told)))
 }
 
@@ -230,6 +237,7 @@ fn other_stage_is_early(
 pub(crate) fn is_stage_off(
     alloc: Global,
     all: &[Seen<'_>],
+    near: Near,
     stages: &[PlanStage],
     planned: &PlanStage,
     told: &KeptStage,
@@ -240,16 +248,17 @@ pub(crate) fn is_stage_off(
     if ends_early(told.started, stage_ended(told)) {
         return Ok(true);
     }
-    if stage_starts_before(alloc, all, planned.depends.as_slice(), told)? {
+    if stage_starts_before(alloc, all, near, planned.depends.as_slice(), told)? {
         return Ok(true);
     }
-    stage_ends_behind(alloc, all, stages, told)
+    stage_ends_behind(alloc, all, near, stages, told)
 }
 
 /// When the job at a place was taken.
 fn taken_at(
     alloc: Global,
     all: &[Seen<'_>],
+    near: Near,
     run: u64,
     stage: u32,
     job: u32,
@@ -257,7 +266,7 @@ fn taken_at(
     requires order { AreInOrder all.now }
     ensures { IfOk result (λ begun. begun ≡ spec.taken_at all.now run stage job) }
 {
-    match job_told(alloc, all, run, stage, job)? {
+    match job_told(alloc, all, near, run, stage, job)? {
         Some(told) => Ok(job_begun(told)),
         None => Ok(None),
     }
@@ -267,6 +276,7 @@ fn taken_at(
 fn job_ended_at(
     alloc: Global,
     all: &[Seen<'_>],
+    near: Near,
     run: u64,
     stage: u32,
     job: u32,
@@ -274,7 +284,7 @@ fn job_ended_at(
     requires order { AreInOrder all.now }
     ensures { IfOk result (λ ended. ended ≡ spec.job_ended_at all.now run stage job) }
 {
-    match job_told(alloc, all, run, stage, job)? {
+    match job_told(alloc, all, near, run, stage, job)? {
         Some(told) => Ok(job_ended(told)),
         None => Ok(None),
     }
@@ -284,6 +294,7 @@ fn job_ended_at(
 fn job_starts_before(
     alloc: Global,
     all: &[Seen<'_>],
+    near: Near,
     depends: &[u32],
     told: &KeptJob,
 ) -> Result<bool, Memory>
@@ -293,7 +304,7 @@ fn job_starts_before(
         (spec.job_begun told.now)) }
 {
     for other in depends {
-        if job_is_early(alloc, all, *other, told)? {
+        if job_is_early(alloc, all, near, *other, told)? {
             return Ok(true);
         }
     }
@@ -301,7 +312,13 @@ fn job_starts_before(
 }
 
 /// Whether a job was taken before the end of one that is in front.
-fn job_is_early(alloc: Global, all: &[Seen<'_>], other: u32, told: &KeptJob) -> Result<bool, Memory>
+fn job_is_early(
+    alloc: Global,
+    all: &[Seen<'_>],
+    near: Near,
+    other: u32,
+    told: &KeptJob,
+) -> Result<bool, Memory>
     requires order { AreInOrder all.now }
     ensures { IfOk result (λ is. is ≡ (nat_lt other told.now.position &&
         spec.starts_early (spec.job_begun told.now)
@@ -310,7 +327,7 @@ fn job_is_early(alloc: Global, all: &[Seen<'_>], other: u32, told: &KeptJob) -> 
     if other >= told.position {
         return Ok(false);
     }
-    let ended = job_ended_at(alloc, all, told.run, told.stage, other)?;
+    let ended = job_ended_at(alloc, all, near, told.run, told.stage, other)?;
     Ok(starts_early(job_begun(told), ended))
 }
 
@@ -318,6 +335,7 @@ fn job_is_early(alloc: Global, all: &[Seen<'_>], other: u32, told: &KeptJob) -> 
 fn job_ends_behind(
     alloc: Global,
     all: &[Seen<'_>],
+    near: Near,
     jobs: &[PlanJob],
     told: &KeptJob,
 ) -> Result<bool, Memory>
@@ -326,7 +344,7 @@ fn job_ends_behind(
 {
     let mut at: u32 = 0;
     for other in jobs {
-        if other_job_is_early(alloc, all, at, other, told)? {
+        if other_job_is_early(alloc, all, near, at, other, told)? {
             return Ok(true);
         }
         at = next(at)?;
@@ -338,6 +356,7 @@ fn job_ends_behind(
 fn other_job_is_early(
     alloc: Global,
     all: &[Seen<'_>],
+    near: Near,
     at: u32,
     other: &PlanJob,
     told: &KeptJob,
@@ -353,7 +372,7 @@ fn other_job_is_early(
     if !is_among(other.depends.as_slice(), told.position) {
         return Ok(false);
     }
-    let begun = taken_at(alloc, all, told.run, told.stage, at)?;
+    let begun = taken_at(alloc, all, near, told.run, told.stage, at)?;
     Ok(starts_early(begun, job_ended(told)))
 }
 
@@ -362,6 +381,7 @@ fn other_job_is_early(
 pub(crate) fn is_job_off(
     alloc: Global,
     all: &[Seen<'_>],
+    near: Near,
     jobs: &[PlanJob],
     planned: &PlanJob,
     told: &KeptJob,
@@ -372,8 +392,8 @@ pub(crate) fn is_job_off(
     if ends_early(job_begun(told), job_ended(told)) {
         return Ok(true);
     }
-    if job_starts_before(alloc, all, planned.depends.as_slice(), told)? {
+    if job_starts_before(alloc, all, near, planned.depends.as_slice(), told)? {
         return Ok(true);
     }
-    job_ends_behind(alloc, all, jobs, told)
+    job_ends_behind(alloc, all, near, jobs, told)
 }

@@ -7,6 +7,7 @@ ghost use Rattle.pl_torn.specs.Plans as spec;
 ghost use Rattle.pl_torn.specs.Seen.{seen_at, AreInOrder};
 
 use crate::looking::{job_row, stage_row};
+use crate::near::Near;
 use crate::seen::Seen;
 use pl_base::{Memory, Shared};
 use pl_keeper::{KeptRun, Meta};
@@ -18,6 +19,7 @@ use std::alloc::Global;
 pub(crate) fn lacks_rows(
     alloc: Global,
     all: &[Seen<'_>],
+    near: Near,
     compiled: &Option<Shared<Compiled>>,
     told: &KeptRun,
 ) -> Result<bool, Memory>
@@ -25,7 +27,7 @@ pub(crate) fn lacks_rows(
     ensures { IfOk result (λ lacks. lacks ≡ spec.lacks_rows all.now compiled.now told.now) }
 {
     match compiled {
-        Some(compiled) => lack_stage(alloc, all, told.run, compiled.plan.stages.as_slice()),
+        Some(compiled) => lack_stage(alloc, all, near, told.run, compiled.plan.stages.as_slice()),
         None => Ok(true),
     }
 }
@@ -34,6 +36,7 @@ pub(crate) fn lacks_rows(
 fn lack_stage(
     alloc: Global,
     all: &[Seen<'_>],
+    near: Near,
     run: u64,
     stages: &[PlanStage],
 ) -> Result<bool, Memory>
@@ -41,11 +44,13 @@ fn lack_stage(
     ensures { IfOk result (λ lacks. lacks ≡ spec.lack_stage all.now run 0 stages.now) }
 {
     let mut at: u32 = 0;
+    let mut near = near;
     for stage in stages {
-        if lacks_stage(alloc, all, run, at, stage)? {
+        if lacks_stage(alloc, all, near, run, at, stage)? {
             return Ok(true);
         }
         at = next(at)?;
+        near = near.behind_jobs(stage.jobs.len());
     }
     Ok(false)
 }
@@ -54,6 +59,7 @@ fn lack_stage(
 fn lacks_stage(
     alloc: Global,
     all: &[Seen<'_>],
+    near: Near,
     run: u64,
     at: u32,
     stage: &PlanStage,
@@ -62,16 +68,17 @@ fn lacks_stage(
     ensures { IfOk result (λ lacks. lacks ≡ (is_none (seen_at (stage_place run at) all.now) ||
         spec.lack_job all.now run at 0 stage.now.jobs)) }
 {
-    if stage_row(alloc, all, run, at)?.is_none() {
+    if stage_row(alloc, all, near, run, at)?.is_none() {
         return Ok(true);
     }
-    lack_job(alloc, all, run, at, stage.jobs.as_slice())
+    lack_job(alloc, all, near, run, at, stage.jobs.as_slice())
 }
 
 /// Whether a job of a stage has no row.
 fn lack_job(
     alloc: Global,
     all: &[Seen<'_>],
+    near: Near,
     run: u64,
     stage: u32,
     jobs: &[PlanJob],
@@ -81,7 +88,7 @@ fn lack_job(
 {
     let mut at: u32 = 0;
     for _job in jobs {
-        if lacks_job(alloc, all, run, stage, at)? {
+        if lacks_job(alloc, all, near, run, stage, at)? {
             return Ok(true);
         }
         at = next(at)?;
@@ -90,11 +97,18 @@ fn lack_job(
 }
 
 /// Whether a job at a place of a stage has no row.
-fn lacks_job(alloc: Global, all: &[Seen<'_>], run: u64, stage: u32, at: u32) -> Result<bool, Memory>
+fn lacks_job(
+    alloc: Global,
+    all: &[Seen<'_>],
+    near: Near,
+    run: u64,
+    stage: u32,
+    at: u32,
+) -> Result<bool, Memory>
     requires order { AreInOrder all.now }
     ensures { IfOk result (λ lacks. lacks ≡ is_none (seen_at (job_place run stage at) all.now)) }
 {
-    let row = job_row(alloc, all, run, stage, at)?;
+    let row = job_row(alloc, all, near, run, stage, at)?;
     Ok(row.is_none())
 }
 

@@ -1,10 +1,10 @@
 //! Rows with what was read in them, by their places.
 
-ghost use Rattle.std.specs.Prelude.{◌≡◌, [], slice_get};
-ghost use Rattle.std.specs.Option.{option_and_then, option_copied};
+ghost use Rattle.std.specs.Prelude.{◌≡◌, [], false, slice_get, IsTrue};
+ghost use Rattle.std.specs.Option.{option_and_then, option_copied, option_map_or};
 ghost use Rattle.pl_changes.specs.Differing.{stands_at};
 ghost use Rattle.pl_keeper.specs.Keeping.{place, place_cmp};
-ghost use Rattle.pl_torn.specs.Finding.{if_there, IsCut};
+ghost use Rattle.pl_torn.specs.Finding.{if_there, is_before, IsCut};
 ghost use Rattle.pl_torn.specs.Seen as spec;
 
 use pl_base::{Row, Shared};
@@ -36,11 +36,42 @@ pub(crate) fn stands_at(row: &Row, table: u8, key: &[u8]) -> bool
     order_to(row, table, key).is_eq()
 }
 
-/// How many rows come before a place.
-fn count_before(all: &[Seen<'_>], table: u8, key: &[u8]) -> usize
+/// Whether the row of a number comes before a place; behind the last one none does.
+fn comes_before(all: &[Seen<'_>], at: usize, table: u8, key: &[u8]) -> bool
+    ensures { result ≡ option_map_or (is_before (table, key.now)) (slice_get all.now at) false }
+{
+    match all.get(at) {
+        Some(one) => order_to(one.row, table, key).is_lt(),
+        None => false,
+    }
+}
+
+/// Whether so many rows come before a place: the last of them does, and the row behind them
+/// doesn't.
+fn is_cut(all: &[Seen<'_>], count: usize, table: u8, key: &[u8]) -> bool
+    requires order { spec.AreInOrder all.now }
+    ensures { IsTrue result → IsCut (table, key.now) all.now count }
+{
+    if count > all.len() {
+        return false;
+    }
+    if comes_before(all, count, table, key) {
+        return false;
+    }
+    if count == 0 {
+        return true;
+    }
+    comes_before(all, count - 1, table, key)
+}
+
+/// How many rows come before a place. If it is this number, two looks tell it.
+fn count_before(all: &[Seen<'_>], near: usize, table: u8, key: &[u8]) -> usize
     requires order { spec.AreInOrder all.now }
     ensures { IsCut (table, key.now) all.now result }
 {
+    if is_cut(all, near, table, key) {
+        return near;
+    }
     all.partition_point(|one| order_to(one.row, table, key).is_lt())
 }
 
@@ -55,13 +86,18 @@ fn if_there<'s, 'r>(found: Option<&'s Seen<'r>>, table: u8, key: &[u8]) -> Optio
     }
 }
 
-/// The row that stands at a place, with what was read in it. As many steps find it as there are
-/// halves of halves of the rows.
-pub(crate) fn seen_at<'s, 'r>(all: &'s [Seen<'r>], table: u8, key: &[u8]) -> Option<&'s Seen<'r>>
+/// The row that stands at a place, with what was read in it. Where it has this number, two looks
+/// find it, and else as many steps as there are halves of halves of the rows.
+pub(crate) fn seen_at<'s, 'r>(
+    all: &'s [Seen<'r>],
+    near: usize,
+    table: u8,
+    key: &[u8],
+) -> Option<&'s Seen<'r>>
     requires order { spec.AreInOrder all.now }
     ensures { option_copied result ≡ spec.seen_at (table, key.now) all.now }
 {
-    let found = row_of(all, count_before(all, table, key));
+    let found = row_of(all, count_before(all, near, table, key));
     if_there(found, table, key)
 }
 
