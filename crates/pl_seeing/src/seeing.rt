@@ -1,7 +1,7 @@
 ghost use Rattle.std.specs.Prelude.{IfOk};
 ghost use Rattle.pl_seeing.specs.Seeing.{AreSeen};
 
-use crate::sharing::made_by;
+use crate::sharing::{Made, made_by};
 use pl_base::{Memory, Row};
 use pl_read::read_row;
 use pl_torn::Seen;
@@ -15,7 +15,7 @@ pub fn seen_rows<'r>(alloc: Global, rows: &'r [Row]) -> Result<Vec<Seen<'r>>, Me
     ensures { IfOk result (λ all. AreSeen rows.now all.items) }
 {
     let mut all = Vec::with_capacity(alloc, rows.len())?;
-    let mut made = Vec::new(alloc);
+    let mut made = Made::new(alloc);
     for row in rows {
         let kept = read_row(alloc, row)?;
         let compiled = made_by(alloc, &mut made, &kept)?;

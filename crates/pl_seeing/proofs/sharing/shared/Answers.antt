@@ -10,13 +10,13 @@ returns-in-Ok-clause-made c =
     let sources = sources_of c.args.told.now in
     let kept = c.index.result.now in
     let at = c.in-Ok.at in
-    let within : at < length c.args.made.now.items =
+    let within : at < length c.args.made.now.all.items =
     subst (λ (made : List Compiled). at < length made) c.as_slice.ensures.value
     c.in-Ok.ensures.within in
-    let found : HoldsAt (λ (one : Compiled). one.sources ≡ sources) c.args.made.now.items at =
+    let found : HoldsAt (λ (one : Compiled). one.sources ≡ sources) c.args.made.now.all.items at =
     subst (λ (made : List Compiled). HoldsAt (λ (one : Compiled). one.sources ≡ sources) made at)
     c.as_slice.ensures.value c.in-Ok.ensures.found in
-    found_own sources (get_or c.args.made.now.items at kept) kept c.in_ok-copy-in-Ok.field-0
+    found_own sources (get_or c.args.made.now.all.items at kept) kept c.in_ok-copy-in-Ok.field-0
     (c.requires.own at kept within) (found kept) c.index.ensures c.in_ok-copy-in-Ok.ensures
 
 pub returns-in_err-insert-clause-own : goal.returns-in_err-insert-clause-own
