@@ -1,0 +1,4 @@
+pub mod Behind
+pub mod ByRuns
+pub mod Due
+pub mod Same

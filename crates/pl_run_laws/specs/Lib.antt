@@ -1,0 +1,4 @@
+pub mod ByRuns
+pub mod Kinds
+pub mod Runs
+pub mod Uses
