@@ -1,0 +1,10 @@
+pub mod Among
+pub mod Closed
+pub mod Finding
+pub mod Lasting
+pub mod Moved
+pub mod OneRun
+pub mod Telling
+pub mod Together
+pub mod Until
+pub mod Untouched

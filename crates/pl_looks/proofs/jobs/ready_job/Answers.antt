@@ -1,0 +1,21 @@
+use Rattle.std.proofs.Common.{◌≡◌, None, Option, Some, sym, ◌∙◌}
+use Rattle.std.specs.Prelude.{if◌then◌else◌}
+use Rattle.std.specs.Option.{option_and_then}
+use Rattle.pl_due.specs.Asked.{facts_of}
+use Rattle.pl_due.specs.Nodes.{awaits_agent}
+use Rattle.pl_facts.specs.Below.pl_plan.specs.declared.plan.PlanJob.{PlanJob}
+use Rattle.pl_looks.proofs.Finding.{if_all}
+use Rattle.pl_looks.proofs.Telling.{ready_is, ready_none}
+use Rattle.pl_looks.proofs.jobs.ready_job.Goals as goal
+
+pub returns-in-Some : goal.returns-in-Some
+returns-in-Some c =
+    let at = c.args.at.now in
+    if_all _ _ c.ready_if.result (λ told is. is ∙ sym (ready_is (facts_of at) at.planned.now at.run
+    at.stage c.args.job c.in-Some.planned.now (sym c.in-Some.ensures.value))) c.ready_if.ensures
+
+pub returns-in-None : goal.returns-in-None
+returns-in-None c =
+    let at = c.args.at.now in
+    sym (ready_none (facts_of at) at.planned.now at.run at.stage c.args.job
+    (sym c.in-None.ensures.value))
