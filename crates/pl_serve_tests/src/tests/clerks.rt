@@ -133,7 +133,7 @@ fn a_queue_heeds_what_was_put_while_it_was_compiled(rt: HostRuntime) -> Result<(
     let third = hall.split(&rt, &mut first)?;
     assert_eq!(rt;
         asked(alloc, hall.clerk(&rt, third, Free), [PUT, SET])?,
-        [201, 201]
+        [200, 200]
     );
     let (beside, queued) = by_two_clerks(&rt, alloc, &hall, first, second);
     assert_eq!(rt; queued?, [422, 204]);
