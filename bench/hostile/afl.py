@@ -2,14 +2,16 @@
 """Usage: bench/hostile/afl.py PROGRAM COMMAND SECONDS FOLDER [EACH]
 Lets AFL++ (Debian's `afl++`) seek inputs of `PROGRAM compile` or `PROGRAM replay` for so many seconds by the clock. It begins with the
 small bundles or sessions of tools/fuzz, or where EACH is said with each so many-th of them, and has the words of
-bench/hostile/fuzz.words and mutate.py as its dictionary. FOLDER, which must be new, gets the beginnings and what AFL++ finds.
+bench/hostile/fuzz.words and mutate.py as its dictionary. FOLDER, which must be new, gets the beginnings and what AFL++ finds. Where
+SECONDS is 0, FOLDER has what was found before, and that alone is run, by any program.
 
 PROGRAM is one that tells AFL++ where it goes, as a build of the same text by clang with `-fsanitize-coverage=trace-pc-guard` does,
 which is linked with AFL++'s afl-compiler-rt.o. Where it is another one, AFL++ works blindly (`-n`).
 
-A failure is an end by a signal, and of `replay` status 6. Behind that each input that was kept, because it went a new way or was
-late, is run alone once more: more than two seconds of processor time, more than 512 MB, or a status that the command doesn't have are
-failures too. Prints how many inputs were run and kept, and the most time and memory. The status is 1 where there was a failure, else 0."""
+A failure is an end by a signal, which more than two seconds of processor time and more than 512 MB are too (over.c, preloaded; it
+wants `cc`), and of `replay` status 6. Behind that each input that was kept, because it went a new way or failed, is run alone once
+more, where a status that the command doesn't have is a failure too. Prints how many inputs were run and kept, and the most time and
+memory. The status is 1 where there was a failure, else 0."""
 import glob
 import importlib.machinery
 import importlib.util
@@ -72,6 +74,7 @@ def sought(program, command, seconds, folder):
     """Runs AFL++, and returns what it tells at its end."""
     env = dict(os.environ, AFL_SKIP_CPUFREQ="1", AFL_NO_AFFINITY="1", AFL_NO_UI="1", AFL_I_DONT_CARE_ABOUT_MISSING_CRASHES="1")
     env["AFL_HANG_TMOUT"], env["AFL_MAP_SIZE"] = "20000", "262144"
+    env["AFL_PRELOAD"], env["SECONDS"], env["MEGABYTES"] = f"{folder}/over.so", str(int(FUZZ.SECONDS)), str(FUZZ.MEGABYTES)
     if command == "replay":
         env["AFL_CRASH_EXITCODE"] = "6"
     words = ["afl-fuzz", "-i", f"{folder}/in", "-o", f"{folder}/out", "-x", f"{folder}/words", "-m", "none", "-t", "20000+", "-V", seconds]
@@ -83,10 +86,8 @@ def sought(program, command, seconds, folder):
         return dict(re.findall(r"(?m)^(\w+) *: (.*)$", file.read()))
 
 
-def main(program, command, seconds, folder, each="1"):
-    program = os.path.abspath(program)
-    written(folder, command, int(each))
-    told = sought(program, command, seconds, folder)
+def judged(program, command, folder):
+    """Runs each input that was kept alone, and returns how many failed and what is said of all."""
     kept = sorted(path for part in ("queue", "hangs", "crashes") for path in glob.glob(f"{folder}/out/default/{part}/id*"))
     wrong, most, ends = 0, (0.0, 0.0), {}
     with tempfile.TemporaryDirectory() as room:
@@ -98,13 +99,23 @@ def main(program, command, seconds, folder, each="1"):
             if fault or got.seconds > FUZZ.SECONDS or got.megabytes > FUZZ.MEGABYTES:
                 wrong += 1
                 print(f"{path}: {fault or 'over'}: {got.seconds:.2f} s, {got.megabytes:.0f} MB, status {got.ending}")
-    wrong += int(told.get("saved_crashes", 0)) and not wrong
-    print(
-        f"{command}: {told['execs_done']} inputs in {told['run_time']} s, {told['corpus_count']} kept, "
-        f"{told.get('bitmap_cvg', '?')} of the edges; {told['saved_crashes']} crashes, {told['saved_hangs']} late; {wrong} failures; "
-        f"of those kept at most {most[0]:.2f} s, {most[1]:.0f} MB; " + ", ".join(f"{end}: {many}" for end, many in sorted(ends.items()))
-    )
-    return 1 if wrong else 0
+    statuses = ", ".join(f"{end}: {many}" for end, many in sorted(ends.items()))
+    return wrong, f"{len(kept)} kept ones alone: at most {most[0]:.2f} s, {most[1]:.0f} MB; {statuses}"
+
+
+def main(program, command, seconds, folder, each="1"):
+    program, folder = os.path.abspath(program), os.path.abspath(folder)
+    crashes, said = 0, ""
+    if int(seconds):
+        written(folder, command, int(each))
+        subprocess.run(["cc", "-O1", "-shared", "-fPIC", "-o", f"{folder}/over.so", f"{TOP}/bench/hostile/over.c"], check=True)
+        told = sought(program, command, seconds, folder)
+        crashes = int(told.get("saved_crashes", 0))
+        said = f"{told['execs_done']} inputs in {told['run_time']} s, {told['corpus_count']} kept, {told.get('bitmap_cvg', '?')} of the edges; "
+        said += f"{crashes} ends by a signal, {told['saved_hangs']} late; "
+    wrong, kept = judged(program, command, folder)
+    print(f"{command}: {said}{kept}; {wrong or crashes} failures")
+    return 1 if wrong or crashes else 0
 
 
 if __name__ == "__main__":
