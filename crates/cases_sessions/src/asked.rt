@@ -18,7 +18,7 @@ pub fn answer_sessions<R: Threads + Wait + Sync>(
 ) {
     answer_each(out, text, |out, question, _notes, case| match question {
         "replies" => answer_case(rt, alloc, out, case),
-        "rehearsals" => answer_rehearsal(rt, alloc, out, case),
+        "rehearsals" | "doors" => answer_command(rt, alloc, out, case),
         _ => out.line("%%% not read: ", question),
     })
 }
@@ -91,7 +91,7 @@ fn push_status(alloc: Global, out: &mut Answers, code: u8) {
 }
 
 /// Writes what a command writes that reads nothing, whose words a case is, and its status.
-fn answer_rehearsal<R: Threads + Wait + Sync>(
+fn answer_command<R: Threads + Wait + Sync>(
     rt: &R,
     alloc: Global,
     out: &mut Answers,

@@ -6,31 +6,34 @@ use pl_base::{MemSink, MemSource, Paired};
 use pl_listener::{ListenFault, Listener};
 use std::alloc::Global;
 
-/// A handle of a door that was closed before anybody came: it finds it so at once.
+/// A handle of a door through which nobody comes: each call of `accept` fails.
 #[derive(Drop)]
-pub struct ClosedDoor {
+pub struct FailingDoor {
     closed: bool,
     found_closed: bool,
     // Whether a link is out, of which nothing is told. It gives none, so none is.
     is_out: bool,
+    faults: u64,
 }
 
-impl ClosedDoor {
+impl FailingDoor {
     /// The first handle.
-    pub fn new() -> ClosedDoor
+    pub fn new() -> FailingDoor
         ensures open { result.closed ≡ false }
         ensures unfound { result.found_closed ≡ false }
         ensures out { result.is_out ≡ false }
+        ensures quiet { result.faults ≡ 0 }
     {
-        ClosedDoor {
+        FailingDoor {
             closed: false,
             found_closed: false,
             is_out: false,
+            faults: 0,
         }
     }
 }
 
-impl Listener for ClosedDoor {
+impl Listener for FailingDoor {
     type Link = Paired<MemSource, MemSink>;
 
     ghost tells = { λ door. record {
@@ -47,19 +50,24 @@ impl Listener for ClosedDoor {
       passed = None;
       closed = door.closed;
       found_closed = door.found_closed;
-      faults = 0;
+      faults = door.faults;
     } };
 
     fn accept(&mut self, _alloc: Global) -> Result<Option<Self::Link>, ListenFault> {
-        self.found_closed = true;
-        Ok(None)
+        if self.closed || self.found_closed {
+            self.found_closed = true;
+            return Ok(None);
+        }
+        self.faults = self.faults.saturating_add(1);
+        Err(ListenFault::Failed)
     }
 
-    fn share(&mut self, _alloc: Global) -> Result<ClosedDoor, ListenFault> {
-        Ok(ClosedDoor {
+    fn share(&mut self, _alloc: Global) -> Result<FailingDoor, ListenFault> {
+        Ok(FailingDoor {
             closed: self.closed,
             found_closed: self.found_closed,
             is_out: false,
+            faults: 0,
         })
     }
 
@@ -72,6 +80,6 @@ impl Listener for ClosedDoor {
     }
 
     fn faults(&self) -> u64 {
-        0
+        self.faults
     }
 }

@@ -3,7 +3,7 @@
 ghost use Rattle.std.specs.Prelude.{◌≡◌, [], None, refl};
 
 use crate::message::Moments;
-use crate::nobody::ClosedDoor;
+use crate::nobody::FailingDoor;
 use pl_base::{
     Bytes, Clock, LAST_MOMENT, List, MemSink, MemSource, Memory, Moment, Paired, Row, Text,
 };
@@ -37,7 +37,7 @@ fn moment_at(moments: &Option<Moments>, at: usize) -> Moment {
 }
 
 /// A source and a sink in memory, the moments of the clock that is asked for first, the rows at any
-/// path, for one store, and the store that was handed back. Nobody comes to its door.
+/// path, for one store, and the store that was handed back. Nobody comes to its door: that fails.
 #[derive(Drop)]
 pub struct Outside {
     pub ends: Paired<MemSource, MemSink>,
@@ -47,6 +47,7 @@ pub struct Outside {
     keeper_faults: u64,
     // How many handles of its door are out.
     handles_out: u8,
+    door_faults: u64,
 }
 
 /// A store in memory without a row.
@@ -66,7 +67,7 @@ impl Outfit for Outside {
 
     type Store = MemKeeper;
 
-    type Door = ClosedDoor;
+    type Door = FailingDoor;
 
     ghost view = { λ outfit. record {
       ends = outfit.ends;
@@ -78,7 +79,12 @@ impl Outfit for Outside {
       };
       people = None;
       stores = record { asked = None; rows = None; back = None; faults = outfit.keeper_faults };
-      doors = record { asked = None; back = None; out = outfit.handles_out; faults = 0 };
+      doors = record {
+        asked = None;
+        back = None;
+        out = outfit.handles_out;
+        faults = outfit.door_faults;
+      };
     } };
 
     ghost with_ends = { λ outfit ends. record outfit { ends = ends } };
@@ -113,19 +119,22 @@ impl Outfit for Outside {
         self.back = Some(store);
     }
 
-    fn door(&mut self, _alloc: Global, _address: &Text) -> Result<ClosedDoor, ListenFault> {
+    fn door(&mut self, _alloc: Global, _address: &Text) -> Result<FailingDoor, ListenFault> {
         self.handles_out = 1;
-        Ok(ClosedDoor::new())
+        Ok(FailingDoor::new())
     }
 
-    fn share(&mut self, alloc: Global, door: &mut ClosedDoor) -> Result<ClosedDoor, ListenFault> {
+    fn share(&mut self, alloc: Global, door: &mut FailingDoor) -> Result<FailingDoor, ListenFault> {
         let handle = door.share(alloc)?;
         self.handles_out += 1;
         Ok(handle)
     }
 
-    fn door_back(&mut self, _door: ClosedDoor) {
+    fn door_back(&mut self, door: FailingDoor) {
         self.handles_out -= 1;
+        if door.faults() > 0 {
+            self.door_faults = self.door_faults.saturating_add(1);
+        }
     }
 
     fn tell(&mut self, _line: &str) {}
@@ -135,7 +144,7 @@ impl Outfit for Outside {
     }
 
     fn door_faults(&self) -> u64 {
-        0
+        self.door_faults
     }
 }
 
@@ -157,6 +166,7 @@ pub fn outside_of(
         back: None,
         keeper_faults: 0,
         handles_out: 0,
+        door_faults: 0,
     })
 }
 
