@@ -2,8 +2,10 @@
 """Usage: bench/hostile/full.py PROGRAM
 Puts a file of 262,144 bytes 512 times at `PROGRAM serve`, over links of a hundred puts each (a link may bring 64 MiB). Of such a put
 the journal counts twice the bytes of the file and of its key, 524,318, and it may have 268,435,456: so 511 are answered with their
-versions, and the 512th is 409 `journal.full` and leaves the 511th file as it is. A put of an empty file is taken again. Says what is
-otherwise, and how much memory and processor time the service took. Status: 1 where something is otherwise, else 0."""
+versions, and the 512th is 409 `journal.full` and leaves the 511th file as it is. A put of an empty file is taken again. The service
+closes a link that has no whole message 10 seconds behind its last reply, as on a machine with much to do: then the put is asked again
+over another one, at most ten times in all. Says what is otherwise, how often that was, and how much memory and processor time the
+service took. Status: 1 where something is otherwise, else 0."""
 import hashlib
 import http.client
 import os
@@ -11,7 +13,7 @@ import re
 import subprocess
 import sys
 
-SIZE, TIMES, MOST, LINK = 262_144, 512, 268_435_456, 100
+SIZE, TIMES, MOST, LINK, AGAIN = 262_144, 512, 268_435_456, 100, 10
 KEY = len("r" + "refs/heads/m" + "/p")
 TARGET = "/files/r/refs%2Fheads%2Fm/%2Fp"
 
@@ -21,15 +23,23 @@ class Service:
         words = [program, "serve", "--admin", hashlib.sha256(b"abc").hexdigest(), "--listen", "127.0.0.1:0"]
         self.process = subprocess.Popen(words, stderr=subprocess.PIPE)
         self.port = int(self.process.stderr.readline().rsplit(b":", 1)[1])
-        self.link, self.asked = None, 0
+        self.link, self.asked, self.closed = None, 0, 0
 
     def ask(self, method, content=b""):
         if self.asked % LINK == 0:
             self.link = http.client.HTTPConnection("127.0.0.1", self.port, timeout=300)
         self.asked += 1
-        self.link.request(method, TARGET, content, {"Authorization": "Bearer abc"})
-        reply = self.link.getresponse()
-        return reply.status, reply.read()
+        while True:
+            try:
+                self.link.request(method, TARGET, content, {"Authorization": "Bearer abc"})
+                reply = self.link.getresponse()
+                return reply.status, reply.read()
+            except (http.client.HTTPException, ConnectionError):
+                if self.process.poll() is not None or self.closed == AGAIN:
+                    raise
+                # What is acted on is answered, so this wasn't.
+                self.closed += 1
+                self.link.close()
 
     def taken(self):
         """The seconds of processor time and the megabytes that it took."""
@@ -58,7 +68,8 @@ def main(program):
             print(f"reply {number}: {one[0]} {one[1][:100]}")
     seconds, megabytes = service.taken()
     service.process.kill()
-    print(f"{TIMES} puts of {SIZE:,} bytes: {wrong} otherwise; {seconds:.2f} s, {megabytes:.0f} MB")
+    closed = f"; {service.closed} links were closed before the put had come" if service.closed else ""
+    print(f"{TIMES} puts of {SIZE:,} bytes: {wrong} otherwise{closed}; {seconds:.2f} s, {megabytes:.0f} MB")
     return 1 if wrong else 0
 
 
