@@ -91,12 +91,7 @@ fn push_status(alloc: Global, out: &mut Answers, code: u8) {
 }
 
 /// Writes what a command writes that reads nothing, whose words a case is, and its status.
-fn answer_command<R: Threads + Wait + Sync>(
-    rt: &R,
-    alloc: Global,
-    out: &mut Answers,
-    case: &str,
-) {
+fn answer_command<R: Threads + Wait + Sync>(rt: &R, alloc: Global, out: &mut Answers, case: &str) {
     if answer_words(rt, alloc, out, case).is_err() {
         out.fail()
     }
