@@ -94,7 +94,7 @@ pub(crate) fn displaced<'a>(
         are_apart (option_map (λ rest. map (λ text. text.now) rest.items) found) ≡
         are_distinct same_text (map (λ text. text.now) texts.now)) }
 {
-    let room = 4 * texts.len() + 1;
+    let room = 5 * texts.len() + 1;
     let mut places: Vec<u16> = Vec::new(alloc);
     places.resize(room, 0)?;
     let mut rest = Vec::new(alloc);

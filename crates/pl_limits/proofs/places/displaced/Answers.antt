@@ -12,7 +12,7 @@ use Rattle.pl_limits.proofs.places.displaced.Goals as goal
 
 pub loop-at-init : goal.loop-at-init
 loop-at-init c =
-    let room = 4 * length c.args.texts.now + 1 in
+    let room = 5 * length c.args.texts.now + 1 in
     let now : c.resize.new.self.items ≡ replicate room 0 = grind arith in
     let none : c.new-rest.result.items ≡ [] = grind arith in
     record {
@@ -27,7 +27,7 @@ returns-then-eq c =
     let places = l.places.items in
     let texts = c.args.texts.now in
     let i = l.at in
-    let room = 4 * length c.args.texts.now + 1 in
+    let room = 5 * length c.args.texts.now + 1 in
     let d : Bor (List ℕ) = record { ref_ptr = (0, 0); now = [] } in
     let x = get_or texts i d in
     let first = c.in-Some.first in
@@ -56,7 +56,7 @@ loop-at-preserved c =
     let places = l.places.items in
     let texts = c.args.texts.now in
     let i = l.at in
-    let room = 4 * length c.args.texts.now + 1 in
+    let room = 5 * length c.args.texts.now + 1 in
     let d : Bor (List ℕ) = record { ref_ptr = (0, 0); now = [] } in
     let x = get_or texts i d in
     let new = c.match-numbered in
@@ -105,7 +105,7 @@ pub returns : goal.returns
 returns c =
     let l = c.loop-at in
     let texts = c.args.texts.now in
-    let room = 4 * length c.args.texts.now + 1 in
+    let room = 5 * length c.args.texts.now + 1 in
     let whole : take l.at texts ≡ texts = take_all l.at texts (omega (arith, l.auto.at-end, c.loop-at-test.false)) in
     apart_behind (λ text. text.now) room (map (λ text. text.now) texts) (seen texts l.places.items) l.rest.items
     (subst (λ some. ArePlaced (λ text. text.now) room (map (λ text. text.now) some) (seen texts l.places.items) l.rest.items)
