@@ -1,6 +1,7 @@
 ghost use Rattle.std.specs.Prelude.{◌≡◌, ◌||◌, ◌&&◌, true, false, not, is_some, MatchOption};
 ghost use Rattle.std.specs.Prelude.{OnErr, OnOk};
 ghost use Rattle.std.specs.BTreeMap.{get};
+ghost use Rattle.std.specs.BTreeSet.{contains};
 ghost use Rattle.pl_lines.specs.Lines.{IsFirstIn, is_one, stands};
 
 use pl_base::{ExactCopy, Memory};
@@ -45,6 +46,16 @@ impl<K: Ord + ExactCopy, P: Ord + Drop> Lines<K, P> {
             Some(line) => line.first(),
             None => None,
         }
+    }
+
+    /// A key's line, or None where none was made, so that no place stands in it.
+    pub fn line(&self, key: &K) -> Option<&BTreeSet<P>>
+        ensures { MatchOption result
+            ((place : P) → stands K.cmp P.cmp self.now.lines key.now place ≡ false)
+            (λ line. (place : P) → stands K.cmp P.cmp self.now.lines key.now place ≡
+            contains P.cmp line.now place) }
+    {
+        self.lines.get(key)
     }
 
     /// Makes room for a key's line. In the lines the same places stand, also after Memory.
