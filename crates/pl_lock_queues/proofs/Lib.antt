@@ -1,0 +1,14 @@
+pub mod Bools
+pub mod ByName
+pub mod Changed
+pub mod Copied
+pub mod Earlier
+pub mod Finding
+pub mod GivingWay
+pub mod Keys
+pub mod Marked
+pub mod Moving
+pub mod Orders
+pub mod Retained
+pub mod Starting
+pub mod Told
