@@ -1,5 +1,5 @@
 -- The jobs that are told are all that wait for an agent, or that one holds.
-use Rattle.std.proofs.Common.{◌≡◌, ◌<◌, ◌+◌, ℕ, Bool, true, List, [], ◌∷◌, ◌++◌, Option, Some, None}
+use Rattle.std.proofs.Common.{◌≡◌, ◌<◌, ◌+◌, ℕ, Bool, true, List, [], ◌∷◌, Option, Some, None}
 use Rattle.std.proofs.Common.{sym, ap, subst, ◌∙◌, arith, length, flat_map, slice_get, ⊎_elim}
 use Rattle.std.specs.List.{Contains, cons_option, filter_map, range_with_len}
 use Rattle.std.specs.Option.{option_map}

@@ -1,7 +1,7 @@
 -- Nothing is found in a run that isn't open.
 use Rattle.std.proofs.Common.{◌≡◌, ℕ, Bool, true, false, List, [], ◌∷◌, Option, Some, None, refl}
 use Rattle.std.proofs.Common.{sym, ap, subst, ◌∙◌, arith, map, filter, flat_map, length, inr, is_none}
-use Rattle.std.specs.List.{Contains, list_any, range_with_len}
+use Rattle.std.specs.List.{Contains, range_with_len}
 use Rattle.std.specs.Option.{option_map_or}
 use Rattle.std.proofs.lemmas.Bool.{false≢true}
 use Rattle.std.proofs.lemmas.List.Folds.{list_any-from_Any}
@@ -9,7 +9,6 @@ use Rattle.pl_due.proofs.Members.{here, there}
 use Rattle.pl_due.proofs.Opened.{open_run}
 use Rattle.pl_due.proofs.Standing.{running_open, waiting_open}
 use Rattle.pl_due.specs.Contention.{AreThose, Holds, InRun, IsEligible}
-use Rattle.pl_due.specs.Kinds.{Fails, IsDone, IsPassedOver, JobIsPassedOver, TimesOut}
 use Rattle.pl_due.specs.Nodes.{IsStageOf, is_running, is_waiting}
 use Rattle.pl_due.specs.Below.pl_journal.specs.Runs.{queueing, run_told, stage_end}
 use Rattle.pl_due.specs.Below.pl_journal.specs.Settings.{by}

@@ -1,15 +1,14 @@
 -- What is found in a run stays found while no job of it gets out of time and its checks say the same.
-use Rattle.std.proofs.Common.{◌≡◌, ◌≤◌, ◌<◌, ◌+◌, ◌*◌, ◌↔◌, nat_lt, nat_le, ◌&&◌, ℕ, Bool, true, false}
-use Rattle.std.proofs.Common.{List, Option, Some, None, refl, sym, subst, ◌∙◌, arith, slice_get}
+use Rattle.std.proofs.Common.{◌≡◌, ◌≤◌, ◌<◌, ◌↔◌, ℕ, true, false}
+use Rattle.std.proofs.Common.{List, Option, Some, None, refl, sym, ◌∙◌, arith, slice_get}
 use Rattle.std.specs.List.{All}
 use Rattle.std.specs.Option.{IfSome, option_map_or}
-use Rattle.pl_checks.specs.declared.view.Verdict.{Verdict}
 use Rattle.pl_due.specs.Below.pl_journal.specs.Runs.{holding}
-use Rattle.pl_due.specs.Checked.{AreVerdictsOf, all_checks}
-use Rattle.pl_due.specs.Contention.{AreThose, Holds, InRun, IsEligible}
+use Rattle.pl_due.specs.Checked.{all_checks}
+use Rattle.pl_due.specs.Contention.{AreThose, Holds, IsEligible}
 use Rattle.pl_due.specs.Kinds.{Fails, IsDone, IsPassedOver, JobIsPassedOver, TimesOut}
 use Rattle.pl_due.specs.Least.{InStage}
-use Rattle.pl_due.specs.Nodes.{IsStageOf, has_had, is_out_of_time, is_running, is_waiting}
+use Rattle.pl_due.specs.Nodes.{IsStageOf, has_had, is_out_of_time, is_waiting}
 use Rattle.pl_due.specs.Below.pl_views.specs.CheckViews.{check_view}
 use Rattle.pl_facts.specs.declared.fact.Event.{Event}
 use Rattle.pl_facts.specs.declared.fact.Fact.{Fact}

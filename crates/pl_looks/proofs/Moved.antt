@@ -1,7 +1,6 @@
 -- What is found in a run stays found where the same is due in its stages.
-use Rattle.std.proofs.Common.{◌≡◌, ◌⊎◌, ◌↔◌, ◌<◌, ℕ, suc, List, [], ◌∷◌, Option, Some, None, refl, sym}
-use Rattle.std.proofs.Common.{ap, subst, ◌∙◌, inl, inr}
-use Rattle.std.specs.List.{All, Any}
+use Rattle.std.proofs.Common.{◌≡◌, ◌↔◌, ℕ, suc, List, [], ◌∷◌, Option, Some, None, sym}
+use Rattle.std.proofs.Common.{subst, ◌∙◌, inl, inr}
 use Rattle.std.proofs.lemmas.List.Elements.{All-weaker}
 use Rattle.pl_due.specs.Contention.{AreThose, InRun, IsOne, contender_of}
 use Rattle.pl_due.specs.Least.{InStage, OfStages}
@@ -9,10 +8,9 @@ use Rattle.pl_due.specs.Nodes.{IsStageOf}
 use Rattle.pl_facts.specs.declared.fact.Event.{Event}
 use Rattle.pl_facts.specs.declared.fact.Fact.{Fact}
 use Rattle.pl_facts.specs.declared.fact.QueuedRun.{QueuedRun}
-use Rattle.pl_locks.specs.Locks.{IsAt}
 use Rattle.pl_locks.specs.declared.contender.Contender.{Contender}
 use Rattle.pl_facts.specs.Below.pl_plan.specs.declared.plan.PlanStage.{PlanStage}
-use Rattle.pl_run_laws.specs.ByRuns.{ComesBefore, FirstIn, Found, IsLeastIn, LeastIn}
+use Rattle.pl_run_laws.specs.ByRuns.{FirstIn, Found, LeastIn}
 use Rattle.pl_looks.specs.Looks.{OfRun}
 
 -- ---- what is due first

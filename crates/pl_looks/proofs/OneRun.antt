@@ -1,5 +1,5 @@
 -- What is found in the places of one run's stages.
-use Rattle.std.proofs.Common.{◌≡◌, ◌⊎◌, ◌++◌, ℕ, true, false, List, [], ◌∷◌, Option, Some, None, refl, sym}
+use Rattle.std.proofs.Common.{◌≡◌, ℕ, true, false, List, [], ◌∷◌, Option, Some, None, refl, sym}
 use Rattle.std.proofs.Common.{ap, subst, ◌∙◌, inl, inr, flat_map}
 use Rattle.std.specs.List.{All, Contains}
 use Rattle.std.specs.Option.{option_map_or}
@@ -9,18 +9,18 @@ use Rattle.pl_due.proofs.Members.{all_from}
 use Rattle.pl_due.proofs.Opened.{in_its_run, in_run, run_pairs}
 use Rattle.pl_due.proofs.Picking.{are_those}
 use Rattle.pl_due.proofs.Scanned.{least_of_all}
-use Rattle.pl_due.specs.Contention.{AreThose, Holds, InRun, IsOne}
+use Rattle.pl_due.specs.Contention.{AreThose, Holds, InRun}
 use Rattle.pl_due.specs.Least.{InStage, Least, OfStages}
 use Rattle.pl_due.specs.Nodes.{IsStageOf, is_waiting}
 use Rattle.pl_due.specs.Open.{Test, of_run, runs, waits}
-use Rattle.pl_due.specs.Scans.{FirstJob, FirstStage, IsPicked, Picked, Waits}
+use Rattle.pl_due.specs.Scans.{FirstStage, IsPicked, Picked, Waits}
 use Rattle.pl_due.specs.declared.open_stages.Place.{Place}
 use Rattle.pl_facts.specs.declared.fact.Event.{Event}
 use Rattle.pl_facts.specs.declared.fact.Fact.{Fact}
 use Rattle.pl_facts.specs.declared.fact.QueuedRun.{QueuedRun}
 use Rattle.pl_facts.specs.Below.pl_plan.specs.declared.plan.PlanStage.{PlanStage}
 use Rattle.pl_locks.specs.declared.contender.Contender.{Contender}
-use Rattle.pl_run_laws.specs.ByRuns.{IsLeastIn, LeastIn}
+use Rattle.pl_run_laws.specs.ByRuns.{LeastIn}
 use Rattle.pl_looks.specs.Looks.{OfRun}
 use Rattle.pl_looks.specs.OneRun.{HasOfRun}
 

@@ -1,6 +1,6 @@
 -- What is told of the jobs of stages, one after the other.
 use Rattle.std.proofs.Common.{◌≡◌, ◌+◌, ◌++◌, ℕ, zero, suc, List, [], ◌∷◌, Option, Some, None, refl}
-use Rattle.std.proofs.Common.{sym, ap, ◌∙◌, arith, length, slice_get}
+use Rattle.std.proofs.Common.{sym, ap, ◌∙◌, arith, slice_get}
 use Rattle.std.specs.List.{cons_option, filter_map, range_with_len}
 use Rattle.std.specs.Option.{option_and_then, option_map_or, option_to_list}
 use Rattle.std.specs.Prelude.{if◌then◌else◌}

@@ -1,7 +1,7 @@
 -- What is found in all runs.
 use Rattle.std.proofs.Common.{◌≡◌, ◌≤◌, ◌<◌, ℕ, List, Option, Some, None, refl, sym, subst, arith}
 use Rattle.std.specs.Option.{IfSome}
-use Rattle.std.specs.List.{All, Any, Contains}
+use Rattle.std.specs.List.{Any, Contains}
 use Rattle.pl_due.proofs.Members.{all_from, any_of, of_member}
 use Rattle.pl_due.specs.Contention.{AreThose, Holds, InRun, IsContention, IsEligible, IsOne, locks}
 use Rattle.pl_due.specs.Due.{IsDue}

@@ -1,21 +1,20 @@
 -- Until when several things stay.
-use Rattle.std.proofs.Common.{◌≡◌, ◌≤◌, ◌<◌, ◌+◌, ◌*◌, ◌++◌, ◌&&◌, nat_lt, nat_le, min, ℕ, Bool, true}
+use Rattle.std.proofs.Common.{◌≡◌, ◌≤◌, ◌<◌, ◌+◌, ◌*◌, ◌++◌, nat_lt, nat_le, min, ℕ, Bool, true}
 use Rattle.std.proofs.Common.{false, List, length, filter, flat_map, Option, Some, None, refl, sym, ap}
 use Rattle.std.proofs.Common.{subst, ◌∙◌, arith, get_or, take, slice_get, ⊎_elim}
 use Rattle.std.specs.List.{All}
-use Rattle.std.specs.Option.{IfSome, option_map_or}
+use Rattle.std.specs.Option.{option_map_or}
 use Rattle.std.proofs.lemmas.Bool.{cases_lt, false≢true}
 use Rattle.std.proofs.lemmas.List.Elements.{All-append, All-filter, All-weaker}
 use Rattle.std.proofs.lemmas.Option.{slice_get_within}
 use Rattle.pl_base.specs.declared.resource.ResourceKey.{ResourceKey}
 use Rattle.pl_checks.specs.declared.check.Check.{Check}
-use Rattle.pl_checks.specs.declared.view.CheckView.{CheckView}
 use Rattle.pl_due.proofs.Looping.{lists_more}
 use Rattle.pl_due.proofs.Standing.{both, first_of_two, second_of_two}
 use Rattle.pl_due.specs.Below.pl_journal.specs.Runs.{holding}
 use Rattle.pl_due.specs.Below.pl_views.specs.CheckViews.{check_view}
 use Rattle.pl_due.specs.Below.pl_views.specs.Ready.{ready_moment}
-use Rattle.pl_due.specs.Checked.{all_checks, checks_on}
+use Rattle.pl_due.specs.Checked.{checks_on}
 use Rattle.pl_due.specs.Nodes.{has_had, is_out_of_time}
 use Rattle.pl_facts.specs.declared.fact.Fact.{Fact}
 use Rattle.pl_facts.specs.declared.fact.QueuedRun.{QueuedRun}
@@ -25,7 +24,7 @@ use Rattle.pl_judgement.specs.Kinds.{by_kind, is_of}
 use Rattle.pl_judgement.specs.declared.kind.CheckKind.{CheckKind}
 use Rattle.pl_judgement.specs.declared.kind.CheckKind.TheVariants as kind
 use Rattle.pl_wakes.proofs.Staying.{before_first, before_second}
-use Rattle.pl_wakes.specs.Steady.{AreSteady, IsBefore, IsSteady, SaysSame, sooner}
+use Rattle.pl_wakes.specs.Steady.{AreSteady, IsSteady, SaysSame, sooner}
 use Rattle.pl_looks.specs.Quiet.{ChecksAreQuiet, JobIsQuiet, StaysUntil}
 
 -- ---- numbers

@@ -1,10 +1,10 @@
 -- What is found in a run stays found behind facts that leave it as it was.
-use Rattle.std.proofs.Common.{◌≡◌, ◌↔◌, ℕ, List, [], Option, Some, None, sym, map, filter, length}
-use Rattle.std.proofs.Common.{flat_map, slice_get, ◌∙◌, subst}
+use Rattle.std.proofs.Common.{◌≡◌, ◌↔◌, ℕ, List, [], Some, None, sym, map, filter, length}
+use Rattle.std.proofs.Common.{flat_map, slice_get, ◌∙◌}
 use Rattle.std.specs.Prelude.{if◌then◌else◌}
 use Rattle.std.specs.List.{filter_map, range_with_len}
 use Rattle.std.specs.Option.{option_and_then, option_map, option_map_or}
-use Rattle.pl_due.specs.Contention.{Holds, InRun, IsEligible, contender_of}
+use Rattle.pl_due.specs.Contention.{Holds, InRun, IsEligible}
 use Rattle.pl_due.specs.Kinds.{Fails, IsDone, IsPassedOver, JobIsPassedOver, TimesOut}
 use Rattle.pl_due.specs.Least.{InStage}
 use Rattle.pl_due.specs.Nodes.{IsStageOf}
@@ -20,14 +20,11 @@ use Rattle.pl_run_laws.proofs.Same.{awaits_is, holding_is, running_is}
 use Rattle.pl_run_laws.specs.ByRuns.{kinds}
 use Rattle.pl_run_laws.specs.Kinds.{IsSameBut, IsSameChecked}
 use Rattle.pl_run_laws.specs.Runs.{IsSameRun}
-use Rattle.pl_run_laws.specs.Uses.{AreSameUses}
 use Rattle.pl_looks.specs.declared.types.Look.{Look}
-use Rattle.pl_looks.specs.declared.types.ReadyJob.{ReadyJob}
-use Rattle.pl_looks.specs.declared.types.TakenJob.{TakenJob}
-use Rattle.pl_looks.specs.Jobs.{Telling, of_place, ready_job, ready_jobs, taken_job, taken_jobs}
+use Rattle.pl_looks.specs.Jobs.{Telling, ready_job, ready_jobs, taken_job, taken_jobs}
 use Rattle.pl_looks.specs.Jobs.{told_jobs}
 use Rattle.pl_looks.specs.Laws.{SameUsesOf}
-use Rattle.pl_looks.specs.Looks.{IsLook, OfRun, Stands}
+use Rattle.pl_looks.specs.Looks.{IsLook, Stands}
 use Rattle.pl_looks.proofs.Moved.{AllSameIn, SameIn, StillThose, first_moved, those_moved}
 
 module _ (run : ℕ) (old new : List Fact) (same : IsSameRun run old new)

@@ -1,5 +1,5 @@
 -- What a schedule believes of looks.
-use Rattle.std.specs.Prelude.{◌≡◌, ◌↔◌, ℕ, List, [], Contains, None}
+use Rattle.std.specs.Prelude.{◌↔◌, ℕ, List, [], Contains, None}
 use Rattle.pl_facts.specs.declared.fact.Fact.{Fact}
 use Rattle.pl_facts.specs.declared.fact.QueuedRun.{QueuedRun}
 use Rattle.pl_locks.specs.Kept.{IsOrdered}

@@ -1,5 +1,5 @@
 -- What is found in one run, and until when it stays.
-use Rattle.std.specs.Prelude.{◌≡◌, ◌≤◌, ◌<◌, ℕ, List, [], Option, Some, None, IfSome}
+use Rattle.std.specs.Prelude.{◌≡◌, ◌≤◌, ◌<◌, ℕ, List, Option, Some, None, IfSome}
 use Rattle.pl_facts.specs.declared.fact.Fact.{Fact}
 use Rattle.pl_due.specs.Contention.{AreThose, Holds, InRun, IsEligible}
 use Rattle.pl_run_laws.specs.ByRuns.{FirstIn, Found, kinds}

@@ -1,5 +1,5 @@
 -- What is looked up behind a fact about something else.
-use Rattle.std.proofs.Common.{◌≡◌, ℕ, ◌&&◌, ◌++◌, Bool, true, false, List, [], ◌∷◌, Option, Some}
+use Rattle.std.proofs.Common.{◌≡◌, ℕ, ◌&&◌, ◌++◌, Bool, true, false, List, [], ◌∷◌, Some}
 use Rattle.std.proofs.Common.{None, refl, sym, ap, cond, ◌∙◌, flat_map, not, subst}
 use Rattle.std.specs.List.{All}
 use Rattle.std.specs.Prelude.{if◌then◌else◌}
@@ -18,7 +18,7 @@ use Rattle.pl_due.specs.Below.pl_journal.specs.Runs.{decided, decision, decision
 use Rattle.pl_due.specs.Below.pl_journal.specs.Settings.{by, default_pool, resource, resource_told}
 use Rattle.pl_log.proofs.Chains.{latest_push}
 use Rattle.pl_log.proofs.Naming.{exact_key}
-use Rattle.pl_log.specs.Keys.{Job, Named, Resource, Run, Stage, resource_cmp, same_key}
+use Rattle.pl_log.specs.Keys.{Job, Named, Resource, Run, Stage, resource_cmp}
 use Rattle.pl_log.specs.Latest.{latest, latest_first}
 use Rattle.pl_run_laws.specs.Runs.{IsElsewhere, IsSameRun, run_in}
 use Rattle.pl_run_laws.specs.Uses.{AreSameUses, SetsNone}

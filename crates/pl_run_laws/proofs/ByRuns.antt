@@ -1,12 +1,12 @@
 -- The least of what is found in each run is the least of all.
 use Rattle.std.proofs.Common.{◌≡◌, ◌⊎◌, ◌<◌, ◌≤◌, ◌++◌, ℕ, suc, zero, List, [], ◌∷◌, Option, Some}
-use Rattle.std.proofs.Common.{None, map, inl, inr, refl, sym, ap, subst, ◌∙◌, arith, ⊎_elim}
+use Rattle.std.proofs.Common.{None, map, inl, inr, refl, sym, ap, subst, ◌∙◌, arith}
 use Rattle.std.proofs.lemmas.Bool.{cases_lt}
 use Rattle.pl_due.specs.Least.{FirstOf, InStage, IsLeastOf, Least, OfStages, Precedes}
 use Rattle.pl_facts.specs.declared.fact.Event.{Event}
 use Rattle.pl_facts.specs.declared.fact.Fact.{Fact}
-use Rattle.pl_run_laws.specs.ByRuns.{ComesBefore, DueBy, FirstIn, Firsts, Found, IsEarlier}
-use Rattle.pl_run_laws.specs.ByRuns.{IsLeastIn, LeastIn, LeastOfAll}
+use Rattle.pl_run_laws.specs.ByRuns.{DueBy, FirstIn, Firsts, Found, IsEarlier}
+use Rattle.pl_run_laws.specs.ByRuns.{IsLeastIn, LeastOfAll}
 
 -- what is told of something found
 abbrev number_of : Found → ℕ

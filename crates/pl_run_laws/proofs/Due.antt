@@ -1,5 +1,5 @@
 -- What is due in a run's stages behind facts that leave it as it was.
-use Rattle.std.proofs.Common.{◌≡◌, ℕ, Bool, List, None, sym, ap, subst, ◌∙◌}
+use Rattle.std.proofs.Common.{◌≡◌, ℕ, List, None, sym, ap, subst, ◌∙◌}
 use Rattle.pl_base.specs.declared.outcome.Outcome.{Outcome}
 use Rattle.pl_checks.specs.declared.check.Check.{Check}
 use Rattle.pl_checks.specs.declared.view.CheckView.{CheckView}

@@ -1,5 +1,5 @@
 -- What follows from what has happened to a run, and from the resources that a stage uses.
-use Rattle.std.proofs.Common.{◌≡◌, ℕ, ◌&&◌, ◌++◌, Bool, true, false, List, [], ◌∷◌, map, flat_map}
+use Rattle.std.proofs.Common.{◌≡◌, ℕ, ◌&&◌, ◌++◌, true, false, List, [], ◌∷◌, map, flat_map}
 use Rattle.std.proofs.Common.{filter, length}
 use Rattle.std.proofs.Common.{is_some, is_none, slice_get, sym, refl, None, unwrap_or}
 use Rattle.std.specs.Prelude.{if◌then◌else◌}

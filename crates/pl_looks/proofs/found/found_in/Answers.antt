@@ -1,4 +1,4 @@
-use Rattle.std.proofs.Common.{None, subst, sym}
+use Rattle.std.proofs.Common.{subst, sym}
 use Rattle.pl_due.specs.Kinds.{IsDone, IsPassedOver, JobIsPassedOver, TimesOut}
 use Rattle.pl_due.specs.Scans.{FirstStage}
 use Rattle.pl_run_laws.specs.ByRuns.{FirstIn, kinds}

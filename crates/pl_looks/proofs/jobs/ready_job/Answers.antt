@@ -1,9 +1,5 @@
-use Rattle.std.proofs.Common.{◌≡◌, None, Option, Some, sym, ◌∙◌}
-use Rattle.std.specs.Prelude.{if◌then◌else◌}
-use Rattle.std.specs.Option.{option_and_then}
+use Rattle.std.proofs.Common.{sym, ◌∙◌}
 use Rattle.pl_due.specs.Asked.{facts_of}
-use Rattle.pl_due.specs.Nodes.{awaits_agent}
-use Rattle.pl_facts.specs.Below.pl_plan.specs.declared.plan.PlanJob.{PlanJob}
 use Rattle.pl_looks.proofs.Finding.{if_all}
 use Rattle.pl_looks.proofs.Telling.{ready_is, ready_none}
 use Rattle.pl_looks.proofs.jobs.ready_job.Goals as goal

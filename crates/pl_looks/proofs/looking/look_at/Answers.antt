@@ -1,4 +1,4 @@
-use Rattle.std.proofs.Common.{[], ◌∷◌, ◌++◌, ap, flat_map, ◌∙◌}
+use Rattle.std.proofs.Common.{ap, flat_map, ◌∙◌}
 use Rattle.std.proofs.lemmas.List.{append-nil}
 use Rattle.pl_due.specs.Contention.{Holds}
 use Rattle.pl_due.specs.Open.{of_run, runs}
